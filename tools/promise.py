@@ -30,26 +30,30 @@ CONTRACTS = [
 ]
 # Roots of the page: the specification that words have, and the messages of a run without a failure.
 SHOWN = [parse_root("ptrun.SpecOfArgs.spec_of_args"), parse_root("ptrun.CommandSpec.messages")]
-# The sections of the page: a title, a sentence, the modules, and the definition whose lines the table counts.
+# The sections of the page: a title, a sentence, the definitions with which it begins, the modules, and the definitions
+# whose lines the table counts.
 SECTIONS = [
-    ("Bytes and lines", "", ["ptlines.Text", "ptlines.ByteOrder", "ptlines.Received", "ptlines.Slots"], ""),
-    ("Lists", "", ["ptlangs.Numbers", "ptlangs.CutLists", "ptlangs.DelimLists", "ptlangs.OutLists"], ""),
-    ("Jobs", "A job is the options of a tool as plain values.", ["ptlangs.Jobs"], ""),
-    ("cut", "", ["ptflow.ToolSpec", "ptflow.Cuts"], "ptflow.Cuts.cut_tool"),
-    ("paste", "", ["ptflow.PasteText", "ptflow.PasteCall"], "ptflow.PasteCall.paste_engine"),
-    ("uniq", "", ["ptflow.Uniqs"], "ptflow.Uniqs.uniq_tool"),
+    ("Bytes and lines", "", "", ["ptlines.Text", "ptlines.ByteOrder", "ptlines.Received", "ptlines.Slots"], ""),
+    ("Lists", "", "", ["ptlangs.Numbers", "ptlangs.CutLists", "ptlangs.DelimLists", "ptlangs.OutLists"], ""),
+    ("Jobs", "A job is the options of a tool as plain values.", "", ["ptlangs.Jobs"], ""),
+    ("cut", "", "ptflow.Cuts.cut", ["ptflow.ToolSpec", "ptflow.Cuts"], "ptflow.Cuts.cut_tool"),
+    ("paste", "", "ptflow.Laws.Outputs.paste_output ptflow.PasteText.paste ptflow.PasteText.paste_serial",
+     ["ptflow.PasteText", "ptflow.PasteCall"],
+     "ptflow.PasteCall.paste_engine ptflow.PasteText.paste_serial_tool"),
+    ("uniq", "", "ptflow.Uniqs.uniq", ["ptflow.Uniqs"], "ptflow.Uniqs.uniq_tool"),
     ("tr", "First what it does to a text; then its strings, from characters to the plan that two of them make.",
-     ["ptflow.TrOutput", "ptlangs.TrTables", "ptlangs.TrChars", "ptlangs.TrClasses", "ptlangs.TrElements",
-      "ptlangs.TrPlan"], "ptflow.TrOutput.tr_tool ptlangs.TrTables.tables ptlangs.TrPlan.plan"),
-    ("Merges", "`comm` and `join` are merges.", ["ptmerge.Orders", "ptmerge.Sides", "ptmerge.MergeSpec"], ""),
-    ("comm", "", ["ptmerge.Comm"], "ptmerge.Comm.comm_tool ptmerge.MergeCall.merge_engine"),
-    ("join", "", ["ptmerge.Join"], "ptmerge.Join.join_tool ptmerge.MergeCall.merge_engine"),
-    ("Words", "From the words of a command line to a job, its inputs and its output, or to the first fault.",
+     "ptflow.TrOutput.tr ptflow.TrOutput.translation ptlangs.TrPlan.byte_map ptlangs.TrPlan.Plan",
+     ["ptflow.TrOutput", "ptlangs.TrChars", "ptlangs.TrClasses", "ptlangs.TrElements", "ptlangs.TrPlan"],
+     "ptflow.TrOutput.tr_tool ptlangs.TrPlan.byte_map ptlangs.TrPlan.plan"),
+    ("Merges", "`comm` and `join` are merges.", "ptmerge.MergeSpec.merged", ["ptmerge.Orders", "ptmerge.MergeSpec"], ""),
+    ("comm", "", "ptmerge.Comm.comm_output", ["ptmerge.Comm"], "ptmerge.Comm.comm_engine"),
+    ("join", "", "ptmerge.Join.join_output", ["ptmerge.Join"], "ptmerge.Join.join_engine"),
+    ("Words", "From the words of a command line to a job, its inputs and its output, or to the first fault.", "",
      ["ptopts.Syntax", "ptopts.Args", "ptopts.Faults", "ptopts.Commands"], "ptopts.Commands.command_of_args"),
-    ("Messages", "", ["ptrun.MessageWrites", "ptrun.Messages"], "ptrun.Messages.usage_message"),
-    ("A run", "From a job and the bytes of its inputs to the output, the messages and the status.",
-     ["ptrun.Files", "ptrun.CommandSpec", "ptlines.Engines", "ptflow.Passes", "ptmerge.MergeCall", "ptrun.Engines",
-      "ptrun.Operands", "ptrun.Joint", "ptrun.Tools", "ptrun.SpecOfArgs"], "ptrun.SpecOfArgs.spec_of_args"),
+    ("Messages", "", "", ["ptrun.MessageWrites", "ptrun.Messages"], "ptrun.Messages.usage_message"),
+    ("A run", "From a job and the bytes of its inputs to the output, the messages and the status.", "",
+     ["ptrun.Files", "ptrun.CommandSpec", "ptlines.Engines", "ptflow.Passes", "ptrun.Engines", "ptrun.Operands",
+      "ptrun.Joint", "ptrun.Tools", "ptrun.SpecOfArgs"], "ptrun.SpecOfArgs.spec_of_args"),
 ]
 INTRODUCTION = """\
 # The promise
@@ -59,7 +63,8 @@ bytes of its inputs give the output, the messages, the exit status, what is deci
 bounds of memory. `ptrun::run` and the program are proved to do what they say; [PROVED.md](PROVED.md) has the contracts.
 `make docs` writes this page from crates/*/specs, word for word, but for `abbrev`, `pub`, imports and line breaks. A type
 of the code is listed by its variants. What is not defined here is of the toolchain's library: operations on lists,
-options and numbers, as `flat_map` or `slice_split`.
+options and numbers, as `flat_map` or `slice_split`. The section of a tool begins with its output, as a function of its
+job and of the bytes of its inputs.
 
 **In words.** The **terminator** ends a line: newline, or byte 0 with `-z`. What was **received** of an input is the bytes
 that were read of it, and whether its end was reached. An input is **consistent** with that if it begins so, and equals it
@@ -138,13 +143,17 @@ def make_anchor(title):
     return title.lower().replace(" ", "-")
 
 
-def format_section(specs, needed, declared, title, sentence, modules):
+def format_section(specs, needed, declared, title, sentence, begins, modules):
     """The text of a section of the page."""
     lines = [f"## {title}", *([sentence] if sentence else []), "```"]
+    first = [specs.read_module(path).named[name] for path, name in map(parse_root, begins.split())]
+    for definition in first:
+        lines += format_definition(definition)
     lines += [format_variants(declared[name]) for name in declared]
     for module in modules:
         for definition in needed.pop(f"Rattle.{module.replace('.', '.specs.', 1)}", []):
-            lines += format_definition(definition)
+            if not any(definition is other for other in first):
+                lines += format_definition(definition)
     return "\n".join([*lines, "```", ""])
 
 
@@ -155,7 +164,7 @@ def make_page():
     total = sum(count_lines(definitions) for definitions in needed.values())
     count = sum(map(len, needed.values()))
     rows, texts, told = ["| Part | Its lines | It rests on |", "|---|---|---|"], [], set()
-    for title, sentence, modules, roots in SECTIONS:
+    for title, sentence, begins, modules, roots in SECTIONS:
         paths = [f"Rattle.{module.replace('.', '.specs.', 1)}" for module in modules]
         used = {target for path in paths for definition in needed.get(path, [])
                 for _, (target, _) in specs.find_uses(path, definition) if is_of_code(target)}
@@ -163,7 +172,7 @@ def make_page():
         told |= set(declared)
         own = sum(count_lines(needed.get(path, [])) for path in paths)
         rows.append(f"| [{title}](#{make_anchor(title)}) | {own} | {count_below(specs, roots) if roots else ''} |")
-        texts.append(format_section(specs, needed, declared, title, sentence, modules))
+        texts.append(format_section(specs, needed, declared, title, sentence, begins, modules))
     if needed:
         raise Failed(f"no section of tools/promise.py has {', '.join(needed)}")
     rows.append(f"| All {count} definitions | {total} | |")

@@ -5,7 +5,7 @@ SHORT = {10: "\\n", 9: "\\t", 13: "\\r", 92: "\\\\", 34: '\\"'}
 EVALUATES = "unfolding lib.Utf8.encode digits all_bytes\n"
 # The roots: what the harness below names.
 ROOTS = ["ptrun.SpecOfArgs.spec_of_args", "ptrun.CommandSpec.messages", "ptrun.Files.InputBytes"]
-ROOTS += ["ptrun.Files.ReceivedInputs", "ptlangs.Calls.TrShifts.stretches", "ptopts.Commands.command_of_args"]
+ROOTS += ["ptrun.Files.ReceivedInputs", "ptlangs.Calls.TrShifts.stretches_from", "ptopts.Commands.command_of_args"]
 
 
 def make_specs_path(crate, module):
@@ -19,7 +19,8 @@ use {make_specs_path("ptrun", "SpecOfArgs")}.{{spec_of_args}}
 use {make_specs_path("ptrun", "CommandSpec")}.{{CommandSpec, messages}}
 use {make_specs_path("ptopts", "Commands")}.{{Command, Job, RunTr, command_of_args}}
 use {make_specs_path("ptopts", "Faults")}.{{Fault}}
-use {make_specs_path("ptlangs", "Calls.TrShifts")}.{{stretches}}
+use {make_specs_path("ptlangs", "Calls.TrShifts")}.{{stretches_from}}
+use {make_specs_path("ptlangs", "TrClasses")}.{{all_bytes}}
 use {make_specs_path("ptrun", "Files")}.{{InputBytes, ReceivedInputs}}
 use {make_specs_path("ptlines", "Received")}.{{Received}}
 
@@ -58,7 +59,7 @@ abbrev pub decides : List (List ℕ) → List (List ℕ × Received) → List �
 decides words files = decides_with (spec_of_args words) files
 
 abbrev of_job : Job → Option ℕ
-of_job (RunTr tables) = Some (length (stretches tables))
+of_job (RunTr m) = Some (length (stretches_from 0 (map m.image all_bytes)))
 of_job _ = None
 
 abbrev of_command : Result Command Fault → Option ℕ

@@ -4,9 +4,10 @@ use Rattle.std.specs.Prelude.{codes}
 use Rattle.ptlangs.specs.Jobs.{Comm}
 use Rattle.ptlangs.specs.Private.Jobs.{default_comm}
 use Rattle.ptmerge.specs.declared.key_order.Side.TheVariants.{First, Second}
-use Rattle.ptmerge.specs.Comm.{comm_tool}
-use Rattle.ptmerge.specs.MergeSpec.{MergeDisorder, decided_output, disorder, lines_of, merge_output}
-use Rattle.ptmerge.specs.Sides.{both}
+use Rattle.ptmerge.specs.Calls.Comm.{comm_tool}
+use Rattle.ptmerge.specs.MergeSpec.{MergeDisorder}
+use Rattle.ptmerge.specs.Calls.MergeSpec.{decided_output, disorder, lines_of, merge_output}
+use Rattle.ptmerge.specs.Calls.Sides.{both}
 
 abbrev hides : Bool → Bool → Bool → Comm
 hides one two three = record default_comm { hide1 = one; hide2 = two; hide3 = three }

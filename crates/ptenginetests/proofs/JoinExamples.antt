@@ -6,9 +6,11 @@ use Rattle.ptlangs.specs.Jobs.{Join}
 use Rattle.ptlangs.specs.Calls.Jobs.{default_join}
 use Rattle.ptlines.specs.Text.{lines}
 use Rattle.ptmerge.specs.declared.key_order.Side.TheVariants.{First, Second}
-use Rattle.ptmerge.specs.Join.{join_fields, join_tool}
-use Rattle.ptmerge.specs.MergeSpec.{MergeDisorder, decided_output, disorder, lines_of, merge_output}
-use Rattle.ptmerge.specs.Sides.{both}
+use Rattle.ptmerge.specs.Join.{join_fields}
+use Rattle.ptmerge.specs.Calls.Join.{join_tool}
+use Rattle.ptmerge.specs.MergeSpec.{MergeDisorder}
+use Rattle.ptmerge.specs.Calls.MergeSpec.{decided_output, disorder, lines_of, merge_output}
+use Rattle.ptmerge.specs.Calls.Sides.{both}
 use Rattle.ptlangs.specs.declared.outlist.File.TheVariants as files
 use Rattle.ptlangs.specs.declared.outlist.OutField.TheVariants as items
 

@@ -15,11 +15,12 @@ use Rattle.ptlines.specs.Laws.Text.{AreLines}
 use Rattle.ptlines.proofs.TextLaws.{complete_lines_of_unlines}
 use Rattle.ptlangs.specs.Private.Jobs.{default_comm}
 use Rattle.ptmerge.specs.declared.key_order.Side.TheVariants.{First}
-use Rattle.ptmerge.specs.Comm.{comm_tool}
-use Rattle.ptmerge.specs.MergeSpec.{Lines, decided_output, decided_entries, disorder}
+use Rattle.ptmerge.specs.Calls.Comm.{comm_tool}
+use Rattle.ptmerge.specs.MergeSpec.{Lines}
+use Rattle.ptmerge.specs.Calls.MergeSpec.{decided_output, decided_entries, disorder}
 use Rattle.ptmerge.specs.Calls.MergeSpec.{lines_decide_disorder}
 use Rattle.ptmerge.specs.Calls.MergeSpec.{disorder_is_decided}
-use Rattle.ptmerge.specs.Sides.{both}
+use Rattle.ptmerge.specs.Calls.Sides.{both}
 use Rattle.ptmerge.specs.Calls.Sides.{with_side}
 
 -- Of two prefixes of the same bytes, the longer one begins with the shorter one.

@@ -6,18 +6,20 @@ use Rattle.ptlangs.specs.Private.Jobs.{default_comm}
 use Rattle.ptlangs.specs.Calls.Jobs.{default_join}
 use Rattle.ptlangs.specs.TrClasses.{all_bytes}
 use Rattle.ptlangs.specs.TrPlan.{Plan, plan_of, complement_of}
-use Rattle.ptlangs.specs.TrTables.{tables}
+use Rattle.ptlangs.specs.TrPlan.{byte_map}
 use Rattle.ptlangs.specs.declared.tr.plan.Form.TheVariants.{Translate, TranslateSqueeze, Delete}
 use Rattle.ptlangs.specs.declared.jobs.Show.TheVariants as show
 use Rattle.ptlangs.specs.declared.jobs.Show.{Show}
 use Rattle.ptflow.specs.Cuts.{cut}
-use Rattle.ptflow.specs.PasteText.{rows_text}
+use Rattle.ptflow.specs.PasteText.{paste, rows_text}
 use Rattle.ptflow.specs.TrOutput.{tr}
 use Rattle.ptflow.specs.Uniqs.{uniq}
-use Rattle.ptmerge.specs.Comm.{comm_tool}
-use Rattle.ptmerge.specs.Join.{join_tool}
-use Rattle.ptmerge.specs.MergeSpec.{Lines, merged_entries}
-use Rattle.ptmerge.specs.Sides.{both}
+use Rattle.ptmerge.specs.Calls.Comm.{comm_tool}
+use Rattle.ptmerge.specs.Comm.{comm_output}
+use Rattle.ptmerge.specs.Calls.Join.{join_tool}
+use Rattle.ptmerge.specs.MergeSpec.{Lines}
+use Rattle.ptmerge.specs.Calls.MergeSpec.{merged_entries}
+use Rattle.ptmerge.specs.Calls.Sides.{both}
 use Rattle.ptmerge.specs.Laws.Outputs.{columns}
 
 -- ---- cut
@@ -47,6 +49,11 @@ second_column = refl
 second_of_split_field : second_of (codes "a,x" ∷ codes "b" ∷ []) ≡ codes "x\n"
 second_of_split_field = refl
 
+-- A file that is named twice gives its lines to the two columns in turn.
+pasted_twice : paste (record { serial = false; delimiters = Some 44 ∷ []; terminator = 10 }) (1 ∷ 1 ∷ [])
+    (λ input. codes "a\nb\n") ≡ codes "a,b\n"
+pasted_twice = refl
+
 -- ---- uniq
 
 abbrev plain : Show → Uniq
@@ -73,18 +80,18 @@ counted_twice = refl
 abbrev a_to_b : Plan
 a_to_b = plan_of Translate (codes "a") (codes "b")
 
-translated : tr (tables a_to_b) (codes "aa") ≡ codes "bb"
+translated : tr (byte_map a_to_b) (codes "aa") ≡ codes "bb"
 unfolding all_bytes
 translated = refl
 
 -- With `-s` the number of bytes is not kept.
-translated_and_squeezed : tr (tables (plan_of TranslateSqueeze (codes "a") (codes "b"))) (codes "aa") ≡ codes "b"
+translated_and_squeezed : tr (byte_map (plan_of TranslateSqueeze (codes "a") (codes "b"))) (codes "aa") ≡ codes "b"
 unfolding all_bytes
 translated_and_squeezed = refl
 
 -- `tr -d` and `tr -cd` keep the order of the bytes, so their outputs are in general not the text, one after the other.
-deleted : tr (tables (plan_of Delete (codes "b") [])) (codes "abc") ++ tr
-    (tables (plan_of Delete (complement_of (codes "b")) []))
+deleted : tr (byte_map (plan_of Delete (codes "b") [])) (codes "abc") ++ tr
+    (byte_map (plan_of Delete (complement_of (codes "b")) []))
     (codes "abc") ≡ codes "acb"
 unfolding all_bytes
 deleted = refl
@@ -116,6 +123,10 @@ not_swapped = refl
 swapped_with_tab : compared (columns default_comm false false true) (codes "b" ∷ []) (codes "a" ∷ []) ≡ codes "\ta" ∷
     codes "b" ∷ []
 swapped_with_tab = refl
+
+-- Of lines out of order not each distinct line is written.
+sorted_only : comm_output default_comm (codes "b\na\n") (codes "a\n") ≡ codes "\ta\nb\n"
+sorted_only = refl
 
 abbrev joined : Join → Lines → Lines → ℕ
 joined job a b = length (merged_entries (join_tool job) (both a b))

@@ -13,11 +13,12 @@ use Rattle.ptlangs.specs.Private.Jobs.{default_comm}
 use Rattle.ptlangs.specs.Calls.Jobs.{default_join}
 use Rattle.ptmerge.specs.declared.key_order.Side.{Side}
 use Rattle.ptmerge.specs.declared.key_order.Side.TheVariants.{First, Second}
-use Rattle.ptmerge.specs.Comm.{comm_tool}
-use Rattle.ptmerge.specs.Join.{join_tool}
-use Rattle.ptmerge.specs.MergeSpec.{Lines, MergeTool, keys, lines_of, merge_output}
+use Rattle.ptmerge.specs.Calls.Comm.{comm_tool}
+use Rattle.ptmerge.specs.Calls.Join.{join_tool}
+use Rattle.ptmerge.specs.MergeSpec.{Lines}
+use Rattle.ptmerge.specs.Calls.MergeSpec.{MergeTool, keys, lines_of, merge_output}
 use Rattle.ptmerge.specs.Laws.Parts.{AllKeysBelow, AreSplitByKey, AreInputsSorted, text_of_part, output_lines}
-use Rattle.ptmerge.specs.Sides.{both}
+use Rattle.ptmerge.specs.Calls.Sides.{both}
 use Rattle.ptmerge.proofs.Parts.{comm_of_keys, join_of_keys, comm_of_parts, join_of_parts}
 
 abbrev compares : MergeTool

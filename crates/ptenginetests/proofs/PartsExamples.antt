@@ -11,7 +11,8 @@ use Rattle.ptlangs.specs.CutLists.{is_selected}
 use Rattle.ptlangs.specs.Jobs.{Cut, Uniq, Paste}
 use Rattle.ptlangs.specs.TrClasses.{all_bytes}
 use Rattle.ptlangs.specs.TrPlan.{Plan, plan}
-use Rattle.ptlangs.specs.TrTables.{Tables, tables}
+use Rattle.ptlangs.specs.TrPlan.{ByteMap}
+use Rattle.ptlangs.specs.TrPlan.{byte_map}
 use Rattle.ptlangs.specs.declared.faults.SetFault.{SetFault}
 use Rattle.ptlangs.specs.declared.jobs.Show.TheVariants.{Counts}
 use Rattle.ptlangs.specs.declared.tr.plan.Form.TheVariants.{Squeeze}
@@ -57,12 +58,12 @@ not_cut_of_any_parts law = omega (arith, ap length (law (first_of false 10) (cod
 
 -- ---- tr
 
-abbrev of_plan : Result Plan SetFault → Tables
-of_plan (Ok p) = tables p
-of_plan (Err fault) = record { deleted = []; images = []; squeezed = [] }
+abbrev of_plan : Result Plan SetFault → ByteMap
+of_plan (Ok p) = byte_map p
+of_plan (Err fault) = record { deletes = λ b. false; image = λ b. b; squeezes = λ b. false }
 
 -- Repeats of these bytes are squeezed.
-abbrev squeezing : List ℕ → Tables
+abbrev squeezing : List ℕ → ByteMap
 squeezing bytes = of_plan (plan Squeeze false bytes None)
 
 tr_after_a_newline : tr (squeezing (codes "a")) (codes "ba\naab")
@@ -83,7 +84,7 @@ unfolding all_bytes
 one_is_taken_away = tr_meets_twice (squeezing (codes "a")) (byte "a") (codes "ba") (codes "ab") (codes "b") refl
     (codes "b", refl) refl
 
-not_tr_of_any_parts : ((t : Tables) (a b : List ℕ) → tr t (a ++ b) ≡ tr t a ++ tr t b) → ⊥
+not_tr_of_any_parts : ((t : ByteMap) (a b : List ℕ) → tr t (a ++ b) ≡ tr t a ++ tr t b) → ⊥
 unfolding all_bytes
 not_tr_of_any_parts law = omega (arith, ap length (law (squeezing (codes "a")) (codes "ba") (codes "ab")))
 

@@ -5,12 +5,12 @@ use Rattle.ptlangs.specs.declared.tr.plan.Form.TheVariants.{Translate, Translate
 use Rattle.ptlangs.specs.declared.tr.plan.Form.TheVariants.{DeleteSqueeze}
 use Rattle.ptlangs.specs.TrClasses.{all_bytes}
 use Rattle.ptlangs.specs.TrPlan.{Plan, plan}
-use Rattle.ptlangs.specs.TrTables.{tables}
+use Rattle.ptlangs.specs.TrPlan.{byte_map}
 use Rattle.ptflow.specs.TrOutput.{tr}
 
 -- The output of `tr` for some bytes; `None` if the strings are invalid.
 abbrev run : Result Plan SetFault → List ℕ → Option (List ℕ)
-run (Ok p) bytes = Some (tr (tables p) bytes)
+run (Ok p) bytes = Some (tr (byte_map p) bytes)
 run (Err fault) bytes = None
 
 record TrExamples : Type 0 where

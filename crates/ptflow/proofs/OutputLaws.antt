@@ -1,3 +1,4 @@
 pub mod Cuts
+pub mod Pastes
 pub mod Trs
 pub mod Uniqs

@@ -36,7 +36,8 @@ cut_line job line =
 abbrev pub cut_lines : Cut → List (List ℕ) → List ℕ
 cut_lines job ls = unlines job.terminator (flat_map (cut_line job) ls)
 
--- the output for a text
+-- The output of `cut` for a text: of each line, in order, the selected bytes or fields. A line without the delimiter has
+-- no fields: it is written as it is, or with `-s` left out (`cut_line`).
 abbrev pub cut : Cut → List ℕ → List ℕ
 cut job bytes = cut_lines job (lines job.terminator bytes)
 

@@ -22,7 +22,7 @@ join_with_cycle delims c (x ∷ y ∷ more) = x ++ delimiter delims c ++ join_wi
 
 -- ---- `paste -s`: all lines of one input in one row
 
--- The output for one input: its lines in one row.
+-- The output of `paste -s` for the text of one input: its lines in one row.
 abbrev pub paste_serial : Paste → List ℕ → List ℕ
 paste_serial job bytes = join_with_cycle job.delimiters 0 (lines job.terminator bytes) ++ job.terminator ∷ []
 
@@ -73,7 +73,8 @@ rows cols = map (row_at cols) (range_with_len 0 (row_count cols))
 abbrev pub rows_text : Paste → List (List (List ℕ)) → List ℕ
 rows_text job rs = unlines job.terminator (map (join_with_cycle job.delimiters 0) rs)
 
--- The output for the inputs `texts`, given by their indices. `cells` has the index of the input of each column.
+-- The output of `paste` without `-s`: row after row, the next line of each column. `cells` has the index of the input of
+-- each column, and `texts` the text of each input.
 abbrev pub paste : Paste → List ℕ → (ℕ → List ℕ) → List ℕ
 paste job cells texts = rows_text job (rows (columns cells (λ input. lines job.terminator (texts input))))
 

@@ -2,7 +2,7 @@
 -- then repeats squeezed.
 use Rattle.std.specs.Prelude.{ℕ, ◌==◌, ◌&&◌, List, [], ◌∷◌, Bool, not, map, filter, zip}
 use Rattle.ptlines.specs.Received.{Received}
-use Rattle.ptlangs.specs.TrTables.{Tables, deletes, image, squeezes}
+use Rattle.ptlangs.specs.TrPlan.{ByteMap}
 use Rattle.ptflow.specs.ToolSpec.{ToolSpec}
 
 -- the second byte of a pair of neighbours is kept, unless it is squeezed and equal to the first
@@ -20,17 +20,18 @@ squeeze squeezed [] = []
 squeeze squeezed (b ∷ bytes) = b ∷ squeeze_after squeezed b bytes
 
 -- the bytes that are not deleted, each replaced by its image
-abbrev pub translation : Tables → List ℕ → List ℕ
-translation tables bytes = map (image tables) (filter (λ b. not (deletes tables b)) bytes)
+abbrev pub translation : ByteMap → List ℕ → List ℕ
+translation m bytes = map m.image (filter (λ b. not (m.deletes b)) bytes)
 
--- the output for a text
-abbrev pub tr : Tables → List ℕ → List ℕ
-tr tables bytes = squeeze (squeezes tables) (translation tables bytes)
+-- The output of `tr` for a text, by what happens to each byte: the bytes that are deleted are left out, each other one
+-- is replaced by its image, and of equal neighbours that are squeezed only the first is kept.
+abbrev pub tr : ByteMap → List ℕ → List ℕ
+tr m bytes = squeeze m.squeezes (translation m bytes)
 
 -- the output that part of an input decides: the whole output for the bytes that were received
-abbrev pub tr_decided : Tables → Received → List ℕ
-tr_decided tables given = tr tables given.bytes
+abbrev pub tr_decided : ByteMap → Received → List ℕ
+tr_decided m given = tr m given.bytes
 
 -- No line is kept in a slot.
-abbrev pub tr_tool : Tables → ToolSpec
-tr_tool tables = record { text = tr tables; decided = tr_decided tables; size = λ input. 0; slots = 0; end = 10 }
+abbrev pub tr_tool : ByteMap → ToolSpec
+tr_tool m = record { text = tr m; decided = tr_decided m; size = λ input. 0; slots = 0; end = 10 }

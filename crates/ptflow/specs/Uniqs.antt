@@ -61,7 +61,8 @@ output_of_run Single run = if run.count == 1 then run.line ∷ [] else []
 abbrev pub output_of : Uniq → List Run → List ℕ
 output_of job rs = unlines job.terminator (flat_map (output_of_run job.show) rs)
 
--- the output for a text
+-- The output of `uniq` for a text: of each run of adjacent lines with equal keys, in order, the first line; by the
+-- options with the number of lines, or only of runs of one line, or of more (`output_of_run`).
 abbrev pub uniq : Uniq → List ℕ → List ℕ
 uniq job bytes = output_of job (runs job (lines job.terminator bytes))
 

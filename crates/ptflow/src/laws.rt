@@ -2,7 +2,7 @@
 //! another. Callers that work in parallel rely on them; the functions do nothing. After them theorems on the output for a
 //! whole input, by which a reader can judge the definitions.
 ghost use Rattle.ptflow.specs.Laws.Outputs.{CutOfAll, CutAfterPaste, CountsAddUp, RepeatedOrSingle, UniqTwice};
-ghost use Rattle.ptflow.specs.Laws.Outputs.{TranslationKeepsLength, DeletedOrKept};
+ghost use Rattle.ptflow.specs.Laws.Outputs.{TranslationKeepsLength, DeletedOrKept, PasteOfDifferent};
 ghost use Rattle.ptflow.specs.Laws.Parts.{CutOfParts, TrOfAnyParts, TrOfParts, TrAfterByte, TrMeetsTwice, UniqOfParts};
 ghost use Rattle.ptflow.specs.Laws.Parts.{UniqByKey, PasteOfParts};
 
@@ -52,6 +52,12 @@ pub fn uniq_by_key()
 /// This function does nothing at run time. Its contract states the theorem.
 pub fn parts_of_paste()
     ensures { PasteOfParts }
+{}
+
+/// If no input is named twice, each row that `paste` writes without `-s` has the line of each input with its number.
+/// This function does nothing at run time. Its contract states the theorem.
+pub fn paste_of_different()
+    ensures { PasteOfDifferent }
 {}
 
 /// If all bytes of a line or all its fields are selected, as by `cut -b 1-` and `cut -f 1-`, the lines are written as

@@ -19,8 +19,8 @@ mod tools;
 pub use faults::FlowFault;
 pub use laws::{
     counts_add_up, cut_after_paste, cut_of_all, deleted_or_kept, parts_of_cut, parts_of_paste,
-    parts_of_tr, parts_of_uniq, repeated_or_single, translation_keeps_length, uniq_by_key,
-    uniq_twice,
+    parts_of_tr, parts_of_uniq, paste_of_different, repeated_or_single, translation_keeps_length,
+    uniq_by_key, uniq_twice,
 };
 pub use simd::shift::translate;
 pub use tools::cut::cut;

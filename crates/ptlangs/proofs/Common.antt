@@ -17,7 +17,7 @@ pub use specs.Calls.TrParsing.{ok_map}
 pub use specs.TrPlan.{array, complement_of, first_array, image_by, in_string, is_fill, plan, plan_of, segments}
 pub use specs.TrPlan.{segments_of, sequence, string_segments}
 pub use specs.Calls.TrShifts.{prepend_shift, shift_at, shift_of, stretches_from}
-pub use specs.TrTables.{tables}
+pub use specs.Calls.TrTables.{tables}
 pub use specs.declared.faults.SetFault.{SetFault}
 pub use specs.declared.faults.SetFaultKind.{SetFaultKind}
 pub use specs.declared.ranges.Interval.{Interval}

@@ -15,17 +15,19 @@ use proofs.ListElements.{append_ok as onto}
 use specs.TrClasses.{all_bytes, class_bytes, span}
 use specs.Private.TrParsing.{class_of, classes_match, marked_members, members_from}
 use specs.TrPlan.{are_paired, class_offsets, has_byte, has_other_case_at, last_position, members, next_index_or}
-use specs.TrPlan.{padded_to, segment}
+use specs.TrPlan.{image_of, is_deleted, is_squeezed, of_bytes, padded_to, segment}
+use specs.Laws.TrTables.{TablesHaveMap}
 use specs.declared.faults.SetFaultKind.TheVariants.{ClassPlace}
 use specs.declared.tr.images.Images.{Images}
-use Rattle.std.proofs.Common.{inl, inr, min, ◌&&◌, ◌⊎◌}
+use Rattle.std.proofs.Common.{inl, inr, min, ⊎_elim, ◌&&◌, ◌⊎◌}
 use Rattle.std.proofs.Math.ListN.{get_or, set}
 use lemmas.Bool.{cases_lt, eq-eqb}
+use lemmas.Bool.Decides.{nat_tests}
 use lemmas.List.Elements.{filter-append, filter_more}
 use lemmas.List.Folds.{list_any-append, list_any_at}
 use lemmas.List.FromFn.{get_or-map-range_with_len, get_or-range_with_len, length-map-range_with_len}
 use lemmas.List.FromFn.{length-range_with_len}
-use lemmas.List.{drop-map, drop-replicate, get_or-replicate, get_or_default, length-map, length-replicate, length-set}
+use lemmas.List.{drop-map, drop-replicate, get_or-replicate, get_or_default, get_or_past, length-map, length-replicate, length-set}
 use lemmas.List.{same_lists, take-append-drop, take-map, length-append}
 use lemmas.Map.Views.{any-filter_same}
 use lemmas.Option.{slice_get-get_or, slice_get_cases, slice_get_past, slice_get_within}
@@ -275,6 +277,19 @@ table_at f i d h = get_or-map-range_with_len f 0 256 i i d h (omega arith)
 pub same_table : {X : Type 0} (xs : List X) (f : ℕ → X) (d : X) → length xs ≡ 256
     → ((i : ℕ) → i < 256 → get_or xs i d ≡ f i) → xs ≡ map f all_bytes
 same_table xs f d n h = search (rules, same_lists, length-table, get_or_default, table_at)
+
+pub lookup : {X : Type 0} (other : X) (f : ℕ → X) (b : ℕ) → get_or (map f all_bytes) b other ≡ of_bytes other f b
+lookup other f b = ⊎_elim
+    (λ low. grind (arith, nat_tests, table_at f b other low))
+    (λ high. grind (arith, nat_tests, get_or_past (map f all_bytes) b other (rw (length-table f) high)))
+    (cases_lt b 256)
+
+pub tables_have_map : TablesHaveMap
+tables_have_map plan = λ i. record {
+  deletes = λ b. lookup false (is_deleted plan) b i;
+  image = λ b. lookup 0 (image_of plan) b i;
+  squeezes = λ b. lookup false (is_squeezed plan) b i;
+}
 
 pub none_contained : replicate 256 false ≡ map (λ b. has_byte b []) all_bytes
 none_contained = same_table _ _ _ (length-replicate 256 false) (λ i h. get_or-replicate 256 i false false h)

@@ -7,3 +7,4 @@ pub mod Results
 pub mod TrParsing
 pub mod TrPlan
 pub mod TrShifts
+pub mod TrTables

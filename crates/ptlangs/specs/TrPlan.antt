@@ -2,7 +2,7 @@
 -- (POSIX.1-2017, XCU, `tr`).
 use Rattle.std.specs.Prelude.{ℕ, zero, suc, ◌+◌, ◌-◌, ◌==◌, ◌&&◌, ◌||◌, List, [], ◌∷◌, ◌++◌, Bool, true}
 use Rattle.std.specs.Prelude.{false, not, Option, Some, None, Result, Ok, Err, if◌then◌else◌, length, take, filter}
-use Rattle.std.specs.Prelude.{replicate, unwrap_or, slice_get}
+use Rattle.std.specs.Prelude.{nat_lt, replicate, unwrap_or, slice_get}
 use Rattle.std.specs.List.{flat_map, list_all, list_any, last_or}
 use Rattle.std.specs.Option.{option_and_then, option_to_list}
 use Rattle.std.specs.Result.{result_map_both}
@@ -178,6 +178,24 @@ image_of plan b = image_by plan.from plan.to b
 -- repeats of the byte are squeezed to one
 abbrev pub is_squeezed : Plan → ℕ → Bool
 is_squeezed plan b = has_byte b plan.squeezed
+
+-- what happens to each byte: is it deleted, its image, and are repeats of it squeezed to one
+pub record ByteMap : Type 0 where
+  pub deletes : ℕ → Bool
+  pub image : ℕ → ℕ
+  pub squeezes : ℕ → Bool
+
+-- a function of bytes, for any number: it is `other` for a number above 255, which is no byte
+abbrev pub of_bytes : {X : Type 0} → X → (ℕ → X) → ℕ → X
+of_bytes other f b = if nat_lt b 256 then f b else other
+
+-- the plan, byte by byte
+abbrev pub byte_map : Plan → ByteMap
+byte_map plan = record {
+  deletes = of_bytes false (is_deleted plan);
+  image = of_bytes 0 (image_of plan);
+  squeezes = of_bytes false (is_squeezed plan);
+}
 
 -- the fault, with the string in which it is
 abbrev pub in_string : {A : Type 0} → SetString → Result A SetFaultKind → Result A SetFault

@@ -1,7 +1,6 @@
--- A plan of `tr` as three tables, each with an entry for every byte.
-use Rattle.std.specs.Prelude.{ℕ, List, Bool, false, map, slice_index, slice_index_or}
-use Rattle.ptlangs.specs.TrClasses.{all_bytes}
-use Rattle.ptlangs.specs.TrPlan.{Plan, image_of, is_deleted, is_squeezed}
+-- The plan of `tr` in the code: three tables, each with an entry for every byte.
+use Rattle.std.specs.Prelude.{ℕ, List, Bool, false, slice_index, slice_index_or}
+use Rattle.ptlangs.specs.TrPlan.{ByteMap}
 
 -- for each byte: is it deleted, its image, and is it squeezed
 pub record Tables : Type 0 where
@@ -21,11 +20,6 @@ image tables b = slice_index tables.images b
 abbrev pub squeezes : Tables → ℕ → Bool
 squeezes tables b = slice_index_or tables.squeezed b false
 
--- the tables of a plan
-abbrev pub tables : Plan → Tables
-tables plan =
-    record {
-      deleted = map (is_deleted plan) all_bytes;
-      images = map (image_of plan) all_bytes;
-      squeezed = map (is_squeezed plan) all_bytes;
-    }
+-- what the tables have for each byte
+abbrev pub byte_map_of : Tables → ByteMap
+byte_map_of tables = record { deletes = deletes tables; image = image tables; squeezes = squeezes tables }

@@ -13,5 +13,6 @@ mod tr;
 
 pub use faults::{SetFault, SetFaultKind, SetString};
 pub use tr::{
-    CharPlan, Form, Shifts, elements_match_grammar, strings_need_no_memory, tables_match_plan,
+    CharPlan, Form, Shifts, elements_match_grammar, strings_need_no_memory, tables_have_map,
+    tables_match_plan,
 };

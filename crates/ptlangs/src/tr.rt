@@ -13,5 +13,5 @@ mod segments;
 mod shifts;
 
 pub use elements::elements_match_grammar;
-pub use plan::{CharPlan, Form, strings_need_no_memory, tables_match_plan};
+pub use plan::{CharPlan, Form, strings_need_no_memory, tables_have_map, tables_match_plan};
 pub use shifts::Shifts;

@@ -9,7 +9,8 @@ use proofs.MergeLemmas.{passing_now, runs_on, read_facts_current, iteration_fail
 use proofs.MergeLemmas.{place_is, wrote_and_sent, IsKeyOrder, same_bytes, Written, MergeInvariant, line_is_least_run}
 use proofs.MergeLemmas.{lag_invariant_starts, write_least_run, all_keys, at_current_line, state_by_side, IsOpenMerge}
 use proofs.MergeLemmas.{IsLineByLine}
-use Rattle.ptmerge.specs.Comm.{comm_with, entries, column_entries, tab_if_shown}
+use Rattle.ptmerge.specs.Calls.Comm.{comm_with}
+use Rattle.ptmerge.specs.Comm.{entries, column_entries, tab_if_shown}
 
 -- ---- each line adds one entry
 

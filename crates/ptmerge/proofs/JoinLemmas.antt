@@ -18,7 +18,8 @@ use proofs.MergeLemmas.{exit_is_merge_post, continues, same_bound, bounds_change
 use specs.declared.tools.join.JoinPhase.{JoinPhase}
 use specs.declared.tools.join.JoinPhase.TheVariants as phases
 use Rattle.std.proofs.lemmas.Bool.{false≢true}
-use specs.Join.{unpaired_entries1, join_with, join_entries, join_key}
+use specs.Join.{unpaired_entries1, join_entries}
+use specs.Calls.Join.{join_with, join_key}
 use specs.Private.Join.{unpaired_entry}
 use Group.*
 

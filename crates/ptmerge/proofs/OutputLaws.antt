@@ -1,3 +1,4 @@
 pub mod Keys
 pub mod Counts
 pub mod Columns
+pub mod Sorted

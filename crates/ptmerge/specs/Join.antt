@@ -1,16 +1,17 @@
--- The output of `join`, as an instance of a merge of two inputs by join fields.
-use Rattle.std.specs.Prelude.{ℕ, ◌-◌, ◌+◌, ◌*◌, ◌==◌, List, [], ◌∷◌, ◌++◌, length, map, filter, max, Option, Some, None}
-use Rattle.std.specs.Prelude.{Bool, true, false, if◌then◌else◌, slice_index_or, remove}
+-- The output of `join` (POSIX.1-2017, XCU, `join`): a merge of two inputs by join fields.
+use Rattle.std.specs.Prelude.{ℕ, ◌-◌, ◌+◌, ◌==◌, List, [], ◌∷◌, ◌++◌, length, map, filter, max, Option, Some, None}
+use Rattle.std.specs.Prelude.{Bool, true, false, if◌then◌else◌, slice_index_or, remove, option_map}
 use Rattle.std.specs.List.{flat_map, slice_split, join_with_byte}
 use Rattle.std.specs.Str.{byte}
 use Rattle.ptlangs.specs.Jobs.{Join}
 use Rattle.ptlangs.specs.declared.outlist.OutField.{OutField}
-use Rattle.ptlines.specs.ByteOrder.{Cmp}
+use Rattle.ptlines.specs.Engines.{EngineSpec}
+use Rattle.ptlines.specs.Received.{Received, known_lines}
 use Rattle.ptlines.specs.Slots.{total_bytes}
-use Rattle.ptlines.specs.Text.{is_blank, max_length}
-use Rattle.ptmerge.specs.MergeSpec.{Lines, MergeTool, lines_with_key}
+use Rattle.ptlines.specs.Text.{is_blank, lines, unlines}
+use Rattle.ptmerge.specs.MergeSpec.{Lines, MergeDisorder, disordered_line, lines_with_key, merged, merged_so_far}
+use Rattle.ptmerge.specs.MergeSpec.{reported_disorder, two_lines_of_each}
 use Rattle.ptmerge.specs.Orders.{Key, line_cmp}
-use Rattle.ptmerge.specs.Sides.{both}
 use Rattle.ptmerge.specs.declared.key_order.Side.{Side}
 use Rattle.ptmerge.specs.declared.key_order.Side.TheVariants.{First, Second}
 use Rattle.ptlangs.specs.declared.outlist.File.TheVariants as files
@@ -36,13 +37,9 @@ nth_field n fs = slice_index_or fs (n - 1) []
 abbrev pub other_fields : ℕ → Lines → Lines
 other_fields n fs = remove fs (n - 1)
 
--- The key of a line by a field number for each file: its field with this number.
-abbrev pub field_keys : Option ℕ → ℕ → ℕ → Side → Key
-field_keys separator n1 n2 side line = nth_field (both n1 n2 side) (join_fields separator line)
-
--- The join field of a line.
-abbrev pub join_key : Join → Side → Key
-join_key job = field_keys job.separator job.field1 job.field2
+-- The key of a line: its field with this number.
+abbrev pub field_key : Option ℕ → ℕ → Key
+field_key separator n line = nth_field n (join_fields separator line)
 
 -- ---- output lines
 
@@ -91,7 +88,35 @@ join_entries job k [] g2 = unpaired_entries2 job k g2
 join_entries job k (a ∷ g1) [] = unpaired_entries1 job k (a ∷ g1)
 join_entries job k (a ∷ g1) (b ∷ g2) = pair_entries job k (a ∷ g1) (b ∷ g2)
 
--- ---- the tool
+-- ---- the output
+
+-- The join field of a line of the first file.
+abbrev pub join_key1 : Join → Key
+join_key1 job = field_key job.separator job.field1
+
+-- The join field of a line of the second file.
+abbrev pub join_key2 : Join → Key
+join_key2 job = field_key job.separator job.field2
+
+-- The output of `join` for two texts: for each join field that a line of one of them has, once and in order, the output
+-- lines for the lines that have it (`join_entries`). If a text is not sorted, it ends where that shows (`merged`).
+abbrev pub join_output : Join → List ℕ → List ℕ → List ℕ
+join_output job first second =
+    unlines job.terminator (merged (line_cmp job.descending) (join_key1 job) (join_key2 job) (join_entries job)
+    (lines job.terminator first) (lines job.terminator second))
+
+-- The output that is decided by what was received of both.
+abbrev pub join_decided : Join → Received → Received → List ℕ
+join_decided job first second =
+    unlines job.terminator (merged_so_far (line_cmp job.descending) (join_key1 job) (join_key2 job) (join_entries job)
+    first.eof (known_lines job.terminator first) second.eof (known_lines job.terminator second))
+
+-- The disorder that is reported for two texts, if one of them is not sorted.
+abbrev pub join_disorder : Join → List ℕ → List ℕ → Option MergeDisorder
+join_disorder job first second = reported_disorder (line_cmp job.descending) (join_key1 job) (join_key2 job)
+    (lines job.terminator first) (lines job.terminator second)
+
+-- ---- the engine
 
 -- The maximum of a measure over the groups of lines with one key.
 abbrev pub max_over_keys : (Lines → ℕ) → Key → Lines → Lines → ℕ
@@ -106,20 +131,18 @@ max_group_bytes key ls = max_over_keys total_bytes key ls ls
 abbrev pub max_group_lines : Key → Lines → ℕ
 max_group_lines key ls = max_over_keys length key ls ls
 
--- `join` in an order `cmp` of keys. It stores at most two lines of each input and, if pairs are written, the second
--- input's lines of one key.
-abbrev pub join_with : Join → Cmp → (Side → Key) → MergeTool
-join_with job cmp key = record {
-  terminator = job.terminator;
-  cmp = cmp;
-  key = key;
-  entries = join_entries job;
-  size = λ ls. 2 * max_length (ls First) + 2 * max_length (ls Second)
-      + (if job.pairs then max_group_bytes (key Second) (ls Second) else 0);
-  slots = λ ls. 4 + (if job.pairs then max_group_lines (key Second) (ls Second) else 0);
+-- `join` as an engine. It stores at most two lines of each input and, if pairs are written, the second input's lines of
+-- one key.
+abbrev pub join_engine : Join → EngineSpec Side
+join_engine job = record {
+  text = λ texts. join_output job (texts First) (texts Second);
+  decided = λ given. join_decided job (given First) (given Second);
+  disorder = λ texts. option_map disordered_line (join_disorder job (texts First) (texts Second));
+  size = λ texts. two_lines_of_each job.terminator (texts First) (texts Second)
+      + (if job.pairs then max_group_bytes (join_key2 job) (lines job.terminator (texts Second)) else 0);
+  slots = λ texts. 4
+      + (if job.pairs then max_group_lines (join_key2 job) (lines job.terminator (texts Second)) else 0);
+  first_slots = 4;
   keeps_groups = job.pairs;
+  terminator = job.terminator;
 }
-
--- `join`: the keys are the join fields, in byte order or its reverse.
-abbrev pub join_tool : Join → MergeTool
-join_tool job = join_with job (line_cmp job.descending) (join_key job)

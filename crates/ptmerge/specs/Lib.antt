@@ -2,8 +2,6 @@ pub mod Calls
 pub mod Comm
 pub mod Join
 pub mod Laws
-pub mod MergeCall
 pub mod MergeSpec
 pub mod Orders
 pub mod Private
-pub mod Sides

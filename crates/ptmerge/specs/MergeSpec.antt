@@ -1,12 +1,11 @@
--- The model of a merge of two lists of lines by their keys: its whole output, the position of the first line that is
--- not in order, and the part of the output that does not depend on lines that are still unread.
-use Rattle.std.specs.Prelude.{ℕ, ◌+◌, ◌&&◌, ◌||◌, cond, List, [], ◌∷◌, ◌++◌, length, map, filter, Option, Some, None}
+-- A merge of two lists of lines by their keys: its output lines, the first line that is not in order, and the output
+-- lines that do not depend on lines that are still unread.
+use Rattle.std.specs.Prelude.{ℕ, ◌+◌, ◌*◌, ◌&&◌, ◌||◌, cond, List, [], ◌∷◌, ◌++◌, length, map, filter, Option, Some, None}
 use Rattle.std.specs.Prelude.{is_some, Bool, true, false, nat_lt, bytes_eq, if◌then◌else◌, unwrap_or}
 use Rattle.std.specs.List.{flat_map, last_or}
 use Rattle.std.specs.Ordering.{match_ordering, is_lt, is_gt, is_le}
 use Rattle.ptlines.specs.ByteOrder.{Cmp}
-use Rattle.ptlines.specs.Received.{Received, known_lines}
-use Rattle.ptlines.specs.Text.{lines, unlines}
+use Rattle.ptlines.specs.Text.{max_line_length}
 use Rattle.ptmerge.specs.Orders.{Key}
 use Rattle.ptmerge.specs.declared.key_order.Side.{Side}
 use Rattle.ptmerge.specs.declared.key_order.Side.TheVariants.{First, Second}
@@ -14,23 +13,6 @@ use Rattle.ptmerge.specs.declared.key_order.Side.TheVariants.{First, Second}
 -- A list of lines.
 abbrev pub Lines : Type 0
 Lines = List (List ℕ)
-
--- A tool that merges two inputs by the keys of their lines.
-pub record MergeTool : Type 0 where
-  -- the line terminator
-  pub terminator : ℕ
-  -- the order of keys
-  pub cmp : Cmp
-  -- the key of a line, for each input
-  pub key : Side → Key
-  -- the output lines for a key, given the lines with this key in the two inputs
-  pub entries : List ℕ → Lines → Lines → Lines
-  -- the most bytes of these lines that are stored at the same time
-  pub size : (Side → Lines) → ℕ
-  -- the most slots that are used for them
-  pub slots : (Side → Lines) → ℕ
-  -- whether lines of one key are kept until their output is written
-  pub keeps_groups : Bool
 
 -- ---- output by key
 
@@ -44,23 +26,19 @@ abbrev pub distinct_keys : Cmp → Lines → Lines
 distinct_keys cmp [] = []
 distinct_keys cmp (k ∷ ks) = insert_key cmp k (distinct_keys cmp ks)
 
--- The keys of the lines of both lists.
-abbrev pub keys : MergeTool → (Side → Lines) → Lines
-keys tool ls = map (tool.key First) (ls First) ++ map (tool.key Second) (ls Second)
-
 -- The lines with the key `k`, in their order.
 abbrev pub lines_with_key : Key → Lines → List ℕ → Lines
 lines_with_key key ls k = filter (λ line. bytes_eq (key line) k) ls
 
--- The output lines for one key.
-abbrev pub entries_of_key : MergeTool → (Side → Lines) → List ℕ → Lines
-entries_of_key tool ls k =
-    tool.entries k (lines_with_key (tool.key First) (ls First) k) (lines_with_key (tool.key Second) (ls Second) k)
+-- The output lines for a key, given the lines with this key in the two lists.
+abbrev pub Entries : Type 0
+Entries = List ℕ → Lines → Lines → Lines
 
--- The output lines for each distinct key that is `wanted`, in the order of the keys.
-abbrev pub entries_by_key : MergeTool → (List ℕ → Bool) → (Side → Lines) → Lines
-entries_by_key tool wanted ls =
-    flat_map (entries_of_key tool ls) (filter wanted (distinct_keys tool.cmp (keys tool ls)))
+-- The output lines for each distinct key of two lists that is `wanted`, in the order of the keys.
+abbrev pub entries_of_keys : Cmp → Key → Key → Entries → (List ℕ → Bool) → Lines → Lines → Lines
+entries_of_keys cmp key1 key2 entries wanted ls1 ls2 =
+    flat_map (λ k. entries k (lines_with_key key1 ls1 k) (lines_with_key key2 ls2 k))
+    (filter wanted (distinct_keys cmp (map key1 ls1 ++ map key2 ls2)))
 
 -- ---- lines out of order
 
@@ -105,29 +83,27 @@ abbrev pub is_up_to : Cmp → Option MergeDisorder → List ℕ → Bool
 is_up_to cmp None k = true
 is_up_to cmp (Some d) k = is_le (cmp k d.first_disorder.last_key)
 
+-- The disorder that is reported for two lists, if one of them is not sorted.
+abbrev pub reported_disorder : Cmp → Key → Key → Lines → Lines → Option MergeDisorder
+reported_disorder cmp key1 key2 ls1 ls2 = earlier_disorder cmp (first_disorder cmp key1 ls1) (first_disorder cmp key2 ls2)
+
+-- The input that is out of order, and the number of its line.
+abbrev pub disordered_line : MergeDisorder → Side × ℕ
+disordered_line d = (d.file, d.first_disorder.line)
+
 -- ---- the output
 
--- The disorder that is reported for two lists, if one of them is not sorted.
-abbrev pub disorder : MergeTool → (Side → Lines) → Option MergeDisorder
-disorder tool ls =
-    earlier_disorder tool.cmp (first_disorder tool.cmp (tool.key First) (ls First))
-    (first_disorder tool.cmp (tool.key Second) (ls Second))
+-- The output lines of a merge of two lists: for each distinct key of both, in order, the entries for the lines that have
+-- it. If a list is not in order, only for the keys up to the reported disorder.
+abbrev pub merged : Cmp → Key → Key → Entries → Lines → Lines → Lines
+merged cmp key1 key2 entries ls1 ls2 =
+    entries_of_keys cmp key1 key2 entries (is_up_to cmp (reported_disorder cmp key1 key2 ls1 ls2))
+    (sorted_prefix cmp key1 ls1) (sorted_prefix cmp key2 ls2)
 
--- The longest prefix of each list that is in order.
-abbrev pub sorted_prefixes : MergeTool → (Side → Lines) → Side → Lines
-sorted_prefixes tool ls side = sorted_prefix tool.cmp (tool.key side) (ls side)
-
--- The output lines for two lists: all lines, or those up to the last key before the reported disorder.
-abbrev pub merged_entries : MergeTool → (Side → Lines) → Lines
-merged_entries tool ls = entries_by_key tool (is_up_to tool.cmp (disorder tool ls)) (sorted_prefixes tool ls)
-
--- The lines of two texts.
-abbrev pub lines_of : MergeTool → (Side → List ℕ) → Side → Lines
-lines_of tool inputs side = lines tool.terminator (inputs side)
-
--- The output for two texts.
-abbrev pub merge_output : MergeTool → (Side → List ℕ) → List ℕ
-merge_output tool inputs = unlines tool.terminator (merged_entries tool (lines_of tool inputs))
+-- The bytes of two longest lines of each of two texts.
+abbrev pub two_lines_of_each : ℕ → List ℕ → List ℕ → ℕ
+two_lines_of_each terminator first second =
+    2 * max_line_length terminator first + 2 * max_line_length terminator second
 
 -- ---- the output that is already decided
 
@@ -143,16 +119,13 @@ is_past cmp key eof ls k =
     if eof || is_some (first_disorder cmp key ls) then true else is_below cmp k (last_or None (map key ls))
 
 -- The output for the key is decided: no further line of either input can change it.
-abbrev pub is_decided : MergeTool → (Side → Bool) → (Side → Lines) → List ℕ → Bool
-is_decided tool eof ls k =
-    is_up_to tool.cmp (disorder tool ls) k && is_past tool.cmp (tool.key First) (eof First) (ls First) k
-    && is_past tool.cmp (tool.key Second) (eof Second) (ls Second) k
+abbrev pub is_key_decided : Cmp → Key → Key → Bool → Lines → Bool → Lines → List ℕ → Bool
+is_key_decided cmp key1 key2 eof1 ls1 eof2 ls2 k =
+    is_up_to cmp (reported_disorder cmp key1 key2 ls1 ls2) k && is_past cmp key1 eof1 ls1 k
+    && is_past cmp key2 eof2 ls2 k
 
--- The output lines that are decided by the complete lines received so far.
-abbrev pub decided_entries : MergeTool → (Side → Bool) → (Side → Lines) → Lines
-decided_entries tool eof ls = entries_by_key tool (is_decided tool eof ls) (sorted_prefixes tool ls)
-
--- The output that is decided by the bytes received so far.
-abbrev pub decided_output : MergeTool → (Side → Received) → List ℕ
-decided_output tool given = unlines tool.terminator (decided_entries tool (λ side. (given side).eof)
-    (λ side. known_lines tool.terminator (given side)))
+-- The output lines that are decided by the complete lines received so far, and by which inputs have ended.
+abbrev pub merged_so_far : Cmp → Key → Key → Entries → Bool → Lines → Bool → Lines → Lines
+merged_so_far cmp key1 key2 entries eof1 ls1 eof2 ls2 =
+    entries_of_keys cmp key1 key2 entries (is_key_decided cmp key1 key2 eof1 ls1 eof2 ls2)
+    (sorted_prefix cmp key1 ls1) (sorted_prefix cmp key2 ls2)

@@ -2,7 +2,6 @@
 use Rattle.std.specs.Prelude.{ℕ, List, Bool, if◌then◌else◌}
 use Rattle.std.specs.Ordering.{flip_args}
 pub use Rattle.ptlines.specs.ByteOrder.{Cmp, byte_cmp}
-use Rattle.ptmerge.specs.declared.key_order.Side.{Side}
 
 -- The key of a line.
 abbrev pub Key : Type 0
@@ -11,7 +10,3 @@ Key = List ℕ → List ℕ
 -- Byte order or its reverse.
 abbrev pub line_cmp : Bool → Cmp
 line_cmp descending = if descending then flip_args byte_cmp else byte_cmp
-
--- Each line is its own key.
-abbrev pub whole_line : Side → Key
-whole_line side line = line

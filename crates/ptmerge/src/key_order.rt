@@ -79,7 +79,7 @@ pub struct WholeLine;
 impl KeyOrder for WholeLine {
     ghost use Rattle.std.specs.Cmp.Lexicographic.{nat_list_cmp_total};
     ghost use Rattle.ptlines.specs.ByteOrder.{byte_cmp};
-    ghost use Rattle.ptmerge.specs.Orders.{whole_line};
+    ghost use Rattle.ptmerge.specs.Calls.Sides.{whole_line};
     ghost use Rattle.ptlines.specs.Private.ByteOrder.{byte_cmp_equal};
 
     ghost key_of = { λ s. whole_line };

@@ -1,7 +1,8 @@
 //! Two laws for `comm` and for `join`, so that a caller can run them on parts of the inputs, one after another or in
 //! parallel. After them laws of their output for whole inputs, by which a reader can judge the definitions.
 
-ghost use Rattle.ptmerge.specs.Laws.Outputs.{CommOfItself, CommSharesFirst, CommSwapped, JoinCounts};
+ghost use Rattle.ptmerge.specs.Laws.Outputs.{CommIsMerge, CommOfItself, CommOfSorted, CommSharesFirst, CommSwapped};
+ghost use Rattle.ptmerge.specs.Laws.Outputs.{JoinCounts, JoinIsMerge, JoinOfSorted};
 ghost use Rattle.ptmerge.specs.Laws.Parts.{CommOfParts, JoinOfParts, CommByKey, JoinByKey};
 
 /// States that the output of `comm` is the output for a first part of each file followed by the output for the rest of
@@ -66,4 +67,30 @@ pub fn comm_swapped()
 /// The call does nothing at run time; its contract states the law.
 pub fn join_counts()
     ensures { JoinCounts }
+{}
+
+/// States the output of `comm` for two sorted texts: for each distinct line of both, in order, its columns, by how
+/// often each text has the line.
+/// The call does nothing at run time; its contract states the law.
+pub fn comm_of_sorted()
+    ensures { CommOfSorted }
+{}
+
+/// States the output of `join` for two sorted texts: for each distinct join field of both, in order, the output lines
+/// for the lines that have it.
+/// The call does nothing at run time; its contract states the law.
+pub fn join_of_sorted()
+    ensures { JoinOfSorted }
+{}
+
+/// States that the contract of `comm`, which names a merge by whole lines, is about the output of `comm`.
+/// The call does nothing at run time; its contract states the law.
+pub fn comm_is_merge()
+    ensures { CommIsMerge }
+{}
+
+/// States that the contract of `join`, which names a merge by join fields, is about the output of `join`.
+/// The call does nothing at run time; its contract states the law.
+pub fn join_is_merge()
+    ensures { JoinIsMerge }
 {}

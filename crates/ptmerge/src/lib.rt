@@ -15,8 +15,8 @@ mod tools;
 pub use faults::MergeFault;
 pub use key_order::{Descending, KeyOrder, Side, Span, WholeLine};
 pub use laws::{
-    comm_by_key, comm_of_itself, comm_shares_first, comm_swapped, join_by_key, join_counts,
-    parts_of_comm, parts_of_join,
+    comm_by_key, comm_is_merge, comm_of_itself, comm_of_sorted, comm_shares_first, comm_swapped,
+    join_by_key, join_counts, join_is_merge, join_of_sorted, parts_of_comm, parts_of_join,
 };
 pub use merging::{Merge, Step};
 pub use tools::comm::comm;

@@ -8,7 +8,7 @@ ghost use Rattle.ptlines.specs.Calls.Outputs.{PushEffect};
 ghost use Rattle.ptlines.specs.Calls.Slots.{line};
 ghost use Rattle.ptmerge.specs.Private.WriteAndAdvance.{WriteThenAdvancePost, AdvancePre};
 ghost use Rattle.ptmerge.specs.Calls.Cursor.{NextPost};
-ghost use Rattle.ptmerge.specs.Sides.{both};
+ghost use Rattle.ptmerge.specs.Calls.Sides.{both};
 ghost use Rattle.ptmerge.specs.Calls.Sides.{other};
 ghost use Rattle.ptmerge.specs.Calls.MergeSteps.{merge_inputs, AreValidCursors, IsReaderOf, StepPost, StartOkPost};
 ghost use Rattle.ptmerge.specs.Calls.MergeSteps.{StartErrPost};

@@ -10,8 +10,8 @@ use Rattle.ptlangs.specs.CutLists.{selection}
 use Rattle.ptlangs.specs.DelimLists.{delim_list}
 use Rattle.ptlangs.specs.Numbers.{number}
 use Rattle.ptlangs.specs.OutLists.{out_list}
-use Rattle.ptlangs.specs.TrPlan.{Plan}
-use Rattle.ptlangs.specs.TrTables.{Tables, tables}
+use Rattle.ptlangs.specs.TrPlan.{ByteMap, Plan, byte_map}
+use Rattle.ptlangs.specs.TrTables.{byte_map_of}
 use Rattle.ptlangs.specs.declared.jobs.Show.{Show}
 use Rattle.ptlangs.specs.declared.jobs.Show.TheVariants.{All, Counts, Repeated, Single}
 use Rattle.ptlangs.specs.declared.outlist.OutField.{OutField}
@@ -37,8 +37,8 @@ pub data Job : Type 0 where
   RunUniq : jobs.Uniq → Job
   RunComm : jobs.Comm → Job
   RunJoin : jobs.Join → Job
-  -- for each byte, what happens to it
-  RunTr : Tables → Job
+  -- what happens to each byte
+  RunTr : ByteMap → Job
 
 -- the options of a tool, with its inputs and its output
 pub record Command : Type 0 where
@@ -143,9 +143,9 @@ join_from_options os = record {
 abbrev pub identity_plan : Plan
 identity_plan = record { deleted = []; from = []; to = []; squeezed = [] }
 
--- the tables of the plan of `tr`
-abbrev pub char_tables : List ParsedOption → List (List ℕ) → Tables
-char_tables os operands = tables (result_unwrap_or (plan_of_operands os operands) identity_plan)
+-- the plan of `tr`, byte by byte
+abbrev pub char_map : List ParsedOption → List (List ℕ) → ByteMap
+char_map os operands = byte_map (result_unwrap_or (plan_of_operands os operands) identity_plan)
 
 -- the first value that fails its test
 abbrev pub values_fault : Tool → List ParsedOption → Option Fault
@@ -169,7 +169,7 @@ job Paste os operands = RunPaste (paste_from_options os)
 job Uniq os operands = RunUniq (uniq_from_options os)
 job Comm os operands = RunComm (comm_from_options os)
 job Join os operands = RunJoin (join_from_options os)
-job Tr os operands = RunTr (char_tables os operands)
+job Tr os operands = RunTr (char_map os operands)
 
 -- ---- inputs and output
 
@@ -231,7 +231,7 @@ command_view (parsed.Paste job inputs) = with_inputs (RunPaste (jobs.paste_job j
 command_view (parsed.Uniq job inputs) = with_inputs (RunUniq (jobs.uniq_job job)) inputs
 command_view (parsed.Comm job inputs) = with_inputs (RunComm (jobs.comm_job job)) inputs
 command_view (parsed.Join job inputs) = with_inputs (RunJoin (jobs.join_job job)) inputs
-command_view (parsed.Tr plan inputs) = with_inputs (RunTr plan) inputs
+command_view (parsed.Tr plan inputs) = with_inputs (RunTr (byte_map_of plan)) inputs
 
 -- ---- commands
 

@@ -34,11 +34,11 @@ pub use specs.MessageWrites.{HasSaid, line_of}
 pub use specs.Calls.MessageWrites.{SayPost, texts}
 pub use specs.Messages.{name_of, unopened_message, usage_message}
 pub use specs.Private.Messages.{usage_status}
-pub use specs.Operands.{DecidesAll, decided_in_order, position, positions, up_to_unended}
+pub use specs.Operands.{decided_in_order, position, positions, up_to_unended}
 pub use specs.Runs.{HasCause, IsRun, outcome, sinks}
 pub use specs.SpecOfArgs.{command_spec, spec_of_parsed}
 pub use specs.Tools.{OneByOne, Together, ToolInRun, spec_of_tool}
-pub use specs.Private.Tools.{reads_together}
+pub use specs.Private.Tools.{DecidesAll, DecidesAllInTurn, reads_together}
 pub use specs.declared.tool.Completion.{Completion}
 pub use specs.declared.tool.Completion.TheVariants.{AllWritten, Disorder, Unopened}
 pub use Rattle.std.proofs.Common.{Bool, Err, List, None, Ok, Option, Result, Some, [], ap, append_assoc, arith, cond}

@@ -24,8 +24,8 @@ use Rattle.ptlines.specs.Engines.{EngineSpec}
 use Rattle.ptlines.specs.Calls.Engines.{MemoryFault, NoReadFailed, OutOfOrder, ReadFault, WriteFault, inputs_at}
 use Rattle.ptlines.specs.Calls.Engines.{with_input}
 use Rattle.ptmerge.specs.Calls.MergeCall.{MergePost, both_sides, is_same_side, merge_end, merge_state}
-use Rattle.ptmerge.specs.MergeCall.{merge_engine}
-use Rattle.ptmerge.specs.Sides.{both}
+use Rattle.ptmerge.specs.Calls.MergeSpec.{merge_engine}
+use Rattle.ptmerge.specs.Calls.Sides.{both}
 use Rattle.ptmerge.specs.declared.faults.MergeFault.{MergeFault}
 use Rattle.ptmerge.specs.declared.key_order.Side.{Side}
 use specs.Private.Driver.{JointPost, JointPre, merge_completion, operand_completion, result_of_end, run_state}
@@ -37,7 +37,7 @@ use Rattle.std.proofs.lemmas.List.{get_or-set_other, get_or-set_same, set-append
 use specs.Joint.{JointTool, bytes_of, has_unopened, joint_spec, one_input_tool, operand, paste_rows_tool, received_in}
 use specs.Joint.{two_input_tool}
 use Rattle.ptmerge.specs.declared.key_order.Side.TheVariants.{First, Second}
-use Rattle.ptmerge.specs.MergeSpec.{MergeTool}
+use Rattle.ptmerge.specs.Calls.MergeSpec.{MergeTool}
 
 -- The names that are read are those of the positions in a list, one for each.
 pub record Placement {I : Type 0} (names : InputNames I) (position : I → ℕ) (positions : List ℕ) : Type 0 where
@@ -222,18 +222,18 @@ module _ {X : Type 0} {xs : List X} (front back : List X) {low high : ℕ} (spli
   pub high_first : set front low x ++ set back 0 y ≡ set (set xs high y) low x
   high_first = grind (arith, set-append_left, set-append_right front back high high y)
 
-two_of : (t : MergeTool) (positions : List ℕ) → (two_input_tool t).accepts positions ≡ true
+two_of : (engine : EngineSpec Side) (positions : List ℕ) → (two_input_tool engine).accepts positions ≡ true
     → positions ≡ operand positions First ∷ operand positions Second ∷ []
-two_of t (p ∷ q ∷ []) accepts_operands = refl
-two_of t positions accepts_operands = grind arith
+two_of engine (p ∷ q ∷ []) accepts_operands = refl
+two_of engine positions accepts_operands = grind arith
 
-module _ (t : MergeTool) {positions : List ℕ} {old : List Reader} {was : Output} {before : Slots}
-    (ready : JointPre (two_input_tool t) positions old was before) where
+module _ (engine : EngineSpec Side) {positions : List ℕ} {old : List Reader} {was : Output} {before : Slots}
+    (ready : JointPre (two_input_tool engine) positions old was before) where
   abbrev at_side : Side → ℕ
   at_side = operand positions
 
   are : positions ≡ at_side First ∷ at_side Second ∷ []
-  are = two_of t positions ready.accepts_operands
+  are = two_of engine positions ready.accepts_operands
 
   pub two_within : (at_side First < length old) × (at_side Second < length old)
   two_within = (ready.in_range 0 0 (grind (arith, are)), ready.in_range 1 0 (grind (arith, are)))
@@ -289,16 +289,17 @@ module _ (t : MergeTool) {positions : List ℕ} {old : List Reader} {was : Outpu
       others q other = grind (usual, side_named)
 
       pub merge_post : {is : Output} {store : Slots} {result : Result (Unit {0}) MergeFault}
-          {completion : Result Completion FlowFault}
+          {completion : Result Completion FlowFault} (t : MergeTool) → merge_engine t ≡ engine
           → MergePost t (merge_state a b was before) (merge_state x y is store) result
           → completion ≡ merge_completion (both (at_side First) (at_side Second)) result
-          → JointPost (two_input_tool t) positions old new was is before store completion
-      merge_post {result = result} post is_completion = record {
+          → JointPost (two_input_tool engine) positions old new was is before store completion
+      merge_post {result = result} t same_engine post is_completion = record {
         end = end_at at_side (merge_end result);
         result_is = rw (is_completion, by_side (λ q. q) _ _ (refl, refl)) refl;
-        call = placed_call (merge_engine t) at_side two_placed old new others ready.writable
+        call = placed_call engine at_side two_placed old new others ready.writable
             (λ few. (First, refl, (new_at First).eof))
             (rw (
+              same_engine,
               by_side (reader_at old) _ _ (were no_reader),
               by_side (reader_at new) x y (grind (usual, two_within, two_apart)),
             ) at post.call);

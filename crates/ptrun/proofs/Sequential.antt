@@ -98,7 +98,7 @@ module _ {word : List ℕ} {t : ToolSpec} {names : List (List ℕ)} {old : List 
 
     -- ---- all operands are done
 
-    pub done_all : {s : ToolInRun} {all : List ℕ} (law : DecidesAll t) → s ≡ OneByOne t law → done ≡ all
+    pub done_all : {s : ToolInRun} {all : List ℕ} (law : DecidesAll t) → s ≡ OneByOne t → done ≡ all
         → RunInputsPost (spec_of_tool word s names all) old now was is messages_old messages_new before store
         (Ok so_far)
     done_all law kind all = rw (kind, ← all) (record {
@@ -458,7 +458,7 @@ module _ {word : List ℕ} {t : ToolSpec} {names : List (List ℕ)} {old : List 
             index_within Memory = tt
 
         pub done_stopped : {s : ToolInRun} {all : List ℕ} (more : List ℕ) {fault passed : FlowFault}
-            {last : Result Completion FlowFault} → s ≡ OneByOne t law → done ++ p ∷ more ≡ all → result ≡ Err fault
+            {last : Result Completion FlowFault} → s ≡ OneByOne t → done ++ p ∷ more ≡ all → result ≡ Err fault
             → last ≡ Err passed → passed ≡ fault
             → RunInputsPost (spec_of_tool word s names all) old now' was is' messages_old messages_new before store'
             last

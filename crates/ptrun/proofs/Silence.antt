@@ -70,7 +70,7 @@ all_messages_iff tool names test ps = rw (take_all (length ps) ps (omega arith))
 
 of_tool : (word : List ℕ) (names : List (List ℕ)) (tool : ToolInRun) (ps : List ℕ)
     → IsSilentIfZero (spec_of_tool word tool names ps)
-of_tool word names (OneByOne t law) ps w =
+of_tool word names (OneByOne t) ps w =
     sequential_step (list_any (is_unopened w) ps) _ (all_messages_iff word names (is_unopened w) ps)
 of_tool word names (Together t) ps w =
     joint_step (list_any (is_unopened w) ps) _ word names _ (all_messages_iff word names (is_unopened w) ps)

@@ -1,7 +1,7 @@
 -- The steps of the driver, by how a tool reads its operands: one after another, or together.
 use Rattle.ptrun.proofs
 use Rattle.ptrun.specs
-use proofs.Common.{All, Bool, Bor, CallOutcome, Completion, DecidesAll, FlowFault, HasIndexBelow, Input, InputsPre}
+use proofs.Common.{All, Bool, Bor, CallOutcome, Completion, DecidesAll, DecidesAllInTurn, FlowFault, HasIndexBelow, Input, InputsPre}
 use proofs.Common.{IsRun, List, OneByOne, OperandPost, Output, PassPost, PassPre, Reader, Result, RunInputsPost}
 use proofs.Common.{SinkState, Slots, Together, ToolInRun, ToolSpec, [], append-nil, arith, false, false≢true, get_or}
 use proofs.Common.{is_reader_unopened, is_unopened, length, list_any, only_operand, positions, reads_together, refl}
@@ -18,15 +18,15 @@ use Rattle.ptlines.specs.Calls.Engines.{CallEnd, Complete, MemoryFault, OutOfOrd
 use Rattle.std.proofs.Math.Seq.{take-length}
 
 abbrev pub one_tool : ToolInRun → ToolSpec
-one_tool (OneByOne t law) = t
+one_tool (OneByOne t) = t
 one_tool (Together t) = record { text = λ i. []; decided = λ g. []; size = λ i. 0; slots = 0; end = 10 }
 
-abbrev pub decides_all : (s : ToolInRun) → DecidesAll (one_tool s)
-decides_all (OneByOne t law) = law
-decides_all (Together t) = λ bytes. refl
+pub decides_all : (s : ToolInRun) → DecidesAllInTurn s → DecidesAll (one_tool s)
+decides_all (OneByOne t) law = law
+decides_all (Together t) law = λ bytes. refl
 
-pub read_in_turn : (s : ToolInRun) → reads_together s ≡ false → s ≡ OneByOne (one_tool s) (decides_all s)
-read_in_turn (OneByOne t law) in_turn = refl
+pub read_in_turn : (s : ToolInRun) → reads_together s ≡ false → s ≡ OneByOne (one_tool s)
+read_in_turn (OneByOne t) in_turn = refl
 read_in_turn (Together t) in_turn = absurd (false≢true (sym in_turn))
 
 module _ (word : List ℕ) (names : List (List ℕ)) (positions : List ℕ) where
@@ -37,7 +37,7 @@ module _ (word : List ℕ) (names : List (List ℕ)) (positions : List ℕ) wher
       → ReportUnopenedPost word names positions inputs messages_old messages_new any_unopened → any_unopened ≡ true
       → IsRun (spec_of_tool word s names positions) inputs inputs (sinks out messages_old)
       (record { out = out; messages = messages_new; status = 1; peak = 0; denied = false })
-  unopened_run (OneByOne t law) together fresh fine k some = absurd (false≢true together)
+  unopened_run (OneByOne t) together fresh fine k some = absurd (false≢true together)
   unopened_run (Together t) {inputs} together fresh fine k some =
       unread _ 1 refl any (λ r same. rw (any_of (is_unopened r) same) refl) fresh fine k.has_said
       (λ w agrees.
@@ -59,7 +59,7 @@ module _ (word : List ℕ) (names : List (List ℕ)) (positions : List ℕ) wher
   -- a tool reads something unless it reads its operands together and one was not opened
   pub reads_if : (s : ToolInRun) (test : ℕ → Bool) → (reads_together s ≡ true → list_any test positions ≡ false)
       → (spec_of_tool word s names positions).reads_nothing test ≡ true → ⊥
-  reads_if (OneByOne t law) test opened none = false≢true none
+  reads_if (OneByOne t) test opened none = false≢true none
   reads_if (Together t) test opened none = false≢true (sym (opened refl) ∙ none)
 
   -- ---- processing the inputs
@@ -70,7 +70,7 @@ module _ (word : List ℕ) (names : List (List ℕ)) (positions : List ℕ) wher
       → ReportUnopenedPost word names positions inputs messages_old messages_new any_unopened
       → any_unopened ≡ false → was.write_failed ≡ false → before.denied ≡ false → total_bytes before.lines ≡ 0
       → RunOnPre s positions inputs was before
-  together_pre (OneByOne t law) was before together given k none writable not_denied empty =
+  together_pre (OneByOne t) was before together given k none writable not_denied empty =
       absurd (false≢true together)
   together_pre (Together t) was before together given k none writable not_denied empty = grind arith
 
@@ -82,7 +82,7 @@ module _ (word : List ℕ) (names : List (List ℕ)) (positions : List ℕ) wher
           → any_unopened ≡ false → was.write_failed ≡ false → before.denied ≡ false → total_bytes before.lines ≡ 0
           → RunOnPost s positions old new was is before store result
           → RunInputsPost (spec_of_tool word s names positions) old new was is messages messages before store result
-      together_post (OneByOne t law) messages together given k none writable not_denied empty post =
+      together_post (OneByOne t) messages together given k none writable not_denied empty post =
           absurd (false≢true together)
       together_post (Together t) messages together given k none writable not_denied empty post =
           grind (arith, joint_post)
@@ -95,7 +95,7 @@ pub ran_in_turn : (s : ToolInRun) (ps : List ℕ) {old new : List Reader} {was i
     {result : Result Completion FlowFault} → reads_together s ≡ false
     → RunOnPost s ps old new was is before store result
     → OperandPost (one_tool s) (only_operand ps) old new was is before store result
-ran_in_turn (OneByOne t law) ps in_turn post = post
+ran_in_turn (OneByOne t) ps in_turn post = post
 ran_in_turn (Together t) ps in_turn post = absurd (false≢true (sym in_turn))
 
 -- the input that a result names is that of an operand
@@ -105,7 +105,7 @@ pub together_index : (s : ToolInRun) (word : List ℕ) {names files : List (Bor 
     → RunOnPost s operands old new was is before store result → reads_together s ≡ true
     → InputsPre (spec_of_tool word s (words_view files) (positions order)) old → operands ≡ positions order
     → names ≡ files → HasIndexBelow (length names + 1) result
-together_index (OneByOne t law) _ _ _ _ _ _ _ _ _ _ _ together _ _ _ = absurd (false≢true together)
+together_index (OneByOne t) _ _ _ _ _ _ _ _ _ _ _ together _ _ _ = absurd (false≢true together)
 together_index (Together t) _ {names} {files} _ operands old new was is before store _ post _ given listed same =
     let count : length old ≡ length names + 1 = rw same (grind usual) in
     rw (← count, post.result_is) (by_end post.end post.call.ends)

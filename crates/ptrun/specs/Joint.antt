@@ -11,8 +11,6 @@ use Rattle.ptflow.specs.PasteCall.{paste_engine}
 use Rattle.ptflow.specs.ToolSpec.{ToolSpec}
 use Rattle.ptmerge.specs.declared.key_order.Side.{Side}
 use Rattle.ptmerge.specs.declared.key_order.Side.TheVariants.{First, Second}
-use Rattle.ptmerge.specs.MergeCall.{merge_engine}
-use Rattle.ptmerge.specs.MergeSpec.{MergeTool}
 use Rattle.ptrun.specs.Files.{InputBytes, ReceivedInputs, at, is_unopened}
 use Rattle.ptrun.specs.CommandSpec.{CommandSpec}
 use Rattle.ptrun.specs.Engines.{at_positions}
@@ -49,9 +47,9 @@ operand positions First = slice_index_or positions 0 0
 operand positions Second = slice_index_or positions 1 0
 
 -- A tool with two inputs, which must be different ones.
-abbrev pub two_input_tool : MergeTool → JointTool
-two_input_tool t = record {
-  engine = λ positions. at_positions (merge_engine t) (operand positions);
+abbrev pub two_input_tool : EngineSpec Side → JointTool
+two_input_tool engine = record {
+  engine = λ positions. at_positions engine (operand positions);
   accepts = λ positions. (length positions == 2) && not (operand positions First == operand positions Second);
 }
 

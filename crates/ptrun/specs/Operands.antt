@@ -1,6 +1,6 @@
 -- Tools that read their operands one after another: `cut`, `paste -s` and `tr`. A file that could not be opened is
 -- reported and skipped.
-use Rattle.std.specs.Prelude.{◌≡◌, Some, ℕ, ◌+◌, true, false, List, [], ◌∷◌, map, flat_map, max, take, if◌then◌else◌}
+use Rattle.std.specs.Prelude.{Some, ℕ, ◌+◌, true, false, List, [], ◌∷◌, map, flat_map, max, take, if◌then◌else◌}
 use Rattle.std.specs.List.{list_any}
 use Rattle.ptlines.specs.Received.{Received, empty_input}
 use Rattle.ptopts.specs.declared.inputs.Input.{Input}
@@ -39,10 +39,6 @@ decided_in_order t came = flat_map t.decided (up_to_unended came)
 -- The output that is decided by what was received, with operands at these positions.
 abbrev pub sequential_decided : ToolSpec → ReceivedInputs → List ℕ → List ℕ
 sequential_decided t r positions = decided_in_order t (opened_inputs empty_input r positions)
-
--- Once the end of an input is reached, all its output is decided.
-abbrev pub DecidesAll : ToolSpec → Type 0
-DecidesAll t = (bytes : List ℕ) → t.decided (record { bytes = bytes; eof = true }) ≡ t.text bytes
 
 -- The specification of the tool named `word` with operands at these positions and files of these names.
 abbrev pub sequential_spec : List ℕ → ToolSpec → List (List ℕ) → List ℕ → CommandSpec

@@ -1,11 +1,11 @@
 -- From the arguments of a command to its specification.
 use Rattle.std.specs.Prelude.{ℕ, List, [], Bool, true, false, Some, None, Result, Ok, Err, codes, length}
-use Rattle.std.specs.Prelude.{slice_index_or, is_none, refl, if◌then◌else◌}
+use Rattle.std.specs.Prelude.{slice_index_or, is_none, if◌then◌else◌}
 use Rattle.ptflow.specs.Cuts.{cut_tool}
 use Rattle.ptflow.specs.TrOutput.{tr_tool}
 use Rattle.ptflow.specs.Uniqs.{uniq_tool}
-use Rattle.ptmerge.specs.Comm.{comm_tool}
-use Rattle.ptmerge.specs.Join.{join_tool}
+use Rattle.ptmerge.specs.Comm.{comm_engine}
+use Rattle.ptmerge.specs.Join.{join_engine}
 use Rattle.ptopts.specs.Commands.{Command, Job, RunComm, RunCut, RunJoin, RunPaste, RunTr, RunUniq, command_of_args}
 use Rattle.ptopts.specs.Commands.{command_view}
 use Rattle.ptopts.specs.Faults.{Fault}
@@ -39,12 +39,12 @@ message_only text status = record {
 
 -- The tool that a job asks for.
 abbrev pub tool_of_job : Job → ToolInRun
-tool_of_job (RunCut job) = OneByOne (cut_tool job) (λ bytes. refl)
+tool_of_job (RunCut job) = OneByOne (cut_tool job)
 tool_of_job (RunPaste job) = paste_in_run job
 tool_of_job (RunUniq job) = Together (one_input_tool (uniq_tool job))
-tool_of_job (RunComm job) = Together (two_input_tool (comm_tool job))
-tool_of_job (RunJoin job) = Together (two_input_tool (join_tool job))
-tool_of_job (RunTr tables) = OneByOne (tr_tool tables) (λ bytes. refl)
+tool_of_job (RunComm job) = Together (two_input_tool (comm_engine job))
+tool_of_job (RunJoin job) = Together (two_input_tool (join_engine job))
+tool_of_job (RunTr m) = OneByOne (tr_tool m)
 
 -- The name of this tool.
 abbrev pub word_of_job : Job → List ℕ
@@ -53,7 +53,7 @@ word_of_job (RunPaste job) = codes "paste"
 word_of_job (RunUniq job) = codes "uniq"
 word_of_job (RunComm job) = codes "comm"
 word_of_job (RunJoin job) = codes "join"
-word_of_job (RunTr tables) = codes "tr"
+word_of_job (RunTr m) = codes "tr"
 
 -- The specification of a parsed command.
 abbrev pub command_spec : Command → CommandSpec

@@ -11,7 +11,7 @@ ghost use Rattle.ptrun.specs.Calls.Runs.{RunPre};
 ghost use Rattle.ptrun.specs.Runs.{sinks, outcome};
 ghost use Rattle.ptrun.specs.MessageWrites.{HasSaid};
 ghost use Rattle.ptrun.specs.Tools.{spec_of_tool};
-ghost use Rattle.ptrun.specs.Private.Tools.{reads_together};
+ghost use Rattle.ptrun.specs.Private.Tools.{DecidesAllInTurn, reads_together};
 
 use crate::messages::Messages;
 use crate::operands::{name_at, position_of, positions_of, say_unopened};
@@ -99,6 +99,7 @@ fn run_one_by_one<A: Allocator + Copy, T: Tool<A>, S: Source, R: Source, W: Sink
     messages: &mut Messages<E>,
 ) -> Result<Completion, FlowFault>
     requires in_turn { reads_together (T.tool tool.now) ≡ false }
+    requires decides { DecidesAllInTurn (T.tool tool.now) }
     requires ready { RunInputsPre
         (spec_of_tool (T.word tool.now) (T.tool tool.now) (words_view names.now) (positions order.now))
         inputs.old out.old store.old }

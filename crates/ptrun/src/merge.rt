@@ -2,7 +2,7 @@
 
 ghost use Rattle.std.specs.Borrow.{Array, LendsBoth, sem};
 ghost use Rattle.std.specs.Prelude.{◌≡◌, ◌<◌, length, set, slice_index_or};
-ghost use Rattle.ptmerge.specs.Sides.{both};
+ghost use Rattle.ptmerge.specs.Calls.Sides.{both};
 ghost use Rattle.ptrun.specs.Private.Driver.{merge_completion};
 
 use crate::tool::{Completion, Tool};
@@ -15,11 +15,11 @@ use std::alloc::Allocator;
 impl<A: Allocator + Copy> Tool<A> for CommJob {
     ghost use Rattle.std.specs.Prelude.{codes};
     ghost use Rattle.ptlangs.specs.Jobs.{comm_job};
-    ghost use Rattle.ptmerge.specs.Comm.{comm_tool};
+    ghost use Rattle.ptmerge.specs.Comm.{comm_engine};
     ghost use Rattle.ptrun.specs.Joint.{two_input_tool};
     ghost use Rattle.ptrun.specs.Tools.{Together};
 
-    ghost tool = { λ job. Together (two_input_tool (comm_tool (comm_job job))) };
+    ghost tool = { λ job. Together (two_input_tool (comm_engine (comm_job job))) };
 
     ghost word = { λ job. codes "comm" };
 
@@ -48,11 +48,11 @@ impl<A: Allocator + Copy> Tool<A> for CommJob {
 impl<A: Allocator + Copy, B: Allocator + Copy> Tool<A> for JoinJob<B> {
     ghost use Rattle.std.specs.Prelude.{codes};
     ghost use Rattle.ptlangs.specs.Jobs.{join_job};
-    ghost use Rattle.ptmerge.specs.Join.{join_tool};
+    ghost use Rattle.ptmerge.specs.Join.{join_engine};
     ghost use Rattle.ptrun.specs.Joint.{two_input_tool};
     ghost use Rattle.ptrun.specs.Tools.{Together};
 
-    ghost tool = { λ job. Together (two_input_tool (join_tool (join_job job))) };
+    ghost tool = { λ job. Together (two_input_tool (join_engine (join_job job))) };
 
     ghost word = { λ job. codes "join" };
 

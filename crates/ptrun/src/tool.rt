@@ -2,7 +2,7 @@
 
 ghost use Rattle.std.specs.Prelude.{◌≡◌, ◌<◌, ℕ, List, false, All, length};
 ghost use Rattle.ptrun.specs.Tools.{ToolInRun};
-ghost use Rattle.ptrun.specs.Private.Tools.{reads_together};
+ghost use Rattle.ptrun.specs.Private.Tools.{DecidesAllInTurn, reads_together};
 ghost use Rattle.ptrun.specs.Private.Driver.{RunOnPre, RunOnPost};
 
 use ptflow::FlowFault;
@@ -35,7 +35,8 @@ pub(crate) trait Tool<A: Allocator + Copy>: Drop {
 
     /// Returns whether the tool reads all its operands together. If not, it runs over one after another.
     fn reads_together(&self) -> bool
-        ensures { result ≡ reads_together (tool self.now) };
+        ensures is { result ≡ reads_together (tool self.now) }
+        ensures decides { DecidesAllInTurn (tool self.now) };
 
     /// Runs the tool over the inputs at these positions, each of which was opened: those of all its operands, or that
     /// of one if it reads them one after another.

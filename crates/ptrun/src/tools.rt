@@ -61,12 +61,12 @@ fn completion_at(pass: Result<(), FlowFault>, position: usize) -> Result<Complet
 }
 
 impl<A: Allocator + Copy, B: Allocator + Copy> Tool<A> for CutJob<B> {
-    ghost use Rattle.std.specs.Prelude.{refl, codes};
+    ghost use Rattle.std.specs.Prelude.{codes};
     ghost use Rattle.ptlangs.specs.Jobs.{cut_job};
     ghost use Rattle.ptflow.specs.Cuts.{cut_tool};
     ghost use Rattle.ptrun.specs.Tools.{OneByOne};
 
-    ghost tool = { λ job. OneByOne (cut_tool (cut_job job)) (λ bytes. refl) };
+    ghost tool = { λ job. OneByOne (cut_tool (cut_job job)) };
 
     ghost word = { λ job. codes "cut" };
 
@@ -92,11 +92,12 @@ impl<A: Allocator + Copy, B: Allocator + Copy> Tool<A> for CutJob<B> {
 }
 
 impl<A: Allocator + Copy> Tool<A> for CharPlan {
-    ghost use Rattle.std.specs.Prelude.{refl, codes};
+    ghost use Rattle.std.specs.Prelude.{codes};
+    ghost use Rattle.ptlangs.specs.TrTables.{byte_map_of};
     ghost use Rattle.ptflow.specs.TrOutput.{tr_tool};
     ghost use Rattle.ptrun.specs.Tools.{OneByOne};
 
-    ghost tool = { λ plan. OneByOne (tr_tool plan) (λ bytes. refl) };
+    ghost tool = { λ plan. OneByOne (tr_tool (byte_map_of plan)) };
 
     ghost word = { λ plan. codes "tr" };
 

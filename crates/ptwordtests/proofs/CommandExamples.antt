@@ -10,7 +10,7 @@ use Rattle.ptlangs.specs.declared.outlist.File.TheVariants.{First, Second}
 use Rattle.ptlangs.specs.declared.outlist.OutField.TheVariants.{Join, Field}
 use Rattle.ptlangs.specs.declared.ranges.Interval.{Interval}
 use Rattle.ptlangs.specs.TrPlan.{complement_of}
-use Rattle.ptlangs.specs.TrTables.{tables}
+use Rattle.ptlangs.specs.TrPlan.{byte_map}
 use Rattle.ptopts.specs.Commands.{Command, RunCut, RunPaste, RunUniq, RunComm, RunJoin, RunTr, Job, command_over}
 use Rattle.ptopts.specs.Commands.{command_of_args}
 use Rattle.ptfakes.proofs.SplitWords.{words}
@@ -28,7 +28,7 @@ fields list = record { fields = true; selected = is_selected list; delimiter = b
 -- `tr` with these arrays
 abbrev by_plan : List ℕ → List ℕ → List ℕ → List ℕ → Job
 by_plan deleted from to squeezed =
-    RunTr (tables (record { deleted = deleted; from = from; to = to; squeezed = squeezed }))
+    RunTr (byte_map (record { deleted = deleted; from = from; to = to; squeezed = squeezed }))
 
 -- a job with these operands, and standard output
 abbrev over_operands : Job → List (List ℕ) → Command

@@ -6,7 +6,7 @@ use proofs.Common.{ap, arith, filter, slice_get, last_or, option_or, append-nil,
 use proofs.Common.{is_not_repeat, squeeze_after, tr, tr_decided, squeeze_from}
 use proofs.Common.{tr_from, eq-eqb, squeeze, BeginsWith, Each1, Fits, w8, suc, ◌<◌, get_or, EndsWith}
 use proofs.Vectors.Lanes.{bytes_fit}
-use Rattle.ptlangs.specs.TrTables.{Tables, deletes, image, squeezes}
+use Rattle.ptlangs.specs.TrPlan.{ByteMap}
 use Rattle.ptflow.specs.Laws.Parts.{TrAfterByte, TrMeetsTwice, TrOfAnyParts, TrOfParts}
 
 module _ (squeezed : ℕ → Bool) where
@@ -42,7 +42,7 @@ last_is last (b ∷ bytes) =
 
 -- ---- a block
 
-module _ (t : Tables) where
+module _ (t : ByteMap) where
   pub front_on : (last : Option ℕ) (block rest : List ℕ)
       → tr_from t last (block ++ rest) ≡ tr_from t last block ++ tr_from t (last_or last (tr_from t last block)) rest
   front_on last block rest = simp (from_append, filter-append, map-append)
@@ -93,7 +93,7 @@ from_two_parts squeezed (b ∷ written) bytes apart =
     grind usual
 
 pub tr_of_parts : TrOfParts
-tr_of_parts tables a b apart = cc (front_on _ None a b, from_two_parts _ _ _ apart)
+tr_of_parts m a b apart = cc (front_on _ None a b, from_two_parts _ _ _ apart)
 
 pub tr_of_any_parts : TrOfAnyParts
 tr_of_any_parts = grind (arith, tr_of_parts)
@@ -104,24 +104,24 @@ last_after : {X : Type 0} (o : Option X) (front : List X) (x : X) → last_or o 
 last_after o [] x = refl
 last_after o (y ∷ front) x = last_after (Some y) front x
 
-one_byte : (tables : Tables) (last : Option ℕ) (byte : ℕ) → deletes tables byte ≡ false
-    → squeezes tables (image tables byte) ≡ false → tr_from tables last (byte ∷ []) ≡ image tables byte ∷ []
+one_byte : (m : ByteMap) (last : Option ℕ) (byte : ℕ) → m.deletes byte ≡ false
+    → m.squeezes (m.image byte) ≡ false → tr_from m last (byte ∷ []) ≡ m.image byte ∷ []
 one_byte = grind arith
 
 pub tr_after_byte : TrAfterByte
-tr_after_byte tables byte a b (front, ends) kept unsqueezed =
-    let last : EndsWith (image tables byte) (tr tables a) = (
-      tr tables front,
+tr_after_byte m byte a b (front, ends) kept unsqueezed =
+    let last : EndsWith (m.image byte) (tr m a) = (
+      tr m front,
       cc (
-        front_on tables None front (byte ∷ []),
-        one_byte tables (last_or None (tr tables front)) byte kept unsqueezed,
+        front_on m None front (byte ∷ []),
+        one_byte m (last_or None (tr m front)) byte kept unsqueezed,
       ),
     ) in
     grind (usual, tr_of_parts)
 
 pub tr_meets_twice : TrMeetsTwice
-tr_meets_twice tables byte a b rest is (front, ends) begins =
-    grind (arith, front_on tables None a b, last_after None front byte, eq-eqb)
+tr_meets_twice m byte a b rest is (front, ends) begins =
+    grind (arith, front_on m None a b, last_after None front byte, eq-eqb)
 
 -- ---- tests that agree on bytes
 

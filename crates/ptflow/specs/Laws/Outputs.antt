@@ -1,18 +1,18 @@
 -- Theorems about the output for a whole input, which a reader can judge without computing it. They are about the
 -- definitions, so they show that these mean what one expects.
 use Rattle.std.specs.Prelude.{◌≡◌, ◌≢◌, ◌≤◌, ◌<◌, ℕ, ◌+◌, ◌==◌, true, false, List, [], ◌∷◌, ◌++◌, length, map, filter}
-use Rattle.std.specs.Prelude.{not, sum_by, slice_index_or, Some, All}
+use Rattle.std.specs.Prelude.{not, sum_by, slice_index_or, Some, All, if◌then◌else◌}
+use Rattle.std.specs.List.{flat_map}
 use Rattle.ptlines.specs.Text.{unlines, lines}
 use Rattle.ptlines.specs.Laws.Text.{AreLines}
 use Rattle.ptlangs.specs.Jobs.{Cut, Uniq, Paste}
-use Rattle.ptlangs.specs.TrPlan.{plan_of, complement_of, has_byte}
-use Rattle.ptlangs.specs.TrTables.{tables}
+use Rattle.ptlangs.specs.TrPlan.{byte_map, plan_of, complement_of, has_byte}
 use Rattle.ptlangs.specs.declared.tr.plan.Form.TheVariants.{Translate, Delete}
 use Rattle.ptlangs.specs.declared.jobs.Show.TheVariants as show
 use Rattle.ptflow.specs.Cuts.{cut}
 use Rattle.ptflow.specs.TrOutput.{tr}
 use Rattle.ptflow.specs.Uniqs.{Run, runs, uniq, output_of_run}
-use Rattle.ptflow.specs.PasteText.{rows_text}
+use Rattle.ptflow.specs.PasteText.{paste, paste_serial, rows, rows_text, uses_of}
 
 -- ---- cut
 
@@ -46,13 +46,28 @@ UniqTwice = (job : Uniq) (bytes : List ℕ) → job.show ≡ show.All → uniq j
 -- Translation keeps the number of bytes.
 abbrev pub TranslationKeepsLength : Type 0
 TranslationKeepsLength = (first second bytes : List ℕ)
-    → length (tr (tables (plan_of Translate first second)) bytes) ≡ length bytes
+    → length (tr (byte_map (plan_of Translate first second)) bytes) ≡ length bytes
 
 -- `tr -d` keeps the bytes that the string does not have, and `tr -cd` those that it has, each in their order.
 abbrev pub DeletedOrKept : Type 0
 DeletedOrKept = (array bytes : List ℕ) → All (λ b. b < 256) bytes
-    → (tr (tables (plan_of Delete array [])) bytes ≡ filter (λ b. not (has_byte b array)) bytes)
-    × (tr (tables (plan_of Delete (complement_of array) [])) bytes ≡ filter (λ b. has_byte b array) bytes)
+    → (tr (byte_map (plan_of Delete array [])) bytes ≡ filter (λ b. not (has_byte b array)) bytes)
+    × (tr (byte_map (plan_of Delete (complement_of array) [])) bytes ≡ filter (λ b. has_byte b array) bytes)
+
+-- ---- paste
+
+-- The output of `paste` for the texts of different inputs: with `-s` a row for each, which has its lines; without, a row
+-- for each line number, which has the line of each input with this number.
+abbrev pub paste_output : Paste → List (List ℕ) → List ℕ
+paste_output job inputs =
+    if job.serial then flat_map (paste_serial job) inputs
+    else rows_text job (rows (map (lines job.terminator) inputs))
+
+-- It is the output of `paste` without `-s`, if no input is named twice.
+abbrev pub PasteOfDifferent : Type 0
+PasteOfDifferent = (job : Paste) (cells : List ℕ) (texts : ℕ → List ℕ) → job.serial ≡ false
+    → ((input : ℕ) → uses_of cells input ≤ 1)
+    → paste job cells texts ≡ paste_output job (map texts cells)
 
 -- ---- cut after paste
 

@@ -6,7 +6,7 @@ use Rattle.ptflow.specs.PasteText.{paste, uses_of}
 use Rattle.ptflow.specs.TrOutput.{tr}
 use Rattle.ptflow.specs.Uniqs.{Run, key, output_of, runs, uniq}
 use Rattle.ptlangs.specs.Jobs.{Cut, Paste, Uniq}
-use Rattle.ptlangs.specs.TrTables.{Tables, deletes, image, squeezes}
+use Rattle.ptlangs.specs.TrPlan.{ByteMap}
 use Rattle.ptlines.specs.Laws.Parts.{HasOnlyCompleteLines}
 use Rattle.ptlines.specs.Text.{lines, unlines}
 
@@ -28,34 +28,34 @@ CutOfParts = (job : Cut) (a b : List ℕ) → HasOnlyCompleteLines job.terminato
 -- ---- tr: anywhere but between two equal bytes that are squeezed
 
 -- no byte is squeezed
-abbrev pub SqueezesNone : Tables → Type 0
-SqueezesNone tables = (byte : ℕ) → squeezes tables byte ≡ false
+abbrev pub SqueezesNone : ByteMap → Type 0
+SqueezesNone m = (byte : ℕ) → m.squeezes byte ≡ false
 
 -- If nothing is squeezed, the output for both parts is the output for each, one after the other.
 abbrev pub TrOfAnyParts : Type 0
-TrOfAnyParts = (tables : Tables) (a b : List ℕ) → SqueezesNone tables → tr tables (a ++ b) ≡ tr tables a ++ tr tables b
+TrOfAnyParts = (m : ByteMap) (a b : List ℕ) → SqueezesNone m → tr m (a ++ b) ≡ tr m a ++ tr m b
 
 -- if the output for one part ends with the byte with which that for the other begins, that byte is not squeezed
-abbrev pub MeetUnsqueezed : Tables → List ℕ → List ℕ → Type 0
-MeetUnsqueezed tables a b = (byte : ℕ) → EndsWith byte (tr tables a) → BeginsWith byte (tr tables b)
-    → squeezes tables byte ≡ false
+abbrev pub MeetUnsqueezed : ByteMap → List ℕ → List ℕ → Type 0
+MeetUnsqueezed m a b = (byte : ℕ) → EndsWith byte (tr m a) → BeginsWith byte (tr m b)
+    → m.squeezes byte ≡ false
 
 -- If the outputs do not meet in a squeezed byte, the output for both is that for each, one after the other.
 abbrev pub TrOfParts : Type 0
-TrOfParts = (tables : Tables) (a b : List ℕ) → MeetUnsqueezed tables a b
-    → tr tables (a ++ b) ≡ tr tables a ++ tr tables b
+TrOfParts = (m : ByteMap) (a b : List ℕ) → MeetUnsqueezed m a b
+    → tr m (a ++ b) ≡ tr m a ++ tr m b
 
 -- the cut is after a byte that is not deleted and whose image is not squeezed
 abbrev pub TrAfterByte : Type 0
-TrAfterByte = (tables : Tables) (byte : ℕ) (a b : List ℕ) → EndsWith byte a → deletes tables byte ≡ false
-    → squeezes tables (image tables byte) ≡ false
-    → tr tables (a ++ b) ≡ tr tables a ++ tr tables b
+TrAfterByte = (m : ByteMap) (byte : ℕ) (a b : List ℕ) → EndsWith byte a → m.deletes byte ≡ false
+    → m.squeezes (m.image byte) ≡ false
+    → tr m (a ++ b) ≡ tr m a ++ tr m b
 
 -- if the outputs for both parts have the same squeezed byte at the cut, it is written once
 abbrev pub TrMeetsTwice : Type 0
-TrMeetsTwice = (tables : Tables) (byte : ℕ) (a b rest : List ℕ) → squeezes tables byte ≡ true
-    → EndsWith byte (tr tables a) → tr tables b ≡ byte ∷ rest
-    → tr tables (a ++ b) ≡ tr tables a ++ rest
+TrMeetsTwice = (m : ByteMap) (byte : ℕ) (a b rest : List ℕ) → m.squeezes byte ≡ true
+    → EndsWith byte (tr m a) → tr m b ≡ byte ∷ rest
+    → tr m (a ++ b) ≡ tr m a ++ rest
 
 -- ---- uniq: after a line whose key differs from that of the next one
 

@@ -3,7 +3,7 @@
 //! `map_kind` chooses how bytes are translated; the code in `simd` does all three.
 
 ghost use Rattle.std.specs.Prelude.{◌≡◌, ◌≢◌, ◌≤◌, length, map, filter, not, Err};
-ghost use Rattle.ptlangs.specs.TrTables.{deletes, image, squeezes};
+ghost use Rattle.ptlangs.specs.TrTables.{byte_map_of, deletes, image, squeezes};
 ghost use Rattle.ptflow.specs.Calls.Passes.{PassPre, StorelessPost, no_store};
 ghost use Rattle.ptflow.specs.TrOutput.{tr_tool};
 ghost use Rattle.ptflow.specs.Private.Tr.MapKinds.{IsMapKind, IsMapKind-prop};
@@ -113,9 +113,10 @@ struct Translator<'a> {
 
 impl<'a> BlockFilter for Translator<'a> {
     ghost use Rattle.std.specs.Prelude.{◌≡◌};
+    ghost use Rattle.ptlangs.specs.TrTables.{byte_map_of};
     ghost use Rattle.ptflow.specs.Private.Tr.TrFrom.{tr_from};
 
-    ghost rest = { λ t. tr_from t.by.plan.now t.last };
+    ghost rest = { λ t. tr_from (byte_map_of t.by.plan.now) t.last };
 
     ghost counted = { λ t. 0 };
 
@@ -150,7 +151,7 @@ pub fn tr<S: Source, R: Source, W: Sink>(
     out: &mut Out<W>,
 ) -> Result<(), FlowFault>
     requires { PassPre reader.old no_store }
-    ensures pass { StorelessPost (tr_tool plan.now) reader.old reader.new out.old out.new result }
+    ensures pass { StorelessPost (tr_tool (byte_map_of plan.now)) reader.old reader.new out.old out.new result }
     ensures no_memory { result ≢ Err FlowFault.Memory }
 {
     if out.has_failed() {

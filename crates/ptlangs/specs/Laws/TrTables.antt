@@ -1,10 +1,15 @@
 -- A plan of `tr` as three tables, each with an entry for every byte.
 use Rattle.std.specs.Prelude.{◌≡◌, ◌<◌, ◌^◌, ℕ}
-use Rattle.ptlangs.specs.TrPlan.{Plan, image_of, is_deleted, is_squeezed}
-use Rattle.ptlangs.specs.TrTables.{deletes, image, squeezes, tables}
+use Rattle.ptlangs.specs.TrPlan.{Plan, byte_map, image_of, is_deleted, is_squeezed}
+use Rattle.ptlangs.specs.TrTables.{byte_map_of, deletes, image, squeezes}
+use Rattle.ptlangs.specs.Calls.TrTables.{tables}
 
 -- for every byte the tables of a plan agree with the plan
 abbrev pub TablesMatchPlan : Type 0
 TablesMatchPlan = (plan : Plan) (b : ℕ) → b < 2 ^ 8
     → (deletes (tables plan) b ≡ is_deleted plan b) × (image (tables plan) b ≡ image_of plan b)
     × (squeezes (tables plan) b ≡ is_squeezed plan b)
+
+-- the tables of a plan have the plan's map
+abbrev pub TablesHaveMap : Type 0
+TablesHaveMap = (plan : Plan) → byte_map_of (tables plan) ≡ byte_map plan

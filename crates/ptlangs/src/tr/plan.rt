@@ -8,8 +8,9 @@ ghost use Rattle.ptlangs.specs.TrPlan.{first_array, plan, plan_of, second_plan, 
 ghost use Rattle.ptlangs.specs.Laws.TrPlan.{NoMemoryFault};
 ghost use Rattle.ptlangs.specs.TrPlan.{in_string, string_segments};
 ghost use Rattle.ptlangs.specs.Calls.TrPlan.{takes_second};
-ghost use Rattle.ptlangs.specs.TrTables.{tables, deletes, image, squeezes};
-ghost use Rattle.ptlangs.specs.Laws.TrTables.{TablesMatchPlan};
+ghost use Rattle.ptlangs.specs.TrTables.{deletes, image, squeezes};
+ghost use Rattle.ptlangs.specs.Calls.TrTables.{tables};
+ghost use Rattle.ptlangs.specs.Laws.TrTables.{TablesHaveMap, TablesMatchPlan};
 ghost use Rattle.ptlangs.specs.Calls.TrShifts.{stretches, HasImagesOf};
 ghost use Rattle.ptlangs.specs.Private.TrParsing.{contents_of};
 ghost use Rattle.ptlangs.specs.Calls.TrParsing.{ok_map};
@@ -243,6 +244,12 @@ impl CharPlan {
 #[tactic(auto, using(crate::proofs::TrArrays::table_at))]
 pub fn tables_match_plan()
     ensures { TablesMatchPlan }
+{}
+
+/// Does nothing at run time. Its contract states that the tables of a plan are an implementation of it: they have its
+/// map, by which the output of `tr` is defined.
+pub fn tables_have_map()
+    ensures { TablesHaveMap }
 {}
 
 /// Does nothing at run time. Its contract states that reading the strings never fails for lack of memory, so that

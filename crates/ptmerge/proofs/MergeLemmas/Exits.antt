@@ -8,7 +8,7 @@ pub use proofs.Common.{⊎_elim, IsPrefix, nat_tests, length_push, line_of_with_
 pub use proofs.Common.{Ended, Disorder, status_at, same_key_at, NextOkPost, Result, Err, Memory, advance_trans, Write}
 pub use proofs.Common.{MergeFault, lines_of, MergeState, MergePost, merge_state, terminator}
 use Rattle.ptlines.proofs.LineSearch.{IsLine-append}
-use specs.MergeSpec.{decided_output, decided_entries, merge_output}
+use specs.Calls.MergeSpec.{decided_output, decided_entries, merge_output}
 use specs.Calls.MergeSpec.{lines_decide_disorder, disorder_is_decided}
 use Rattle.ptlines.proofs.Calls.{call_ends, call_set, call_without_slots, given_before, given_by, CallProgress}
 use Rattle.ptlines.proofs.Calls.{DecidedIfReadFailed, call_on_failed_output}
@@ -24,7 +24,7 @@ pub use specs.Calls.MergeSlots.{EnsureFourSlotsErrPost}
 pub use Invariant.*
 pub use SlotLines.*
 pub use specs.Calls.MergeCall.{both_sides, merge_end}
-pub use specs.MergeCall.{merge_engine}
+pub use specs.Calls.MergeSpec.{merge_engine}
 
 -- ---- bounded lag: lines in order
 

@@ -11,12 +11,16 @@ use Rattle.std.proofs.lemmas.Cmp.{tied_itself, upto}
 use Rattle.std.proofs.lemmas.List.{append-nil, map-append}
 use Rattle.std.specs.declared.cmp.Ordering.{Ordering}
 use mathlib.Core.Bool.{true≢false}
-use specs.MergeSpec.{Lines, distinct_keys, keys, lines_with_key, entries_of_key, FirstDisorder, earlier_disorder}
-use specs.MergeSpec.{is_up_to, first_disorder, sorted_prefixes, sorted_prefix}
+use specs.MergeSpec.{Lines, distinct_keys, lines_with_key, FirstDisorder, earlier_disorder}
+use specs.Calls.MergeSpec.{keys, entries_of_key}
+use specs.MergeSpec.{is_up_to, first_disorder, sorted_prefix}
+use specs.Calls.MergeSpec.{sorted_prefixes}
 use Rattle.ptlines.specs.ByteOrder.{Cmp}
-use specs.Orders.{Key, whole_line, line_cmp}
-use specs.Comm.{comm_tool, tab_if_shown, entries}
-use specs.Sides.{both}
+use specs.Orders.{Key, line_cmp}
+use specs.Calls.Sides.{whole_line}
+use specs.Calls.Comm.{comm_tool}
+use specs.Comm.{tab_if_shown, entries}
+use specs.Calls.Sides.{both}
 use Rattle.ptlangs.specs.Jobs.{Comm}
 use specs.declared.key_order.Side.TheVariants.{First, Second}
 use specs.Laws.Outputs.{CommOfItself, CommSwapped, columns}

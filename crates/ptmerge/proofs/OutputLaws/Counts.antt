@@ -11,12 +11,16 @@ use Rattle.std.proofs.lemmas.List.Concat.{length-flat_map}
 use Rattle.std.proofs.lemmas.List.Elements.{filter-append}
 use Rattle.std.proofs.lemmas.List.{replicate-append-replicate, length-map, append-nil}
 use Rattle.std.specs.Cmp.Lexicographic.{bytes_decides}
-use specs.MergeSpec.{Lines, MergeTool, distinct_keys, keys, lines_with_key, entries_of_key, merged_entries, disorder}
-use specs.Comm.{comm_tool, entries}
-use specs.Join.{join_tool, join_key, join_entries, pair_entries, entry, join_fields}
-use specs.Sides.{both}
+use specs.MergeSpec.{Lines, distinct_keys, lines_with_key}
+use specs.Calls.MergeSpec.{MergeTool, keys, entries_of_key, merged_entries, disorder}
+use specs.Calls.Comm.{comm_tool}
+use specs.Comm.{entries}
+use specs.Calls.Join.{join_tool, join_key}
+use specs.Join.{join_entries, pair_entries, entry, join_fields}
+use specs.Calls.Sides.{both}
 use Rattle.ptlangs.specs.Jobs.{Comm, Join}
-use specs.Orders.{Key, whole_line}
+use specs.Orders.{Key}
+use specs.Calls.Sides.{whole_line}
 use specs.declared.key_order.Side.{Side}
 use specs.declared.key_order.Side.TheVariants.{First, Second}
 use specs.Laws.Outputs.{CommSharesFirst, JoinCounts, occurrences, columns}

@@ -11,9 +11,9 @@ use Rattle.ptlines.specs.Slots.{Slots, total_bytes}
 use Rattle.ptlines.specs.Text.{lines}
 use Rattle.ptmerge.specs.Calls.MergeSpec.{disorder_is_decided}
 use Rattle.ptmerge.specs.Calls.Sides.{with_side}
-use Rattle.ptmerge.specs.MergeCall.{merge_engine}
-use Rattle.ptmerge.specs.MergeSpec.{MergeTool}
-use Rattle.ptmerge.specs.Sides.{both}
+use Rattle.ptmerge.specs.Calls.MergeSpec.{merge_engine}
+use Rattle.ptmerge.specs.Calls.MergeSpec.{MergeTool}
+use Rattle.ptmerge.specs.Calls.Sides.{both}
 use Rattle.ptmerge.specs.declared.faults.MergeFault.{MergeFault}
 use Rattle.ptmerge.specs.declared.key_order.Side.{Side}
 use Rattle.ptmerge.specs.declared.key_order.Side.TheVariants.{First, Second}

@@ -11,7 +11,7 @@ use Rattle.ptmerge.specs.Calls.KeySpan.{IsKeySpan, IsValidCursor}
 use Rattle.ptmerge.specs.Calls.MergeSlots.{EnsureFourSlotsErrPost, EnsureFourSlotsPost}
 use Rattle.ptmerge.specs.Orders.{Key}
 use Rattle.ptmerge.specs.Calls.Sides.{other}
-use Rattle.ptmerge.specs.Sides.{both}
+use Rattle.ptmerge.specs.Calls.Sides.{both}
 use Rattle.ptmerge.specs.declared.faults.MergeFault.{MergeFault}
 use Rattle.ptmerge.specs.declared.key_order.Side.{Side}
 use Rattle.ptmerge.specs.declared.key_order.Side.TheVariants.{First, Second}

@@ -1,12 +1,18 @@
 -- Theorems about the output of `comm` and `join` for two lists of lines, which a reader can judge without computing it.
 use Rattle.std.specs.Prelude.{◌≡◌, ℕ, ◌+◌, Bool, true, false, List, [], ◌++◌, length, map, filter, None, bytes_eq}
 use Rattle.std.specs.Prelude.{sum_by, if◌then◌else◌}
+use Rattle.std.specs.List.{flat_map}
 use Rattle.ptlangs.specs.Jobs.{Comm, Join}
 use Rattle.ptmerge.specs.declared.key_order.Side.TheVariants.{First, Second}
-use Rattle.ptmerge.specs.Comm.{comm_tool, tab_if_shown}
-use Rattle.ptmerge.specs.Join.{join_tool, join_key}
-use Rattle.ptmerge.specs.MergeSpec.{Lines, disorder, merged_entries, lines_with_key}
-use Rattle.ptmerge.specs.Sides.{both}
+use Rattle.ptlines.specs.Text.{lines, unlines}
+use Rattle.ptmerge.specs.Calls.Comm.{comm_tool}
+use Rattle.ptmerge.specs.Comm.{comm_disorder, comm_engine, comm_output, entries, tab_if_shown}
+use Rattle.ptmerge.specs.Calls.Join.{join_tool, join_key}
+use Rattle.ptmerge.specs.Calls.MergeSpec.{disorder, merge_engine, merged_entries}
+use Rattle.ptmerge.specs.Calls.Sides.{both}
+use Rattle.ptmerge.specs.Join.{join_disorder, join_engine, join_entries, join_key1, join_key2, join_output}
+use Rattle.ptmerge.specs.MergeSpec.{Lines, distinct_keys, lines_with_key}
+use Rattle.ptmerge.specs.Orders.{line_cmp}
 
 -- `comm` of sorted lines and themselves writes them in the third column.
 abbrev pub CommOfItself : Type 0
@@ -40,3 +46,35 @@ JoinCounts = (job : Join) (a b : Lines) → job.pairs ≡ true → job.unpaired1
     → disorder (join_tool job) (both a b) ≡ None
     → length (merged_entries (join_tool job) (both a b))
     ≡ sum_by (λ line. length (lines_with_key (join_key job Second) b (join_key job First line))) a
+
+-- ---- sorted texts
+
+-- Of sorted texts `comm` writes, for each distinct line of both in order, its columns, by how often each text has it.
+abbrev pub CommOfSorted : Type 0
+CommOfSorted = (job : Comm) (first second : List ℕ) → comm_disorder job first second ≡ None
+    → let a = lines job.terminator first in
+    let b = lines job.terminator second in
+    comm_output job first second
+    ≡ unlines job.terminator (flat_map (λ line. entries job line (occurrences line a) (occurrences line b))
+    (distinct_keys (line_cmp job.descending) (a ++ b)))
+
+-- Of sorted texts `join` writes, for each distinct join field of both in order, the output lines for the lines that
+-- have it.
+abbrev pub JoinOfSorted : Type 0
+JoinOfSorted = (job : Join) (first second : List ℕ) → join_disorder job first second ≡ None
+    → let a = lines job.terminator first in
+    let b = lines job.terminator second in
+    join_output job first second
+    ≡ unlines job.terminator (flat_map
+    (λ k. join_entries job k (lines_with_key (join_key1 job) a k) (lines_with_key (join_key2 job) b k))
+    (distinct_keys (line_cmp job.descending) (map (join_key1 job) a ++ map (join_key2 job) b)))
+
+-- ---- the records that contracts of calls name
+
+-- The engine of `comm`, and that of the merge by whole lines.
+abbrev pub CommIsMerge : Type 0
+CommIsMerge = (job : Comm) → merge_engine (comm_tool job) ≡ comm_engine job
+
+-- The engine of `join`, and that of the merge by join fields.
+abbrev pub JoinIsMerge : Type 0
+JoinIsMerge = (job : Join) → merge_engine (join_tool job) ≡ join_engine job

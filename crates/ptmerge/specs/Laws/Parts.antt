@@ -7,9 +7,10 @@ use Rattle.ptlangs.specs.Jobs.{Comm, Join}
 use Rattle.ptlines.specs.ByteOrder.{Cmp}
 use Rattle.ptlines.specs.Laws.Parts.{HasOnlyCompleteLines}
 use Rattle.ptlines.specs.Text.{lines, unlines}
-use Rattle.ptmerge.specs.Comm.{comm_tool}
-use Rattle.ptmerge.specs.Join.{join_tool}
-use Rattle.ptmerge.specs.MergeSpec.{Lines, MergeTool, disorder, keys, lines_of, merge_output}
+use Rattle.ptmerge.specs.Calls.Comm.{comm_tool}
+use Rattle.ptmerge.specs.Calls.Join.{join_tool}
+use Rattle.ptmerge.specs.MergeSpec.{Lines}
+use Rattle.ptmerge.specs.Calls.MergeSpec.{MergeTool, disorder, keys, lines_of, merge_output}
 use Rattle.ptmerge.specs.declared.key_order.Side.{Side}
 
 -- Both texts are sorted.

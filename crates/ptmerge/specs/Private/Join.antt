@@ -1,7 +1,8 @@
 -- The output of `join`, as an instance of a merge of two inputs by join fields.
 use Rattle.std.specs.Prelude.{ℕ, List, [], ◌∷◌}
 use Rattle.ptlangs.specs.Jobs.{Join}
-use Rattle.ptmerge.specs.Join.{join_key, unpaired_entries1, unpaired_entries2}
+use Rattle.ptmerge.specs.Calls.Join.{join_key}
+use Rattle.ptmerge.specs.Join.{unpaired_entries1, unpaired_entries2}
 use Rattle.ptmerge.specs.MergeSpec.{Lines}
 use Rattle.ptmerge.specs.declared.key_order.Side.{Side}
 use Rattle.ptmerge.specs.declared.key_order.Side.TheVariants.{First, Second}

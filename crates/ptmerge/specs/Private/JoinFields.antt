@@ -8,7 +8,8 @@ use Rattle.memchr.specs.Find.{is_byte}
 use Rattle.ptlangs.specs.Jobs.{Join}
 use Rattle.ptlangs.specs.declared.outlist.OutField.{OutField}
 use Rattle.ptlines.specs.Text.{is_blank}
-use Rattle.ptmerge.specs.Join.{join_fields, join_key, output_fields, output_separator}
+use Rattle.ptmerge.specs.Join.{join_fields, output_fields, output_separator}
+use Rattle.ptmerge.specs.Calls.Join.{join_key}
 use Rattle.ptmerge.specs.MergeSpec.{Lines}
 use Rattle.ptmerge.specs.declared.key_order.Side.{Side}
 use Rattle.ptmerge.specs.declared.key_order.Span.{Span}

@@ -10,7 +10,7 @@ use Rattle.ptlines.specs.Calls.Slots.{line, with_line, with_new_slot}
 use Rattle.ptlines.specs.Readers.{Reader}
 use Rattle.ptlines.specs.Slots.{Slots, total_bytes}
 use Rattle.ptmerge.specs.Calls.Cursor.{NextErrPost, NextOkPost}
-use Rattle.ptmerge.specs.Join.{join_key}
+use Rattle.ptmerge.specs.Calls.Join.{join_key}
 use Rattle.ptmerge.specs.MergeSpec.{Lines}
 use Rattle.ptmerge.specs.Orders.{Key}
 use Rattle.ptmerge.specs.Private.WriteAndAdvance.{AdvancePre, WriteFaultPost}

@@ -10,7 +10,7 @@ use Rattle.ptmerge.specs.Calls.Cursor.{NextErrPost, NextOkPost}
 use Rattle.ptmerge.specs.Calls.MergeSteps.{AreValidCursors, IsReaderOf}
 use Rattle.ptmerge.specs.Calls.Sides.{other}
 use Rattle.ptmerge.specs.Orders.{Key}
-use Rattle.ptmerge.specs.Sides.{both}
+use Rattle.ptmerge.specs.Calls.Sides.{both}
 use Rattle.ptmerge.specs.declared.faults.MergeFault.{MergeFault}
 use Rattle.ptmerge.specs.declared.faults.MergeFault.TheVariants.{Write}
 use Rattle.ptmerge.specs.declared.key_order.Side.{Side}

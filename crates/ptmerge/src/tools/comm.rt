@@ -5,11 +5,12 @@ ghost use Rattle.ptlangs.specs.Jobs.{comm_job};
 ghost use Rattle.ptlines.specs.Calls.Outputs.{PushEffect};
 ghost use Rattle.ptlines.specs.Calls.Slots.{line};
 ghost use Rattle.ptlines.specs.Text.{unlines};
-ghost use Rattle.ptmerge.specs.Comm.{comm_with, comm_tool, tab_if_shown, column_entries};
+ghost use Rattle.ptmerge.specs.Calls.Comm.{comm_with, comm_tool};
+ghost use Rattle.ptmerge.specs.Comm.{tab_if_shown, column_entries};
 ghost use Rattle.ptmerge.specs.Private.MergeCall.{MergeRunPre};
 ghost use Rattle.ptmerge.specs.Calls.MergeCall.{MergePost, MergePre, merge_state};
 ghost use Rattle.ptmerge.specs.Private.WriteAndAdvance.{WriteThenAdvancePost, AdvancePre};
-ghost use Rattle.ptmerge.specs.Sides.{both};
+ghost use Rattle.ptmerge.specs.Calls.Sides.{both};
 ghost use Rattle.ptmerge.specs.declared.key_order.Side.{Side as SideType};
 
 use crate::faults::MergeFault;

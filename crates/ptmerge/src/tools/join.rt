@@ -14,10 +14,11 @@ ghost use Rattle.ptmerge.specs.Private.MergeCall.{MergeRunPre};
 ghost use Rattle.ptmerge.specs.Calls.MergeCall.{MergePost, MergePre, merge_state};
 ghost use Rattle.ptmerge.specs.declared.key_order.Side.{Side as SideType};
 ghost use Rattle.ptmerge.specs.Private.Join.{unpaired_entry};
-ghost use Rattle.ptmerge.specs.Join.{join_with, join_key, join_tool, pair_entries};
+ghost use Rattle.ptmerge.specs.Calls.Join.{join_with, join_key, join_tool};
+ghost use Rattle.ptmerge.specs.Join.{pair_entries};
 ghost use Rattle.ptmerge.specs.Private.WriteAndAdvance.{WriteThenAdvancePost, AdvancePre};
 ghost use Rattle.ptmerge.specs.Private.Write.{WriteBytesPost};
-ghost use Rattle.ptmerge.specs.Sides.{both};
+ghost use Rattle.ptmerge.specs.Calls.Sides.{both};
 ghost use Rattle.ptmerge.specs.declared.key_order.Side.TheVariants as sides;
 
 mod field_keys;

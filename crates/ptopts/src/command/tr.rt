@@ -4,7 +4,8 @@ ghost use Rattle.std.specs.Prelude.{◌≡◌, IfOk, None, slice_get, option_cop
 ghost use Rattle.ptopts.specs.declared.tool.Tool.TheVariants.{Tr};
 ghost use Rattle.ptopts.specs.Faults as faults;
 ghost use Rattle.ptopts.specs.Faults.{form_of_options, operands_fault, strings_fault};
-ghost use Rattle.ptopts.specs.Commands.{char_tables};
+ghost use Rattle.ptlangs.specs.TrTables.{byte_map_of};
+ghost use Rattle.ptopts.specs.Commands.{char_map};
 ghost use Rattle.ptopts.specs.Private.ParseSteps.{CheckPost, options_of, operands_of};
 
 use crate::fault::UseFault;
@@ -47,7 +48,7 @@ impl<'a, A: Allocator + Copy> ParsedArgs<'a, A> {
     pub(crate) fn char_plan(&self) -> Result<CharPlan, UseFault<'a>>
         requires { operands_fault Tr (options_of self.now) (operands_of self.now) ≡ None }
         ensures fault { CheckPost result (strings_fault Tr (options_of self.now) (operands_of self.now)) }
-        ensures plan { IfOk result (λ p. p ≡ char_tables (options_of self.now) (operands_of self.now)) }
+        ensures plan { IfOk result (λ p. byte_map_of p ≡ char_map (options_of self.now) (operands_of self.now)) }
     {
         let plan = CharPlan::read(
             self.form(),

@@ -231,13 +231,13 @@ pub record OperandPost (t : ToolSpec) (p : ℕ) (old new : List Reader) (was is 
 
 -- The precondition of a tool on the operands at these positions.
 abbrev pub RunOnPre : ToolInRun → List ℕ → List Reader → Output → Slots → Type 0
-RunOnPre (OneByOne t law) operands inputs out store = OperandPre operands inputs store
+RunOnPre (OneByOne t) operands inputs out store = OperandPre operands inputs store
 RunOnPre (Together t) operands inputs out store = JointPre t operands inputs out store
 
 -- The postcondition of a tool on the operands at these positions.
 abbrev pub RunOnPost : ToolInRun → List ℕ → List Reader → List Reader → Output → Output → Slots → Slots
     → Result Completion FlowFault → Type 0
-RunOnPost (OneByOne t law) operands old new was is before store result =
+RunOnPost (OneByOne t) operands old new was is before store result =
     OperandPost t (only_operand operands) old new was is before store result
 RunOnPost (Together t) operands old new was is before store result =
     JointPost t operands old new was is before store result

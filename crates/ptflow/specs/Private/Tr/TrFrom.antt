@@ -1,7 +1,7 @@
 -- The output of `tr` for the rest of a text, which depends on the last byte of the output so far.
 use Rattle.std.specs.Prelude.{◌≡◌, ℕ, List, Bool, false, Option, None, Some, slice_index_or}
 use Rattle.std.proofs.Props.{props}
-use Rattle.ptlangs.specs.TrTables.{Tables, squeezes}
+use Rattle.ptlangs.specs.TrPlan.{ByteMap}
 use Rattle.ptflow.specs.declared.simd.byte_set.ByteSet.{ByteSet}
 use Rattle.ptflow.specs.TrOutput.{squeeze_after, squeeze, translation}
 use Rattle.ptflow.specs.Private.Vectors.ByteSets.{IsSetOf}
@@ -12,8 +12,8 @@ squeeze_from squeezed None bytes = squeeze squeezed bytes
 squeeze_from squeezed (Some last) bytes = squeeze_after squeezed last bytes
 
 -- the output for the rest of a text, where `last` is the last byte of the output so far, if there is one
-abbrev pub tr_from : Tables → Option ℕ → List ℕ → List ℕ
-tr_from tables last rest = squeeze_from (squeezes tables) last (translation tables rest)
+abbrev pub tr_from : ByteMap → Option ℕ → List ℕ → List ℕ
+tr_from m last rest = squeeze_from m.squeezes last (translation m rest)
 
 -- the set of the bytes whose flag is set, or nothing if no flag is
 abbrev pub IsOptionalSet : Option ByteSet → List Bool → Type 0

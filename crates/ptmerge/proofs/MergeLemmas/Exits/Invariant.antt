@@ -16,7 +16,8 @@ use specs.Private.OrderLaws.{reversed_same_bytes}
 use Rattle.ptlines.specs.Private.ByteOrder.{byte_cmp_equal}
 pub use Rattle.std.proofs.Common.{rules}
 use proofs.MergeLemmas.Exits.SlotLines.{put_each}
-pub use specs.MergeSpec.{MergeDisorder, is_past, earlier_disorder, insert_key, is_below, is_decided}
+pub use specs.MergeSpec.{MergeDisorder, is_past, earlier_disorder, insert_key, is_below}
+pub use specs.Calls.MergeSpec.{is_decided}
 use lemmas.Cmp.{back_total, nat_list_cmp_total, upto}
 pub use lemmas.List.Elements.{filter-append}
 pub use Rattle.std.specs.declared.cmp.Ordering.{Ordering}

@@ -16,7 +16,7 @@ pub(crate) struct FieldKeys {
 
 impl KeyOrder for FieldKeys {
     ghost use Rattle.std.specs.Cmp.Lexicographic.{nat_list_cmp_total};
-    ghost use Rattle.ptmerge.specs.Join.{field_keys};
+    ghost use Rattle.ptmerge.specs.Calls.Join.{field_keys};
     ghost use Rattle.ptlines.specs.ByteOrder.{byte_cmp};
     ghost use Rattle.ptlines.specs.Private.ByteOrder.{byte_cmp_equal};
 

@@ -4,7 +4,8 @@ ghost use Rattle.std.specs.Prelude.{◌≡◌, ◌≤◌, ◌++◌, IfSome, leng
 ghost use Rattle.std.proofs.Props.{props};
 ghost use Rattle.ptlines.specs.Calls.Outputs.{PushPost};
 ghost use Rattle.ptlangs.specs.Jobs.{join_job};
-ghost use Rattle.ptmerge.specs.Join.{join_fields, join_key, other_fields, output_separator, or_filler, field_named};
+ghost use Rattle.ptmerge.specs.Join.{join_fields, other_fields, output_separator, or_filler, field_named};
+ghost use Rattle.ptmerge.specs.Calls.Join.{join_key};
 ghost use Rattle.ptmerge.specs.Join.{entry};
 ghost use Rattle.ptmerge.specs.Private.JoinFields.{BeginsOutput, IsCanonical, IsKeyOf, IsSplit, around};
 ghost use Rattle.ptmerge.specs.Private.JoinFields.{entry_with_list, remaining_fields};

@@ -56,13 +56,13 @@ returns-in_err-run_on g c =
     let e = err_from_is_err_and c.from_residual.result c.from_residual.ensures.1 in
     done_stopped c.requires.ready.given.fresh c.loop-input.invariant turn.low c.index-inputs-position.result
     (sym c.is_refused.ensures.refused ∙ c.if-is_refused.false) c.is_refused.ensures.sound
-    (ran_in_turn s _ c.requires.in_turn c.run_on.ensures) (decides_all s) _ (read_in_turn s c.requires.in_turn)
+    (ran_in_turn s _ c.requires.in_turn c.run_on.ensures) (decides_all s c.requires.decides) _ (read_in_turn s c.requires.in_turn)
     turn.split c.in_err-run_on.was e.1 e.2
 
 pub returns : goal.returns
 returns g c =
     let s = g.T.Tool.tool c.args.tool.now in
-    done_all c.requires.ready.given.fresh c.loop-input.invariant (decides_all s) (read_in_turn s c.requires.in_turn)
+    done_all c.requires.ready.given.fresh c.loop-input.invariant (decides_all s c.requires.decides) (read_in_turn s c.requires.in_turn)
     (positions_end c.args.order.now c.loop-input.input-index c.loop-input-test.false)
 
 pub bounds-inputs-position : goal.bounds-inputs-position

@@ -43,7 +43,7 @@ returns-then-reads_together g c =
     let unused = c.requires.unused.store in
     stored (g.W.Sink.state c.args.out) (outcome g.W.Sink.state g.E.Sink.state c.end_run.result)
     (rw (none_unopened _ _ _ _ (sym reported.is ∙ none)) at reported.has_said)
-    (together_post _ _ _ s c.report_unopened.new.messages (sym c.reads_together.ensures ∙ c.if-reads_together.true)
+    (together_post _ _ _ s c.report_unopened.new.messages (sym c.reads_together.ensures.is ∙ c.if-reads_together.true)
     c.requires.given reported none (ap (λ (o : Output). o.write_failed) c.new-out.ensures) unused.not_denied unused.empty
     ran)
     (rw (c.name-then-reads_together.ensures, c.deref-names.ensures.value) at c.end_run.ensures) c.new-out.ensures
@@ -58,7 +58,7 @@ returns g c =
     (λ i. spec_of_tool (g.T.Tool.word c.args.tool.now) s (words_view (c.deref-names.ensures.value i))
     (positions (c.deref-order.ensures.value i)))
     (reads_if _ _ _ s _
-    (λ together. absurd (false≢true (sym (sym c.reads_together.ensures ∙ c.if-reads_together.false) ∙ together))))
+    (λ together. absurd (false≢true (sym (sym c.reads_together.ensures.is ∙ c.if-reads_together.false) ∙ together))))
 
 pub report_unopened-requires-clause-in_range : goal.report_unopened-requires-clause-in_range
 report_unopened-requires-clause-in_range g c = rw c.deref-order.ensures.value c.requires.given.in_range

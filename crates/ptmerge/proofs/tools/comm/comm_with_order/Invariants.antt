@@ -3,7 +3,7 @@ use Rattle.ptmerge.proofs
 use proofs.Common.{comm_job, merge_state, both}
 use proofs.CommLemmas.{IterationInvariant}
 use proofs.MergeLemmas.{Kept, reads_ahead}
-use Rattle.ptmerge.specs.Comm.{comm_with}
+use Rattle.ptmerge.specs.Calls.Comm.{comm_with}
 use proofs.tools.comm.comm_with_order.Given as goal
 
 abbrev pub invariant-steps : goal.invariant-steps

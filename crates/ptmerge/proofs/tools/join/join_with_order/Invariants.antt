@@ -4,7 +4,7 @@ use Rattle.ptmerge.proofs
 use proofs.Common.{◌+◌, ◌*◌, join_job, merge_state, both}
 use proofs.JoinLemmas.{IterationInvariant, rank}
 use proofs.MergeLemmas.{Kept, reads_ahead}
-use Rattle.ptmerge.specs.Join.{join_with}
+use Rattle.ptmerge.specs.Calls.Join.{join_with}
 use proofs.tools.join.join_with_order.Given as goal
 
 abbrev pub invariant-steps : goal.invariant-steps

@@ -1,11 +1,19 @@
 -- The operands are the strings of the plan.
 use Rattle.ptopts.proofs
-use proofs.Common.{Bor, Err, List, Result, Some, [], arith, refl, result_err, slice_index_or, words_view, ℕ, ◌≡◌}
+use proofs.Common.{Bor, Err, List, Result, Some, [], arith, refl, result_err, Ok, slice_index_or, words_view, ℕ, ◌≡◌}
 use Rattle.ptlangs.specs.Calls.TrParsing.{ok_map}
-use Rattle.ptlangs.specs.TrPlan.{Plan}
-use Rattle.ptlangs.specs.TrTables.{Tables, tables}
+use Rattle.ptlangs.proofs.TrArrays.{tables_have_map}
+use Rattle.ptlangs.specs.TrPlan.{Plan, byte_map, plan}
+use Rattle.ptlangs.specs.TrTables.{Tables, byte_map_of}
+use Rattle.ptlangs.specs.Calls.TrTables.{tables}
 use Rattle.ptlangs.specs.declared.faults.SetFault.{SetFault}
+use Rattle.ptopts.specs.Commands.{identity_plan}
 use Rattle.std.proofs.Math.ListN.{get_or}
+use Rattle.std.specs.Result.{result_unwrap_or}
+use Rattle.ptopts.specs.Faults.{plan_of_operands}
+use Rattle.ptopts.specs.Private.ParseSteps.{options_of, operands_of}
+use Rattle.std.specs.Prelude.{option_copied}
+use Rattle.std.proofs.Common.{ap, ◌∙◌}
 use proofs.parsing.ParsedArgs.char_plan.Goals as goal
 
 first_word : (words : List (Bor (List ℕ))) (d : Bor (List ℕ)) → d.now ≡ []
@@ -23,5 +31,17 @@ returns-in_err-plan-clause-fault g c = grind (arith, first_word, read_fault)
 pub returns-clause-fault : goal.returns-clause-fault
 returns-clause-fault g c = grind (arith, first_word)
 
+read_map : (p : Result Plan SetFault) (r : Result Tables SetFault) (t : Tables) → r ≡ ok_map tables p → r ≡ Ok t
+    → byte_map_of t ≡ byte_map (result_unwrap_or p identity_plan)
+read_map (Ok plan) r t is ok =
+    let same : t ≡ tables plan = grind (arith, is, ok) in
+    rw same (tables_have_map plan)
+read_map (Err e) r t is ok = absurd (grind (arith, is, ok))
+
 pub returns-clause-plan : goal.returns-clause-plan
-returns-clause-plan g c = grind (arith, first_word)
+returns-clause-plan g c =
+    let same : plan c.form.result c.is_complemented.result c.as_bytes.result.now (option_copied c.second.result)
+    ≡ plan_of_operands (options_of c.args.self.now) (operands_of c.args.self.now) =
+    grind (arith, first_word) in
+    read_map _ _ _ c.read.ensures c.in_ok-plan.was
+    ∙ ap (λ p. byte_map (result_unwrap_or p identity_plan)) same

@@ -1,5 +1,6 @@
 -- The last output byte is the state for the next block. The output is pushed at once, so a failed push leaves a prefix.
 use Rattle.ptflow.proofs
+use Rattle.ptlangs.specs.TrTables.{byte_map_of}
 use proofs.Passes.Exits.{on_err}
 use proofs.TrLemmas.TrFrom.{block_on, front_on}
 use proofs.tools.tr.TranslatorBlockFilter.process_block.Goals as goal
@@ -13,7 +14,7 @@ returns-in_err-push-clause-halts g c =
       pushed = _;
       wrote = c.push.ensures.pushed.wrote;
       fault = c.in_err-push.ensures.pushed.fault;
-      is_prefix = λ rest. (grind (arith, (front_on t.by.plan.now)));
+      is_prefix = λ rest. (grind (arith, (front_on (byte_map_of t.by.plan.now))));
     })
 
 pub returns-clause-continues : goal.returns-clause-continues

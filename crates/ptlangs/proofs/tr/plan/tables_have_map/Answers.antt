@@ -1,0 +1,6 @@
+use Rattle.ptlangs.proofs
+use proofs.TrArrays.{tables_have_map}
+use proofs.tr.plan.tables_have_map.Goals as goal
+
+pub returns : goal.returns
+returns c = tables_have_map

@@ -1,0 +1,6 @@
+use Rattle.ptmerge.proofs
+use proofs.OutputLaws.Sorted.{comm_is_merge}
+use proofs.laws.comm_is_merge.Goals as goal
+
+pub returns : goal.returns
+returns c = comm_is_merge
