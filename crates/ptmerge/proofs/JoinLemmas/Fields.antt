@@ -95,6 +95,35 @@ pub partial_ends : {E : Type 0} {r : Result (Unit {0}) E} {was is new : Output} 
     → PartialWrite was is all now → WriteBytesPost is new bytes r → WriteBytesPost was new all r
 partial_ends e a m = grind (arith, (wrote_then a.clean a.wrote m.wrote))
 
+-- a piece is added to a row, and `rest` is still to be added
+row_whole : (row left piece rest next pushed : List ℕ) → next ≡ piece ++ rest → row ++ piece ≡ pushed ++ left
+    → row ++ next ≡ pushed ++ (left ++ rest)
+row_whole row left piece rest next pushed is split =
+    rw (is, ← append_assoc row piece rest, split, append_assoc pushed left rest)
+
+module _ {was now new : Output} {all next pushed : List ℕ} (row left piece rest : List ℕ)
+    (a : PartialWrite was now all (row ++ next)) (is : next ≡ piece ++ rest) (split : row ++ piece ≡ pushed ++ left)
+    (wrote : PushEffect now new pushed) where
+  pub piece_added : (now.write_failed ≡ false → new.write_failed ≡ false) → PartialWrite was new all (left ++ rest)
+  piece_added clean = record {
+    done = a.done ++ pushed;
+    split = a.split ∙ ap (λ l. a.done ++ l) (row_whole row left piece rest next pushed is split)
+        ∙ sym (append_assoc a.done pushed (left ++ rest));
+    wrote = wrote_then a.clean a.wrote wrote;
+    clean = λ fine. clean (a.clean fine);
+  }
+
+  pub piece_fails : new.write_failed ≡ true → {E : Type 0} {r : Result (Unit {0}) E} (P : E → Type 0) → IsErrAnd r P
+      → WriteBytesPost was new all r
+  piece_fails fault P err_is =
+      partial_fails P err_is (left ++ rest) (row_whole row left piece rest next pushed is split) a wrote fault
+
+pub first_piece_fails : {was new : Output} {all pushed : List ℕ} (row left piece rest : List ℕ) → row ≡ []
+    → all ≡ piece ++ rest → row ++ piece ≡ pushed ++ left → PushEffect was new pushed → new.write_failed ≡ true
+    → {E : Type 0} {r : Result (Unit {0}) E} (P : E → Type 0) → IsErrAnd r P → WriteBytesPost was new all r
+first_piece_fails row left piece rest empty all split wrote fault P err_is =
+    piece_fails row left piece rest (partial_starts (rw empty all)) refl split wrote fault P err_is
+
 -- one call for each item of a list
 module _ {X : Type 0} (f : X → List ℕ) {xs more : List X} {x : X} (is : xs ≡ x ∷ more) {was now new : Output}
     {all : List ℕ} (a : PartialWrite was now all (flat_map f xs)) (wrote : PushEffect now new (f x)) where

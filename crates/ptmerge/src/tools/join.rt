@@ -25,6 +25,7 @@ mod fields;
 mod key_group;
 mod masks;
 mod output;
+mod row;
 mod separators;
 mod words;
 

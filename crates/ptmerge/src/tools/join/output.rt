@@ -15,6 +15,7 @@ ghost use Rattle.ptmerge.specs.declared.key_order.Side.TheVariants.{First, Secon
 
 use crate::key_order::{Side, Span};
 use crate::tools::join::fields::{SplitLine, next_word};
+use crate::tools::join::row::Row;
 use ptlangs::jobs::JoinJob;
 use ptlangs::outlist::{File, OutField};
 use ptlines::{Out, Sink, WriteFault};
@@ -208,14 +209,15 @@ fn write_listed_fields<A: Allocator, W: Sink>(
     };
     let one = SplitLine::new(entry.job.sep, entry.one.unwrap_or(b""));
     let two = SplitLine::new(entry.job.sep, entry.two.unwrap_or(b""));
-    out.push(item_or_filler(entry, one, two, *first))?;
-    let prefix = entry.job.sep.unwrap_or(b' ');
+    let mut row = Row::new();
+    row.add(b"", item_or_filler(entry, one, two, *first), out)?;
+    let separator = entry.job.sep.unwrap_or(b' ');
     let mut rest = others;
     'items: while let [item, more @ ..] = rest {
-        write_prefixed_field(prefix, item_or_filler(entry, one, two, *item), out)?;
+        row.add(&[separator], item_or_filler(entry, one, two, *item), out)?;
         rest = more;
     }
-    Ok(())
+    row.push(out)
 }
 
 // Writes an output line field by field, without its terminator.
