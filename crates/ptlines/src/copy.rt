@@ -1,7 +1,7 @@
-//! A copy of a byte string that is fast for few bytes, used by the tools.
+//! Copies of byte strings that are fast for few bytes, used by the tools.
 
 ghost use Rattle.std.specs.Prelude.{◌≡◌, ◌≤◌, ◌+◌, ◌-◌, ◌++◌, length, take, drop};
-ghost use Rattle.ptlines.specs.Private.Bounds.{CopyChunkPre};
+ghost use Rattle.ptlines.specs.Private.Bounds.{CopyChunkPre, IsCoveredByEnds};
 
 use std::simd::prelude::*;
 
@@ -13,6 +13,38 @@ fn copy_chunk<const N: usize>(bytes: &[u8], from: usize, into: &mut [u8], at: us
     ensures copied { take (at + N) into.new ≡ take at into.old ++ take N (drop from bytes.now) }
 {
     Simd::<u8, N>::from_slice(&bytes[from..]).copy_to_slice(&mut into[at..]);
+}
+
+// Copies all bytes as one vector of the first `N` bytes and one of the last `N`. The two may overlap.
+#[inline(always)]
+fn copy_overlapping<const N: usize>(bytes: &[u8], into: &mut [u8], at: usize)
+    requires few { IsCoveredByEnds N bytes.now }
+    requires room { at + length bytes.now ≤ length into.old }
+    ensures long { length into.new ≡ length into.old }
+    ensures copied { take (at + length bytes.now) into.new ≡ take at into.old ++ bytes.now }
+{
+    let last = bytes.len() - N;
+    copy_chunk::<N>(bytes, 0, into, at);
+    copy_chunk::<N>(bytes, last, into, at + last);
+}
+
+/// Copies all bytes to the index `at` of `into`, and changes nothing after them. Up to 64 are copied without a call.
+#[inline(always)]
+pub fn copy_all(bytes: &[u8], into: &mut [u8], at: usize)
+    requires { at + length bytes.now ≤ length into.old }
+    ensures long { length into.new ≡ length into.old }
+    ensures copied { take (at + length bytes.now) into.new ≡ take at into.old ++ bytes.now }
+{
+    match bytes.len() {
+        0 => {}
+        1 => copy_overlapping::<1>(bytes, into, at),
+        2..=3 => copy_overlapping::<2>(bytes, into, at),
+        4..=7 => copy_overlapping::<4>(bytes, into, at),
+        8..=15 => copy_overlapping::<8>(bytes, into, at),
+        16..=31 => copy_overlapping::<16>(bytes, into, at),
+        32..=64 => copy_overlapping::<32>(bytes, into, at),
+        _ => copy_long(bytes, into, at),
+    }
 }
 
 // Copies any number of bytes. It is out of line, so that few bytes are copied without a call.

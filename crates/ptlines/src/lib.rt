@@ -17,7 +17,7 @@ mod std_io;
 mod store;
 
 pub use cmp::compare;
-pub use copy::copy_short;
+pub use copy::{copy_all, copy_short};
 pub use find::{find_byte, find_in_chunk};
 pub use out::{Out, WriteFault, write_out};
 pub use parts::parts_of_lines;

@@ -19,20 +19,22 @@ use proofs.Common.{drop_more}
 use lemmas.List.{take_all, length-take-le, drop-map, map-id, take-map, drop-drop, length-map, take-append-drop}
 use lemmas.List.Quantifiers.{position-Some}
 use Rattle.ptlangs.specs.declared.outlist.OutField.{OutField}
+use proofs.Common.{First, Second, Side}
 use specs.declared.key_order.Span.{Span}
 use lemmas.Simd.{mask_l-lt, trailing_mask_l}
 use Rattle.std.specs.Simd.Lanes.{chunk, mask_l, top, zip2}
-use Rattle.memchr.specs.Find.{is_byte, IsFirstByte}
+use Rattle.memchr.specs.Find.{is_byte, is_byte2, IsFirstByte}
 use Rattle.std.proofs.Math.Nat.{div-div-eq-div-mul, mul-lt-mul_of_pos_right, mul_assoc, one-le-pow}
 use Rattle.std.proofs.Math.Pow.{pow-add, pow-lt, pow_mono}
 use lib.Bits.{and_step, or_step, or_zero_l, or_zero_r, and_zero_l, or_shifted_r, and_mod, and_le_l, and_self, or_self}
 use lib.Count.{count_trailing_zeros}
-use Rattle.ptlines.proofs.MatchMasks.{shifted}
+use Rattle.ptlines.proofs.MatchMasks.{shifted, none_if_zero_mask, first_at_lowest_bit}
 use lemmas.List.Sums.{position_or_len_is}
 use Rattle.ptlangs.proofs.ListElements.{split_around, split_whole}
-use specs.Join.{or_filler, is_nonempty, field_named, nth_field}
+use specs.Join.{join_key, or_filler, is_nonempty, field_named, nth_field}
 use specs.Private.JoinFields.{IsFieldAt, IsFieldFound, IsFirstPieceEnd, IsCanonical, IsFieldIn, IsPiece, around}
-use specs.Private.JoinFields.{is_evenly_separated, has_single_spaces}
+use specs.Private.Join.{entry_alone}
+use specs.Private.JoinFields.{HasOneLine, IsUnchanged, is_evenly_separated, has_single_spaces}
 use specs.Calls.KeySpan.{IsKeySpan}
 
 -- ---- writes
@@ -92,6 +94,35 @@ partial_more e a wrote clean = partial_first (grind usual) (wrote_then a.clean a
 pub partial_ends : {E : Type 0} {r : Result (Unit {0}) E} {was is new : Output} {all bytes now : List ℕ} → now ≡ bytes
     → PartialWrite was is all now → WriteBytesPost is new bytes r → WriteBytesPost was new all r
 partial_ends e a m = grind (arith, (wrote_then a.clean a.wrote m.wrote))
+
+-- a piece is added to a row, and `rest` is still to be added
+row_whole : (row left piece rest next pushed : List ℕ) → next ≡ piece ++ rest → row ++ piece ≡ pushed ++ left
+    → row ++ next ≡ pushed ++ (left ++ rest)
+row_whole row left piece rest next pushed is split =
+    rw (is, ← append_assoc row piece rest, split, append_assoc pushed left rest)
+
+module _ {was now new : Output} {all next pushed : List ℕ} (row left piece rest : List ℕ)
+    (a : PartialWrite was now all (row ++ next)) (is : next ≡ piece ++ rest) (split : row ++ piece ≡ pushed ++ left)
+    (wrote : PushEffect now new pushed) where
+  pub piece_added : (now.write_failed ≡ false → new.write_failed ≡ false) → PartialWrite was new all (left ++ rest)
+  piece_added clean = record {
+    done = a.done ++ pushed;
+    split = a.split ∙ ap (λ l. a.done ++ l) (row_whole row left piece rest next pushed is split)
+        ∙ sym (append_assoc a.done pushed (left ++ rest));
+    wrote = wrote_then a.clean a.wrote wrote;
+    clean = λ fine. clean (a.clean fine);
+  }
+
+  pub piece_fails : new.write_failed ≡ true → {E : Type 0} {r : Result (Unit {0}) E} (P : E → Type 0) → IsErrAnd r P
+      → WriteBytesPost was new all r
+  piece_fails fault P err_is =
+      partial_fails P err_is (left ++ rest) (row_whole row left piece rest next pushed is split) a wrote fault
+
+pub first_piece_fails : {was new : Output} {all pushed : List ℕ} (row left piece rest : List ℕ) → row ≡ []
+    → all ≡ piece ++ rest → row ++ piece ≡ pushed ++ left → PushEffect was new pushed → new.write_failed ≡ true
+    → {E : Type 0} {r : Result (Unit {0}) E} (P : E → Type 0) → IsErrAnd r P → WriteBytesPost was new all r
+first_piece_fails row left piece rest empty all split wrote fault P err_is =
+    piece_fails row left piece rest (partial_starts (rw empty all)) refl split wrote fault P err_is
 
 -- one call for each item of a list
 module _ {X : Type 0} (f : X → List ℕ) {xs more : List X} {x : X} (is : xs ≡ x ∷ more) {was now new : Output}
@@ -260,25 +291,26 @@ module _ (job : Join) (key : List ℕ) (none : job.list ≡ None) where
   pair_is {one} {two} end w1 w2 keyed1 keyed2 =
       grind (usual, append_assoc, entry_plain job key (Some one) (Some two))
 
-  pub first_is : {line : List ℕ} → IsCanonical job.separator job.field1 line → nth_field job.field1 (of line) ≡ key
+  first_is : {line : List ℕ} → IsCanonical job.separator job.field1 line → nth_field job.field1 (of line) ≡ key
       → line ≡ entry job key (of line) []
   first_is {line} w keyed = grind (arith, entry_plain job key (Some line) None, append-nil)
 
-  pub second_is : {line : List ℕ} → IsCanonical job.separator job.field2 line → nth_field job.field2 (of line) ≡ key
+  second_is : {line : List ℕ} → IsCanonical job.separator job.field2 line → nth_field job.field2 (of line) ≡ key
       → line ≡ entry job key [] (of line)
   second_is {line} w keyed = grind (arith, entry_plain job key None (Some line))
 
+pub alone_is : (job : Join) (key : List ℕ) (side : Side) {line : List ℕ} → IsUnchanged job side line
+    → join_key job side line ≡ key → line ≡ entry_alone job side key line
+alone_is job key First w keyed = first_is job key w.list w.canonical keyed
+alone_is job key Second w keyed = second_is job key w.list w.canonical keyed
+
+pub one_line_is : {job same : Join} {key k : List ℕ} (side : Side) (line : List ℕ) (one two : Option (List ℕ))
+    → same ≡ job → k ≡ key → HasOneLine side line one two
+    → entry_with_list same same.list k one two ≡ entry_alone job side key line
+one_line_is First line one two jobs keys is = rw (jobs, keys, is.0, is.1)
+one_line_is Second line one two jobs keys is = rw (jobs, keys, is.0, is.1)
+
 -- ---- blanks
-
--- the lanes that equal a byte, as masks
-abbrev equal_lanes : List ℕ → ℕ → ℕ → List ℕ
-equal_lanes v n byte = zip2 (λ a b. cond (eqb a b) 255 0) v (replicate n byte)
-
-pub blank_lanes : (v : List ℕ) (n : ℕ) → length v ≡ n
-    → map (top 7) (zip2 bit_or (equal_lanes v n 32) (equal_lanes v n 9)) ≡ map is_blank v
-blank_lanes [] n long = refl
-blank_lanes (b ∷ v) zero long = absurd (omega arith)
-blank_lanes (b ∷ v) (suc n) long = grind (arith, blank_lanes v n (omega arith))
 
 space_is : (blank : Bool) (b : ℕ) (v : List ℕ) → is_blank b ≡ true → is_single_spaced blank (b ∷ v) ≡ true
     → (b ≡ 32) × (is_single_spaced true v ≡ true)
@@ -423,6 +455,17 @@ ends_mask test bytes n first all few =
       pow_mono {j = 64} le,
     )
 
+-- ---- blanks as the bytes that are a space or a tab
+
+either_mask : (a b : ℕ) (bytes : List ℕ) → bit_or (mask_l (map (is_byte a) bytes)) (mask_l (map (is_byte b) bytes))
+    ≡ mask_l (map (is_byte2 a b) bytes)
+either_mask a b [] = or_zero_l 0
+either_mask a b (x ∷ bytes) = grind (arith, or_bits, either_mask a b bytes)
+
+pub blanks_are : (spaces tabs : ℕ) (bytes : List ℕ) → spaces ≡ mask_l (map (is_byte 32) bytes)
+    → tabs ≡ mask_l (map (is_byte 9) bytes) → bit_or spaces tabs ≡ mask_l (map is_blank bytes)
+blanks_are spaces tabs bytes first second = rw (first, second) (either_mask 32 9 bytes)
+
 -- ---- single spaces
 
 no_misplaced : (blank : Bool) (bytes : List ℕ)
@@ -430,6 +473,25 @@ no_misplaced : (blank : Bool) (bytes : List ℕ)
     (bit blank + 2 * mask_l (map is_blank bytes)))) 0 ≡ has_single_spaces blank bytes
 no_misplaced blank [] = cc
 no_misplaced blank (b ∷ bytes) = grind (arith, and_bits, or_bits, no_misplaced (is_blank b) bytes)
+
+-- ---- the first blank of a short line
+
+whole_chunk : (bytes : List ℕ) → chunk 0 (length bytes) bytes ≡ bytes
+whole_chunk bytes = take_all (length bytes) bytes (omega arith)
+
+pub none_if_no_blank : (bytes : List ℕ) (m : ℕ) → m ≡ mask_l (map is_blank bytes) → m ≡ 0
+    → IsFirstByte is_blank bytes None
+none_if_no_blank bytes m is none =
+    let chunked : m ≡ mask_l (map is_blank (chunk 0 (length bytes) bytes)) = rw (whole_chunk bytes) is in
+    let nowhere = none_if_zero_mask is_blank bytes 0 (length bytes) m (omega arith) chunked none in
+    λ k low high. nowhere k low (omega arith)
+
+pub first_blank_at : (bytes : List ℕ) (m : ℕ) → length bytes ≤ 64 → m ≡ mask_l (map is_blank bytes) → (m ≡ 0 → ⊥)
+    → IsFirstByte is_blank bytes (Some (count_trailing_zeros 64 m))
+first_blank_at bytes m few is some =
+    let chunked : m ≡ mask_l (map is_blank (chunk 0 (length bytes) bytes)) = rw (whole_chunk bytes) is in
+    let (first, found) = first_at_lowest_bit is_blank bytes 0 (length bytes) m few (omega arith) chunked some in
+    grind arith
 
 pub single_spaces_is : (any before : ℕ) (bytes : List ℕ) → before ≤ 1 → length bytes ≤ 64
     → any ≡ mask_l (map is_blank bytes)

@@ -11,8 +11,11 @@ use Rattle.ptlines.specs.Text.{is_blank}
 use Rattle.ptmerge.specs.Join.{join_fields, output_fields, output_separator}
 use Rattle.ptmerge.specs.Calls.Join.{join_key}
 use Rattle.ptmerge.specs.MergeSpec.{Lines}
+use Rattle.ptmerge.specs.Sides.{both}
 use Rattle.ptmerge.specs.declared.key_order.Side.{Side}
+use Rattle.ptmerge.specs.declared.key_order.Side.TheVariants.{First, Second}
 use Rattle.ptmerge.specs.declared.key_order.Span.{Span}
+use Rattle.ptmerge.specs.declared.tools.join.masks.Masks.{Masks}
 use Rattle.ptmerge.specs.declared.tools.join.words.Blanks.{Blanks}
 
 -- The byte separates fields: it is the separator of `-t`, or a blank.
@@ -45,11 +48,15 @@ pub record IsCanonical (separator : Option ℕ) (number : ℕ) (line : List ℕ)
   pub first : number - 1 ≡ 0
   pub is : with_prefix (output_separator separator) (join_fields separator line) ≡ output_separator separator ∷ line
 
--- The output lines of this line of the first input begin with it, unchanged: there is no output list, and the line is
--- canonical.
-pub record BeginsOutput (job : Join) (line : List ℕ) : Type 0 where
+-- The fields of this line of a file are written as they stand in it: there is no output list, and the line is canonical.
+pub record IsUnchanged (job : Join) (side : Side) (line : List ℕ) : Type 0 where
   pub list : job.list ≡ None
-  pub canonical : IsCanonical job.separator job.field1 line
+  pub canonical : IsCanonical job.separator (both job.field1 job.field2 side) line
+
+-- This line is the only one, of its file.
+abbrev pub HasOneLine : Side → List ℕ → Option (List ℕ) → Option (List ℕ) → Type 0
+HasOneLine First line one two = (one ≡ Some line) × (two ≡ None)
+HasOneLine Second line one two = (one ≡ None) × (two ≡ Some line)
 
 -- The bytes are words with a single space between them, and without blanks at either end. `blank` is true if a blank
 -- precedes the bytes.
@@ -63,6 +70,11 @@ abbrev pub has_single_spaces : Bool → List ℕ → Bool
 has_single_spaces blank [] = true
 has_single_spaces blank (b ∷ bytes) =
     if (b == 9) || (blank && (b == 32)) then false else has_single_spaces (b == 32) bytes
+
+-- The masks of the bytes `a` and `b` among these bytes.
+pub record AreMasks (a b : ℕ) (bytes : List ℕ) (masks : Masks) : Type 0 where
+  pub first : masks.first ≡ mask_l (map (is_byte a) bytes)
+  pub second : masks.second ≡ mask_l (map (is_byte b) bytes)
 
 -- The masks of the blanks and of the tabs among these bytes.
 pub record AreBlanks (bytes : List ℕ) (blanks : Blanks) : Type 0 where

@@ -1,7 +1,7 @@
 //! The engine of `join`: a merge that keeps the second input's lines of one key at a time, if it writes pairs.
 //!
 //! `field_keys` is the order of lines by their join fields, and `key_group` copies the lines of a key. `fields` splits
-//! a line into fields, `output` writes an output line, and `separators` and `words` find separators and blanks by masks.
+//! a line into fields, `output` writes an output line, and `separators` and `words` find separators and blanks by `masks`.
 
 ghost use Rattle.std.specs.Prelude.{◌≡◌, ℕ, List, ◌∷◌, []};
 ghost use Rattle.ptlangs.specs.Jobs.{join_job};
@@ -24,7 +24,9 @@ ghost use Rattle.ptmerge.specs.declared.key_order.Side.TheVariants as sides;
 mod field_keys;
 mod fields;
 mod key_group;
+mod masks;
 mod output;
+mod row;
 mod separators;
 mod words;
 
@@ -35,7 +37,7 @@ use crate::merging::four_slots::clear_four_slots;
 use crate::merging::{Merge, Step};
 use crate::tools::join::field_keys::FieldKeys;
 use crate::tools::join::key_group::{clear_group, group_slots, read_group_line};
-use crate::tools::join::output::{begins_output, write_first, write_pair, write_second};
+use crate::tools::join::output::{is_unchanged, write_alone, write_pair};
 use ptlangs::jobs::JoinJob;
 use ptlines::{LineReader, Out, Sink, Source, Store, WriteFault};
 use std::alloc::Allocator;
@@ -54,11 +56,14 @@ fn write_unpaired_entry<B: Allocator, W: Sink>(
     ensures { let entry = unpaired_entry (join_job job.now) side line.now in
         WriteBytesPost out.old out.new (unlines terminator entry) result }
 {
-    match side {
-        First if job.unpaired[0] => write_first(job, key, line, terminator, out),
-        Second if job.unpaired[1] => write_second(job, key, line, terminator, out),
-        _ => Ok(()),
+    let is_written = match side {
+        First => job.unpaired[0],
+        Second => job.unpaired[1],
+    };
+    if !is_written {
+        return Ok(());
     }
+    write_alone(job, side, key, line, terminator, out)
 }
 
 // Writes the output line of `line` with each line of the group, which is in the slots from `from` to before `end`.
@@ -83,7 +88,7 @@ fn write_pair_entries<A: Allocator + Copy, B: Allocator, W: Sink>(
     if !job.pairs {
         return Ok(());
     }
-    let begins = begins_output(job, line);
+    let begins = is_unchanged(job, First, line);
     for slot in from..end {
         let other = store.line(slot);
         write_pair(job, key, line, begins, other, terminator, out)?;

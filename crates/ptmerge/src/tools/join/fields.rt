@@ -1,11 +1,12 @@
 //! Fields of a line of `join`, between separators (`-t`) or else between blanks. `output` finds fields in a `SplitLine`
-//! or one after another (`next_field`), and `field_keys` finds the span of the join field (`field_span`).
+//! or one after another (`next_word`), and `field_keys` finds the span of the join field (`field_span`).
 
 ghost use Rattle.std.specs.Prelude.{◌≡◌, ◌∷◌, [], None, Some, ◌<◌, ◌+◌, length, position, option_copied, IfSome};
 ghost use Rattle.std.specs.Prelude.{MatchOption, map, ℕ};
 ghost use Rattle.std.specs.List.{slice_split};
 ghost use Rattle.std.specs.Simd.Lanes.{mask_l};
 ghost use Rattle.memchr.specs.Find.{is_byte};
+ghost use Rattle.ptlines.specs.Text.{is_blank};
 ghost use Rattle.ptmerge.specs.Join.{nth_field};
 ghost use Rattle.ptmerge.specs.Private.JoinFields.{AreBlanks, IsFieldFound, IsFirstPieceEnd, IsFieldIn, IsPiece};
 ghost use Rattle.ptmerge.specs.Private.JoinFields.{is_evenly_separated, is_separator, remaining_fields};
@@ -28,52 +29,47 @@ fn field_end(separator: Option<u8>, bytes: &[u8]) -> Option<usize>
     }
 }
 
-// Splits `bytes` at the first separator or blank, which is dropped: the bytes before it and, if there is one, those
-// after it.
+// Splits `bytes` at the first blank, which is dropped: the bytes before it and, if there is one, those after it.
 #[inline(always)]
 #[tactic(auto, using(crate::proofs::JoinLemmas::Fields::first_piece_steps))]
-fn first_piece(separator: Option<u8>, bytes: &[u8]) -> (&[u8], Option<&[u8]>)
+fn first_piece(bytes: &[u8]) -> (&[u8], Option<&[u8]>)
     ensures first { MatchOption result.1
-        (slice_split (is_separator separator) bytes.now ≡ result.0.now ∷ [])
-        (λ remainder. slice_split (is_separator separator) bytes.now
-        ≡ result.0.now ∷ slice_split (is_separator separator) remainder.now) }
+        (slice_split is_blank bytes.now ≡ result.0.now ∷ [])
+        (λ remainder. slice_split is_blank bytes.now ≡ result.0.now ∷ slice_split is_blank remainder.now) }
     ensures shorter { MatchOption result.1 (result.0.now ≡ bytes.now)
         (λ remainder. length remainder.now < length bytes.now) }
-    ensures is_piece { IsPiece separator bytes.now result.0.now (option_copied result.1) }
+    ensures is_piece { IsPiece None bytes.now result.0.now (option_copied result.1) }
 {
-    match field_end(separator, bytes) {
+    match field_end(None, bytes) {
         None => (bytes, None),
         Some(end) => (&bytes[..end], Some(&bytes[end + 1..])),
     }
 }
 
-// Returns the first field of the rest of a line and the rest after this field, or `None` if there are no more fields.
-pub(crate) fn next_field<'a>(
-    separator: Option<u8>,
-    line: Option<&'a [u8]>,
-) -> Option<(&'a [u8], Option<&'a [u8]>)>
+// Returns the first word of the rest of a line and the rest after this word, or `None` if there are no more words.
+pub(crate) fn next_word<'a>(line: Option<&'a [u8]>) -> Option<(&'a [u8], Option<&'a [u8]>)>
     ensures first { MatchOption result
-        (remaining_fields separator (option_copied line.entry) ≡ [])
-        (λ r. remaining_fields separator (option_copied line.entry)
-        ≡ r.0.now ∷ remaining_fields separator (option_copied r.1)) }
-    ensures is_piece { IfSome result (λ r. IsFieldIn separator (option_copied line.entry) r.0.now (option_copied r.1)) }
+        (remaining_fields None (option_copied line.entry) ≡ [])
+        (λ r. remaining_fields None (option_copied line.entry)
+        ≡ r.0.now ∷ remaining_fields None (option_copied r.1)) }
+    ensures is_piece { IfSome result (λ r. IsFieldIn None (option_copied line.entry) r.0.now (option_copied r.1)) }
 {
     let mut left = line;
     'pieces: while let Some(bytes) = left {
-        let (field, remainder) = first_piece(separator, bytes);
-        if separator.is_some() || !field.is_empty() {
-            return Some((field, remainder));
+        let (word, remainder) = first_piece(bytes);
+        if !word.is_empty() {
+            return Some((word, remainder));
         }
         left = remainder;
     }
     None
 }
 
-// Returns the span of `field` in `line`, of which `remainder` is the rest after this field.
+// Returns the span of `word` in `line`, of which `remainder` is the rest after this word.
 #[inline(always)]
-fn span_of_field(separator: Option<u8>, line: &[u8], field: &[u8], remainder: Option<&[u8]>) -> Span
-    requires { IsPiece separator line.now field.now (option_copied remainder) }
-    ensures span { IsKeySpan line.now field.now result }
+fn span_of_word(line: &[u8], word: &[u8], remainder: Option<&[u8]>) -> Span
+    requires { IsPiece None line.now word.now (option_copied remainder) }
+    ensures span { IsKeySpan line.now word.now result }
     ensures end { MatchOption (option_copied remainder.entry) (result.end ≡ length line.now)
         (λ bytes. result.end + 1 + length bytes ≡ length line.now) }
 {
@@ -82,25 +78,25 @@ fn span_of_field(separator: Option<u8>, line: &[u8], field: &[u8], remainder: Op
         None => line.len(),
     };
     Span {
-        start: end - field.len(),
+        start: end - word.len(),
         end,
     }
 }
 
-// Returns the span of the field with this number, counted from 1, or `None` if there is none. Not inlined, so that
-// finding a word of a short line stays small.
+// Returns the span of the word with this number, counted from 1, in a line of any length, or `None` if there is none.
+// Not inlined, so that finding a word of a short line stays small.
 #[inline(never)]
 #[tactic(auto, using(crate::proofs::JoinLemmas::Fields::remaining_steps))]
-fn find_by_pieces(separator: Option<u8>, number: u64, line: &[u8]) -> Option<Span>
-    ensures { IsFieldFound separator number line.now result }
+fn find_word_long(number: u64, line: &[u8]) -> Option<Span>
+    ensures { IsFieldFound None number line.now result }
 {
     let mut left = Some(line);
     for _passed in 0..number.saturating_sub(1) {
-        let (_, remainder) = next_field(separator, left)?;
+        let (_, remainder) = next_word(left)?;
         left = remainder;
     }
-    let (field, remainder) = next_field(separator, left)?;
-    Some(span_of_field(separator, line, field, remainder))
+    let (word, remainder) = next_word(left)?;
+    Some(span_of_word(line, word, remainder))
 }
 
 // Returns the blanks of a short line without separators. The result for others does not matter.
@@ -161,7 +157,7 @@ impl<'a> SplitLine<'a> {
             Some(byte) if is_short => find_separated(byte, number, self.line, self.separators),
             Some(byte) => find_separated_long(byte, number, self.line),
             None if is_short => find_word(number, self.line, self.blanks),
-            None => find_by_pieces(None, number, self.line),
+            None => find_word_long(number, self.line),
         }
     }
 

@@ -7,14 +7,16 @@ ghost use Rattle.ptlangs.specs.Jobs.{join_job};
 ghost use Rattle.ptmerge.specs.Join.{join_fields, other_fields, output_separator, or_filler, field_named};
 ghost use Rattle.ptmerge.specs.Calls.Join.{join_key};
 ghost use Rattle.ptmerge.specs.Join.{entry};
-ghost use Rattle.ptmerge.specs.Private.JoinFields.{BeginsOutput, IsCanonical, IsKeyOf, IsSplit, around};
+ghost use Rattle.ptmerge.specs.Private.JoinFields.{HasOneLine, IsCanonical, IsKeyOf, IsSplit, IsUnchanged, around};
 ghost use Rattle.ptmerge.specs.Private.JoinFields.{entry_with_list, remaining_fields};
 ghost use Rattle.ptmerge.specs.Private.JoinFields.{with_prefix};
+ghost use Rattle.ptmerge.specs.Private.Join.{entry_alone};
 ghost use Rattle.ptmerge.specs.Private.Write.{WriteBytesPost};
 ghost use Rattle.ptmerge.specs.declared.key_order.Side.TheVariants.{First, Second};
 
-use crate::key_order::Span;
-use crate::tools::join::fields::{SplitLine, next_field};
+use crate::key_order::{Side, Span};
+use crate::tools::join::fields::{SplitLine, next_word};
+use crate::tools::join::row::Row;
 use ptlangs::jobs::JoinJob;
 use ptlangs::outlist::{File, OutField};
 use ptlines::{Out, Sink, WriteFault};
@@ -35,7 +37,7 @@ fn write_words<W: Sink>(line: Option<&[u8]>, out: &mut Out<W>) -> Result<(), Wri
         result }
 {
     let mut left = line;
-    'words: while let Some((word, remainder)) = next_field(None, left) {
+    'words: while let Some((word, remainder)) = next_word(left) {
         write_prefixed_field(b' ', word, out)?;
         left = remainder;
     }
@@ -50,13 +52,13 @@ fn write_other_words<W: Sink>(number: u64, line: &[u8], out: &mut Out<W>) -> Res
 {
     let mut left = Some(line);
     for _passed in 0..number.saturating_sub(1) {
-        let Some((word, remainder)) = next_field(None, left) else {
+        let Some((word, remainder)) = next_word(left) else {
             return Ok(());
         };
         write_prefixed_field(b' ', word, out)?;
         left = remainder;
     }
-    match next_field(None, left) {
+    match next_word(left) {
         None => Ok(()),
         Some((_, remainder)) => write_words(remainder, out),
     }
@@ -113,6 +115,32 @@ struct Entry<'a, A: Allocator> {
     two: Option<&'a [u8]>,
     ghost keyed1: { IsKeyOf (join_job job.now) First key.now (option_copied one) } by { Prim.hlevel props },
     ghost keyed2: { IsKeyOf (join_job job.now) Second key.now (option_copied two) } by { Prim.hlevel props },
+}
+
+impl<'a, A: Allocator> Entry<'a, A> {
+    // Returns the content of the output line of an unpaired line.
+    #[inline(always)]
+    fn alone(job: &'a JoinJob<A>, side: Side, key: &'a [u8], line: &'a [u8]) -> Self
+        requires { join_key (join_job job.now) side line.now ≡ key.now }
+        ensures job { result.job.now ≡ job.now }
+        ensures key { result.key.now ≡ key.now }
+        ensures lines { HasOneLine side line.now (option_copied result.one) (option_copied result.two) }
+    {
+        match side {
+            Side::First => Entry {
+                job,
+                key,
+                one: Some(line),
+                two: None,
+            },
+            Side::Second => Entry {
+                job,
+                key,
+                one: None,
+                two: Some(line),
+            },
+        }
+    }
 }
 
 // Returns the field that an item of the output list names: the join field, or a field of one of the lines. If that is
@@ -182,14 +210,15 @@ fn write_listed_fields<A: Allocator, W: Sink>(
     };
     let one = SplitLine::new(entry.job.sep, entry.one.unwrap_or(b""));
     let two = SplitLine::new(entry.job.sep, entry.two.unwrap_or(b""));
-    out.push(item_or_filler(entry, one, two, *first))?;
-    let prefix = entry.job.sep.unwrap_or(b' ');
+    let mut row = Row::new();
+    row.add(b"", item_or_filler(entry, one, two, *first), out)?;
+    let separator = entry.job.sep.unwrap_or(b' ');
     let mut rest = others;
     'items: while let [item, more @ ..] = rest {
-        write_prefixed_field(prefix, item_or_filler(entry, one, two, *item), out)?;
+        row.add(&[separator], item_or_filler(entry, one, two, *item), out)?;
         rest = more;
     }
-    Ok(())
+    row.push(out)
 }
 
 // Writes an output line field by field, without its terminator.
@@ -238,13 +267,17 @@ fn is_canonical(separator: Option<u8>, number: u64, line: &[u8]) -> bool
     number <= 1 && SplitLine::new(separator, line).is_single_spaced()
 }
 
-// Checks whether the output lines of a line of the first input begin with it, unchanged. That is the same for all of its
-// pairs.
+// Checks whether the fields of a line are written as they stand in it, the join field first: the output lines of a line
+// of the first input begin with it then. That is the same for all of its pairs.
 #[inline(always)]
-pub(crate) fn begins_output<A: Allocator>(job: &JoinJob<A>, line: &[u8]) -> bool
-    ensures { result ≡ true → BeginsOutput (join_job job.now) line.now }
+pub(crate) fn is_unchanged<A: Allocator>(job: &JoinJob<A>, side: Side, line: &[u8]) -> bool
+    ensures { result ≡ true → IsUnchanged (join_job job.now) side line.now }
 {
-    job.list.is_none() && is_canonical(job.sep, job.field[0], line)
+    let number = match side {
+        Side::First => job.field[0],
+        Side::Second => job.field[1],
+    };
+    job.list.is_none() && is_canonical(job.sep, number, line)
 }
 
 // Writes the output line of a pair of lines, whose join field is `key`, and its terminator. If both lines are canonical,
@@ -261,7 +294,7 @@ pub(crate) fn write_pair<'a, A: Allocator, W: Sink>(
     out: &mut Out<W>,
 ) -> Result<(), WriteFault>
     requires one { join_key (join_job job.now) First one.now ≡ key.now }
-    requires begins { begins ≡ true → BeginsOutput (join_job job.now) one.now }
+    requires begins { begins ≡ true → IsUnchanged (join_job job.now) First one.now }
     requires two { join_key (join_job job.now) Second two.now ≡ key.now }
     ensures { let fields = join_fields (join_job job.now).separator in
         let bytes = entry (join_job job.now) key.now (fields one.now) (fields two.now) in
@@ -279,53 +312,24 @@ pub(crate) fn write_pair<'a, A: Allocator, W: Sink>(
     write_entry(&entry, terminator, out)
 }
 
-// Writes the output line of an unpaired line of the first input, whose join field is `key`, and its terminator. Not
-// inlined, so that asking whether it is to be written is.
+// Writes the output line of an unpaired line, whose join field is `key`, and its terminator. Not inlined, so that the
+// loop of the merge stays short.
 #[inline(never)]
-pub(crate) fn write_first<'a, A: Allocator, W: Sink>(
+pub(crate) fn write_alone<'a, A: Allocator, W: Sink>(
     job: &'a JoinJob<A>,
+    side: Side,
     key: &'a [u8],
     line: &'a [u8],
     terminator: u8,
     out: &mut Out<W>,
 ) -> Result<(), WriteFault>
-    requires { join_key (join_job job.now) First line.now ≡ key.now }
-    ensures { let fields = join_fields (join_job job.now).separator in
-        PushPost out.old out.new (entry (join_job job.now) key.now (fields line.now) [] ++ terminator ∷ []) result }
+    requires { join_key (join_job job.now) side line.now ≡ key.now }
+    ensures { PushPost out.old out.new (entry_alone (join_job job.now) side key.now line.now ++ terminator ∷ [])
+        result }
 {
-    if begins_output(job, line) {
+    if is_unchanged(job, side, line) {
         return out.push_line(b"", line, &[terminator]);
     }
-    let entry = Entry {
-        job,
-        key,
-        one: Some(line),
-        two: None,
-    };
-    write_entry(&entry, terminator, out)
-}
-
-// Writes the output line of an unpaired line of the second input, like `write_first`.
-#[inline(never)]
-pub(crate) fn write_second<'a, A: Allocator, W: Sink>(
-    job: &'a JoinJob<A>,
-    key: &'a [u8],
-    line: &'a [u8],
-    terminator: u8,
-    out: &mut Out<W>,
-) -> Result<(), WriteFault>
-    requires { join_key (join_job job.now) Second line.now ≡ key.now }
-    ensures { let fields = join_fields (join_job job.now).separator in
-        PushPost out.old out.new (entry (join_job job.now) key.now [] (fields line.now) ++ terminator ∷ []) result }
-{
-    if job.list.is_none() && is_canonical(job.sep, job.field[1], line) {
-        return out.push_line(b"", line, &[terminator]);
-    }
-    let entry = Entry {
-        job,
-        key,
-        one: None,
-        two: Some(line),
-    };
+    let entry = Entry::alone(job, side, key, line);
     write_entry(&entry, terminator, out)
 }

@@ -3,12 +3,13 @@
 ghost use Rattle.std.specs.Prelude.{◌≡◌, ◌≢◌, ◌≤◌, ◌<◌, ◌+◌, ◌==◌, ◌-◌, ◌^◌, ℕ, List, bit_or, None, true, length};
 ghost use Rattle.std.specs.Simd.Lanes.{chunk};
 ghost use Rattle.memchr.specs.Find.{IsFirst, IsFirstByte, Passes};
-ghost use Rattle.ptlines.specs.Private.Bounds.{HasChunk, IsCoveredByEnds};
+ghost use Rattle.ptlines.specs.Private.Bounds.{HasChunk};
 ghost use Rattle.ptlines.specs.Text.{is_blank};
-ghost use Rattle.ptmerge.specs.Private.JoinFields.{AreBlanks, IsFieldFound, has_single_spaces, is_single_spaced};
+ghost use Rattle.ptmerge.specs.Private.JoinFields.{AreBlanks, AreMasks, IsFieldFound, has_single_spaces, is_single_spaced};
 
 use crate::key_order::Span;
-use std::simd::prelude::*;
+use crate::tools::join::masks::{Masks, masks_in, masks_of};
+use memchr::memchr2;
 
 // The blanks among at most 64 bytes: a mask of the spaces and tabs, and one of the tabs.
 #[derive(Clone, Copy)]
@@ -17,35 +18,27 @@ pub(crate) struct Blanks {
     pub(crate) tabs: u64,
 }
 
+impl Blanks {
+    // Returns the blanks of bytes with these masks of spaces and tabs.
+    #[inline(always)]
+    #[tactic(auto, using(crate::proofs::JoinLemmas::Fields::blanks_are))]
+    fn of(masks: Masks) -> Blanks
+        ensures { (bytes : List ℕ) → AreMasks 32 9 bytes masks → AreBlanks bytes result }
+    {
+        Blanks {
+            any: masks.first | masks.second,
+            tabs: masks.second,
+        }
+    }
+}
+
 // Returns the blanks among the N bytes from `at` on.
 #[inline(always)]
 fn blanks_in<const N: usize>(bytes: &[u8], at: usize) -> Blanks
     requires { HasChunk N at bytes.now }
     ensures { AreBlanks (chunk at N bytes.now) result }
 {
-    let chunk = Simd::<u8, N>::from_slice(&bytes[at..]);
-    let tabs = chunk.simd_eq(Simd::splat(b'\t'));
-    Blanks {
-        any: (chunk.simd_eq(Simd::splat(b' ')) | tabs).to_bitmask(),
-        tabs: tabs.to_bitmask(),
-    }
-}
-
-// Returns the blanks among N to 2 * N bytes, from two vectors that may overlap.
-#[inline(always)]
-#[tactic(auto, using(crate::proofs::JoinLemmas::Fields::ends_mask))]
-fn blanks_of_ends<const N: usize>(bytes: &[u8]) -> Blanks
-    requires few { N ≤ 32 }
-    requires ends { IsCoveredByEnds N bytes.now }
-    ensures { AreBlanks bytes.now result }
-{
-    let last = bytes.len() - N;
-    let front = blanks_in::<N>(bytes, 0);
-    let back = blanks_in::<N>(bytes, last);
-    Blanks {
-        any: front.any | back.any << last,
-        tabs: front.tabs | back.tabs << last,
-    }
+    Blanks::of(masks_in::<N>(b' ', b'\t', bytes, at))
 }
 
 // Returns the blanks among at most 64 bytes.
@@ -54,22 +47,7 @@ pub(crate) fn blanks_of(bytes: &[u8]) -> Blanks
     requires { length bytes.now ≤ 64 }
     ensures { AreBlanks bytes.now result }
 {
-    let size = bytes.len();
-    if size >= 32 {
-        blanks_of_ends::<32>(bytes)
-    } else if size >= 16 {
-        blanks_of_ends::<16>(bytes)
-    } else if size >= 8 {
-        blanks_of_ends::<8>(bytes)
-    } else if size >= 4 {
-        blanks_of_ends::<4>(bytes)
-    } else if size >= 2 {
-        blanks_of_ends::<2>(bytes)
-    } else if size == 1 {
-        blanks_of_ends::<1>(bytes)
-    } else {
-        Blanks { any: 0, tabs: 0 }
-    }
+    Blanks::of(masks_of(b' ', b'\t', bytes))
 }
 
 // Returns the index of the first blank among the N bytes from `at` on.
@@ -86,26 +64,34 @@ fn find_blank_in<const N: usize>(bytes: &[u8], at: usize) -> Option<usize>
     Some(at + mask.trailing_zeros() as usize)
 }
 
-// Returns the index of the first blank, 64 bytes at a time. Not inlined, so that the common case of `find_blank` is
-// small.
-#[inline(never)]
-#[tactic(auto, using(ptlines::proofs::MatchMasks::first_match_steps))]
-fn find_blank_long(bytes: &[u8]) -> Option<usize>
+// Returns the index of the first blank among at most 64 bytes.
+#[inline(always)]
+#[tactic(auto, using(crate::proofs::JoinLemmas::Fields::none_if_no_blank))]
+fn find_blank_short(bytes: &[u8]) -> Option<usize>
+    requires { length bytes.now ≤ 64 }
     ensures { IsFirstByte is_blank bytes.now result }
 {
-    let mut at = 0;
-    while bytes.len() - at > 64 {
-        let near = find_blank_in::<64>(bytes, at);
-        if near.is_some() {
-            return near;
-        }
-        at += 64;
-    }
-    let mask = blanks_of(&bytes[at..]).any;
+    let mask = blanks_of(bytes).any;
     if mask == 0 {
         return None;
     }
-    Some(at + mask.trailing_zeros() as usize)
+    Some(mask.trailing_zeros() as usize)
+}
+
+// Returns the index of the first blank, with `memchr2` from index 64 on. Not inlined, so that the common case of
+// `find_blank` is small.
+#[inline(never)]
+fn find_blank_long(bytes: &[u8]) -> Option<usize>
+    ensures { IsFirstByte is_blank bytes.now result }
+{
+    if bytes.len() <= 64 {
+        return find_blank_short(bytes);
+    }
+    if let Some(at) = find_blank_in::<64>(bytes, 0) {
+        return Some(at);
+    }
+    let at = memchr2(b' ', b'\t', &bytes[64..])?;
+    Some(64 + at)
 }
 
 // Returns the index of the first blank, which usually is among the first 16 bytes.

@@ -14,9 +14,9 @@ loop-passed-preserved g c =
     each_more (λ (l : List ℕ). 32 ∷ l) (others_more _ _ (omega arith) c.in-Some.ensures.first) c.loop-passed.invariant
     c.write_prefixed_field.ensures.wrote c.in_ok-write_prefixed_field.ensures.clean
 
-pub returns-in-Some-next_field : goal.returns-in-Some-next_field
-returns-in-Some-next_field g c =
-    partial_ends (ap (with_prefix 32) (others_rest _ (omega arith) c.in-Some-next_field.ensures.first))
+pub returns-in-Some-next_word : goal.returns-in-Some-next_word
+returns-in-Some-next_word g c =
+    partial_ends (ap (with_prefix 32) (others_rest _ (omega arith) c.in-Some-next_word.ensures.first))
     c.loop-passed.invariant c.write_words.ensures
 
 pub returns-in_default : goal.returns-in_default

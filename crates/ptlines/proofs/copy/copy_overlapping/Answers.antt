@@ -1,0 +1,7 @@
+use Rattle.ptlines.proofs
+use Rattle.std.proofs.Common.{arith}
+use proofs.CopyFacts.{copied_ends}
+use proofs.copy.copy_overlapping.Goals as goal
+
+pub returns-clause-copied : goal.returns-clause-copied
+returns-clause-copied g c = grind (arith, copied_ends)

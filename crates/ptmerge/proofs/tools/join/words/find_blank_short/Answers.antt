@@ -1,0 +1,6 @@
+use Rattle.ptmerge.proofs
+use proofs.JoinLemmas.Fields.{first_blank_at}
+use proofs.tools.join.words.find_blank_short.Goals as goal
+
+pub returns : goal.returns
+returns c = first_blank_at c.args.bytes.now _ c.requires c.blanks_of-mask.ensures.any c.if-mask-eq0.false
