@@ -10,8 +10,9 @@ ghost use Rattle.ptflow.specs.Private.Paste.RowCells.{after_cell, begun_after, b
 ghost use Rattle.ptflow.specs.Private.Paste.BufferedRows.{BufferedRowsPre, CopyCellPost, CopyColumnsPost, CopyRowsPost};
 ghost use Rattle.ptflow.specs.Private.Paste.BufferedRows.{LineCopied};
 
+use crate::simd::find_nth::find_by_mask;
 use crate::tools::paste::row::{BegunRow, CopiedRows, OutBuf, RowFormat, copy_option, next_index};
-use ptlines::{LineReader, Source, copy_short, find_byte, find_in_chunk};
+use ptlines::{LineReader, Source, copy_short, find_in_chunk};
 use std::simd::prelude::*;
 
 // Copies the next line of a reader to `at` and consumes it, if it ends within the next `N` bytes: the vector that is
@@ -66,7 +67,7 @@ fn copy_line_long<S: Source, R: Source>(
         return Some(end);
     }
     let bytes = reader.buffered();
-    let count = find_byte(terminator, bytes)?;
+    let count = find_by_mask(terminator, bytes)?;
     if at.saturating_add(count) >= 8192 {
         return None;
     }
