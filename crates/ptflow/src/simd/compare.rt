@@ -16,7 +16,7 @@ pub(crate) fn same_short_start(a: &[u8], b: &[u8], len: usize) -> bool
         return false;
     }
     let (a, b) = (u8x16::from_slice(a), u8x16::from_slice(b));
-    len <= a.simd_ne(b).to_bitmask().trailing_zeros() as usize
+    len <= a.simd_eq(b).to_bitmask().trailing_ones() as usize
 }
 
 // Whether the 16 bytes from the index `at` on are equal in both slices.

@@ -27,8 +27,8 @@ fn has_output(show: Show, count: u64) -> bool
     }
 }
 
-// Pushes the deferred output `before`, and then the count that is written before a run's line, if there is one. Out of
-// line, since most output is pushed without it.
+// Pushes the deferred output `before`, and then the count that is written before a run's line, if there is one. Most
+// counts have one digit, which needs no buffer. Out of line, since most output is pushed without a count.
 #[inline(never)]
 fn flush_with_count<W: Sink>(
     show: Show,
@@ -39,6 +39,7 @@ fn flush_with_count<W: Sink>(
     ensures { PushPost out.old out.new (before.now ++ count_prefix show count) result }
 {
     match show {
+        Show::Counts if count < 10 => out.push_line(before, &[b'0' + count as u8], b" "),
         Show::Counts => {
             let mut buffer = Buffer::new();
             out.push_line(before, buffer.format(count).as_bytes(), b" ")
