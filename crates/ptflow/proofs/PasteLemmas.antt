@@ -3,6 +3,7 @@
 -- been pushed, and then the first columns of the next row were read, and perhaps a part of a line.
 pub mod BufferedRows
 pub mod Replaced
+pub mod Segments
 use Rattle.ptflow.proofs
 use proofs.Common.{Result, drop_at, push_trans, bounded_lag_after, HasReadCause, with_denied, max_line_length}
 use proofs.Common.{CallOutcome, CallState, call_state, CallProgress, usual, DecidedIfReadFailed, reads_nothing}

@@ -5,7 +5,7 @@
 //! - `simd` has the vector code. It uses no reader and no output.
 //! - `block_loop` is the loop of the tools that work block by block, and `line_loop` that of the tools that work line
 //!   by line. `slots` adds the missing slots of a store.
-//! - `laws` states which tools can be run on parts of their input, and theorems on their output.
+//! - `laws` states which tools can be run on parts of their input, and laws of their output.
 #![tactic(auto)]
 
 mod block_loop;

@@ -4,7 +4,7 @@
 //! - `byte_set` tests 16 bytes for membership in a set.
 //! - `shift` maps 16 bytes at a time by any `ByteMap`; `table` is the one for a table of 256 images.
 //! - `replace` replaces line terminators by the bytes of a cycle.
-//! - `compare` compares the first bytes of two slices.
+//! - `compare` compares two slices, or their first bytes.
 //! - `compress` moves the selected bytes of a vector to the front; `filter` chooses which bytes these are.
 pub(crate) mod byte_set;
 pub(crate) mod compare;

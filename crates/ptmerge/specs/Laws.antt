@@ -1,3 +1,3 @@
--- Theorems about the definitions, which public functions state.
+-- Laws of the definitions, which public functions state.
 pub mod Outputs
 pub mod Parts

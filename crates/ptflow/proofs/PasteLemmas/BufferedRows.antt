@@ -12,7 +12,7 @@ pub use Rattle.ptflow.specs.declared.simd.replace.Cycle.{Cycle}
 pub use Rows.*
 pub use Rattle.ptflow.specs.Private.Paste.SharedInput.{IsWholeRows, IsSharedCycle}
 
-sound_after_consume : {b r : Reader} → IsSound b → IsConsumed b r → IsSound r
+pub sound_after_consume : {b r : Reader} → IsSound b → IsConsumed b r → IsSound r
 sound_after_consume s step = grind usual
 
 -- ---- one column

@@ -1,4 +1,4 @@
--- Theorems about the output for a whole input, which a reader can judge without computing it. They are about the
+-- Laws of the output for a whole input, which a reader can judge without computing it. They are about the
 -- definitions, so they show that these mean what one expects.
 use Rattle.std.specs.Prelude.{◌≡◌, ◌≢◌, ◌≤◌, ◌<◌, ℕ, ◌+◌, ◌==◌, true, false, List, [], ◌∷◌, ◌++◌, length, map, filter}
 use Rattle.std.specs.Prelude.{not, sum_by, slice_index_or, Some, All, if◌then◌else◌}

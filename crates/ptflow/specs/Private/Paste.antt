@@ -7,3 +7,4 @@ pub mod SerialRest
 pub mod SharedInput
 pub mod TakenLines
 pub mod Unrolled
+pub mod Segments

@@ -1,6 +1,7 @@
-//! Compares the first bytes of two slices, 16 at once. `uniq` uses it.
+//! Compares two slices, or their first bytes, 16 bytes at once. `uniq` uses it.
 
-ghost use Rattle.std.specs.Prelude.{◌≡◌, ◌≤◌, length, take, true};
+ghost use Rattle.std.specs.Prelude.{◌≡◌, ◌≢◌, ◌≤◌, ◌+◌, MatchBool, bytes_eq, length, take, true};
+ghost use Rattle.std.specs.Simd.Lanes.{chunk};
 
 use std::simd::prelude::*;
 
@@ -15,5 +16,47 @@ pub(crate) fn same_short_start(a: &[u8], b: &[u8], len: usize) -> bool
         return false;
     }
     let (a, b) = (u8x16::from_slice(a), u8x16::from_slice(b));
-    len <= a.simd_ne(b).to_bitmask().trailing_zeros() as usize
+    len <= a.simd_eq(b).to_bitmask().trailing_ones() as usize
+}
+
+// Whether the 16 bytes from the index `at` on are equal in both slices.
+#[inline(always)]
+fn is_same_chunk(a: &[u8], b: &[u8], at: usize) -> bool
+    requires { (at + 16 ≤ length a.now) × (at + 16 ≤ length b.now) }
+    ensures { MatchBool result (chunk at 16 a.now ≡ chunk at 16 b.now) (a.now ≢ b.now) }
+{
+    let (a, b) = (u8x16::from_slice(&a[at..]), u8x16::from_slice(&b[at..]));
+    a.simd_ne(b).to_bitmask() == 0
+}
+
+// Whether two slices of one length are equal: 16 bytes at a time, of which the last 16 may overlap those before. Out of
+// line, so that slices of different lengths are compared without a call.
+#[inline(never)]
+fn is_equal_long(a: &[u8], b: &[u8]) -> bool
+    requires { (16 ≤ length a.now) × (length a.now ≡ length b.now) }
+    ensures { result ≡ bytes_eq a.now b.now }
+{
+    let last = a.len() - 16;
+    let mut at = 0;
+    while at < last {
+        if !is_same_chunk(a, b, at) {
+            return false;
+        }
+        at += 16;
+    }
+    is_same_chunk(a, b, last)
+}
+
+/// Whether two slices are equal, like `==`. It is faster if they differ in their first bytes.
+#[inline(always)]
+pub(crate) fn is_equal(a: &[u8], b: &[u8]) -> bool
+    ensures { result ≡ bytes_eq a.now b.now }
+{
+    if a.len() != b.len() {
+        return false;
+    }
+    if a.len() < 16 {
+        return a == b;
+    }
+    is_equal_long(a, b)
 }

@@ -1,10 +1,11 @@
 //! Finds occurrences of a byte by match masks of 64 bytes. `cut` by fields finds delimiters and terminators by
-//! `ByteMatches`; `paste` calls `nth_index`. `cut` by bytes and `replace` use a `match_mask` alone.
+//! `ByteMatches`; `paste` calls `nth_index` and `find_by_mask`, and `uniq` calls `find_line_end`. `cut` by bytes and
+//! `replace` use a `match_mask` alone.
 
 ghost use Rattle.std.specs.Prelude.{◌≡◌, ◌<◌, ◌≤◌, ◌+◌, ◌-◌, ℕ, Bool, List, Some, IfSome, length, map, take, drop};
 ghost use Rattle.std.specs.List.{count_by};
 ghost use Rattle.std.specs.Simd.Lanes.{mask_l, chunk};
-ghost use Rattle.memchr.specs.Find.{IsFirstByte, is_byte};
+ghost use Rattle.memchr.specs.Find.{IsFirstByte, Nowhere, Passes, is_byte};
 ghost use Rattle.ptflow.specs.Private.Vectors.FindNth.{IsFirstByte-prop, IsNth, IsNthResult};
 
 use ptlines::{find_byte, find_in_chunk};
@@ -176,4 +177,47 @@ impl<'a> ByteMatches<'a> {
         }
         nth_index(self.byte, &self.bytes[from..], len, before)
     }
+}
+
+/// Returns the index of the first byte equal to `byte`, like `find_byte`. It is faster if the match is not among the first
+/// 32 bytes, since the first 64 are compared at once.
+#[inline(always)]
+pub(crate) fn find_by_mask(byte: u8, bytes: &[u8]) -> Option<usize>
+    ensures { IsFirstByte (is_byte byte) bytes.now result }
+{
+    ByteMatches::new(byte, bytes).first()
+}
+
+// Finds a byte that is not among the first 16, if there are 64 or more. Out of line, so that a near match is found
+// without a call.
+#[inline(never)]
+fn find_far(byte: u8, bytes: &[u8]) -> Option<usize>
+    requires { 64 ≤ length bytes.now → Nowhere (Passes (is_byte byte) bytes.now) 0 16 }
+    ensures { IsFirstByte (is_byte byte) bytes.now result }
+{
+    if bytes.len() < 64 {
+        return find_byte(byte, bytes);
+    }
+    if let Some(at) = find_in_chunk::<32>(byte, bytes, 16) {
+        return Some(at);
+    }
+    if let Some(at) = find_in_chunk::<16>(byte, bytes, 48) {
+        return Some(at);
+    }
+    let at = find_byte(byte, &bytes[64..])?;
+    Some(64 + at)
+}
+
+/// Returns the index of the first byte equal to `byte`, like `find_byte`. It is faster if the match is soon after the first
+/// 64 bytes, as the end of a line of a log often is.
+#[inline(always)]
+pub(crate) fn find_line_end(byte: u8, bytes: &[u8]) -> Option<usize>
+    ensures { IsFirstByte (is_byte byte) bytes.now result }
+{
+    if bytes.len() >= 64
+        && let Some(at) = find_in_chunk::<16>(byte, bytes, 0)
+    {
+        return Some(at);
+    }
+    find_far(byte, bytes)
 }

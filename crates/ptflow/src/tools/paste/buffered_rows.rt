@@ -9,9 +9,12 @@ ghost use Rattle.ptlines.specs.Calls.Readers.{IsSound};
 ghost use Rattle.ptflow.specs.Private.Paste.RowCells.{after_cell, begun_after, begun_in, shape_of};
 ghost use Rattle.ptflow.specs.Private.Paste.BufferedRows.{BufferedRowsPre, CopyCellPost, CopyColumnsPost, CopyRowsPost};
 ghost use Rattle.ptflow.specs.Private.Paste.BufferedRows.{LineCopied};
+ghost use Rattle.ptflow.specs.Private.Paste.Segments.{AreSegments};
 
+use crate::simd::find_nth::find_by_mask;
 use crate::tools::paste::row::{BegunRow, CopiedRows, OutBuf, RowFormat, copy_option, next_index};
-use ptlines::{LineReader, Source, copy_short, find_byte, find_in_chunk};
+use crate::tools::paste::segments::{Segment, has_ended_column, segments};
+use ptlines::{LineReader, Source, copy_short, find_in_chunk};
 use std::simd::prelude::*;
 
 // Copies the next line of a reader to `at` and consumes it, if it ends within the next `N` bytes: the vector that is
@@ -66,7 +69,7 @@ fn copy_line_long<S: Source, R: Source>(
         return Some(end);
     }
     let bytes = reader.buffered();
-    let count = find_byte(terminator, bytes)?;
+    let count = find_by_mask(terminator, bytes)?;
     if at.saturating_add(count) >= 8192 {
         return None;
     }
@@ -135,10 +138,74 @@ pub(crate) fn copy_columns<S: Source, R: Source>(
     begun
 }
 
-// Copies rows while all of their lines are complete in the buffers and fit, and the first columns of the next row. Out
-// of line, so that the loop has all registers. If all readers have ended, the begun row has all columns and no line.
+// Copies the segments of a row, after what was copied of it, up to the first one whose line is not complete in the
+// buffer or does not fit. Of a segment that may not fit, it copies only the first column.
+#[inline(always)]
+fn copy_segments<S: Source, R: Source>(
+    row: RowFormat,
+    segments: &[Segment],
+    readers: &mut [LineReader<S, R>],
+    into: &mut OutBuf,
+    begun: BegunRow,
+) -> BegunRow
+    requires readable { BufferedRowsPre (shape_of row) readers.old }
+    requires segments { AreSegments (shape_of row) readers.old begun.count segments.now }
+    requires within { begun.count ≤ length row.cells.now }
+    ensures cells { CopyColumnsPost (shape_of row.entry) (begun_in readers.old begun into.old)
+        (begun_in readers.new result into.new) }
+    ensures within { (result.count ≤ length row.entry.cells.now) × (begun.end ≤ result.end) }
+{
+    let mut begun = begun;
+    let mut rest = segments;
+    'segments: while let [segment, tail @ ..] = rest {
+        let reader = &mut readers[segment.input];
+        let Some((end, is_line)) = copy_cell(row.terminator, reader, into, begun.end) else {
+            return begun;
+        };
+        let any_line = begun.any_line | is_line;
+        if end > 8176 {
+            return BegunRow {
+                count: begun.count + 1,
+                end: copy_option(row.byte_after(begun.count), into, end),
+                any_line,
+            };
+        }
+        begun = BegunRow {
+            count: begun.count + segment.count,
+            end: segment.copy_bytes(into, end),
+            any_line,
+        };
+        rest = tail;
+    }
+    begun
+}
+
+// Copies a row like `copy_columns`, by its segments first.
+#[inline(always)]
+fn copy_row<S: Source, R: Source>(
+    row: RowFormat,
+    segments: &[Segment],
+    readers: &mut [LineReader<S, R>],
+    into: &mut OutBuf,
+    start: BegunRow,
+) -> BegunRow
+    requires readable { BufferedRowsPre (shape_of row) readers.old }
+    requires segments { AreSegments (shape_of row) readers.old start.count segments.now }
+    requires within { start.count ≤ length row.cells.now }
+    ensures cells { CopyColumnsPost (shape_of row.entry) (begun_in readers.old start into.old)
+        (begun_in readers.new result into.new) }
+    ensures within { (result.count ≤ length row.entry.cells.now) × (start.end ≤ result.end) }
+{
+    let begun = copy_segments(row, segments, readers, into, start);
+    if begun.count == row.cells.len() {
+        return begun;
+    }
+    copy_columns(row, readers, into, begun)
+}
+
+// Copies rows like `copy_rows`, column by column. Out of line, so that the loop has all registers.
 #[inline(never)]
-pub(crate) fn copy_rows<S: Source, R: Source>(
+fn copy_rows_by_columns<S: Source, R: Source>(
     row: RowFormat,
     readers: &mut [LineReader<S, R>],
     into: &mut OutBuf,
@@ -161,6 +228,54 @@ pub(crate) fn copy_rows<S: Source, R: Source>(
         }
         end = begun.end;
     }
+}
+
+// Copies rows like `copy_rows`, each by these segments first. Out of line too.
+#[inline(never)]
+fn copy_rows_by_segments<S: Source, R: Source>(
+    row: RowFormat,
+    segments: &[Segment],
+    readers: &mut [LineReader<S, R>],
+    into: &mut OutBuf,
+) -> CopiedRows
+    requires readable { BufferedRowsPre (shape_of row) readers.old }
+    requires segments { AreSegments (shape_of row) readers.old 0 segments.now }
+    ensures rows { CopyRowsPost (shape_of row.entry) readers.old (take result.end into.new)
+        (begun_after readers.new result into.new) }
+    ensures within { result.begun.count ≤ length row.entry.cells.now }
+{
+    let mut end = 0;
+    'rows: loop {
+        let start = BegunRow {
+            count: 0,
+            end,
+            any_line: false,
+        };
+        let begun = copy_row(row, segments, readers, into, start);
+        if begun.count < row.cells.len() || !begun.any_line {
+            return CopiedRows { end, begun };
+        }
+        end = begun.end;
+    }
+}
+
+// Copies rows while all of their lines are complete in the buffers and fit, and the first columns of the next row. If
+// all readers have ended, the begun row has all columns and no line. (Segments are made only if an input has ended,
+// since rows of few columns are copied faster without them.)
+pub(crate) fn copy_rows<S: Source, R: Source>(
+    row: RowFormat,
+    readers: &mut [LineReader<S, R>],
+    into: &mut OutBuf,
+) -> CopiedRows
+    requires { BufferedRowsPre (shape_of row) readers.old }
+    ensures rows { CopyRowsPost (shape_of row.entry) readers.old (take result.end into.new)
+        (begun_after readers.new result into.new) }
+    ensures within { result.begun.count ≤ length row.entry.cells.now }
+{
+    if has_ended_column(row, readers) {
+        return copy_rows_by_segments(row, &segments(row, readers), readers, into);
+    }
+    copy_rows_by_columns(row, readers, into)
 }
 
 // Moves the begun row to the start of the buffer.

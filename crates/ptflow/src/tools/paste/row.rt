@@ -26,7 +26,13 @@ impl<'a> RowFormat<'a> {
         if column + 1 == self.cells.len() {
             return Some(self.terminator);
         }
-        self.delims[column % self.delims.len()]
+        // Most lists have one delimiter, and a division is slow.
+        let index = if self.delims.len() == 1 {
+            0
+        } else {
+            column % self.delims.len()
+        };
+        self.delims[index]
     }
 }
 
@@ -52,8 +58,8 @@ pub(crate) type OutBuf = [u8; 8208];
 
 // Copies a byte, if there is one, to `at`. Returns the offset after it.
 #[inline(always)]
-pub(crate) fn copy_option(byte: Option<u8>, into: &mut OutBuf, at: usize) -> usize
-    requires { at < 8192 }
+pub(crate) fn copy_option<const N: usize>(byte: Option<u8>, into: &mut [u8; N], at: usize) -> usize
+    requires { at < N }
     ensures copied { take result into.new ≡ take at into.old ++ option_to_list byte }
     ensures size_bound { (at ≤ result) × (result ≤ at + 1) }
 {

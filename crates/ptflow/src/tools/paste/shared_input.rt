@@ -54,8 +54,8 @@ fn rows_end(terminator: u8, bytes: &[u8], extra: usize) -> usize
     at + 1
 }
 
-// Copies all complete rows in the reader's buffer, with the delimiters, and returns their length. A buffer without a
-// complete row is only searched, which matters if the lines are long.
+// Copies all complete rows in the reader's buffer, with the delimiters, and returns their length. If no row ends in the
+// first half of the buffer, as with long lines, nothing is copied: most of the buffer might be the start of a row.
 fn copy_shared_rows<S: Source, R: Source>(
     cycle: &Cycle,
     reader: &LineReader<S, R>,
@@ -69,7 +69,7 @@ fn copy_shared_rows<S: Source, R: Source>(
 {
     let bytes = reader.buffered();
     let count = bytes.len();
-    if nth_index(cycle.terminator, bytes, count, cycle.len as u64 - 1).is_none() {
+    if nth_index(cycle.terminator, bytes, count / 2, cycle.len as u64 - 1).is_none() {
         return 0;
     }
     let extra = cycle.replace(0, bytes, &mut into[..count]);

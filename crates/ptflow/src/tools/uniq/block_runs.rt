@@ -9,11 +9,12 @@ ghost use Rattle.ptflow.specs.Private.Uniq.RunsFrom.{has_output, count_prefix, r
 ghost use Rattle.ptflow.specs.Private.Uniq.BlockRuns.{RunsWritten, RunsFailed, EndRunPre, IsPending, first_of};
 ghost use Rattle.ptflow.specs.Private.Uniq.BlockRuns.{repeated, span_of};
 
-use crate::simd::compare::same_short_start;
+use crate::simd::compare::{is_equal, same_short_start};
+use crate::simd::find_nth::find_line_end;
 use crate::tools::uniq::line_key::key;
 use itoa::Buffer;
 use ptlangs::jobs::{Show, UniqJob};
-use ptlines::{Out, Sink, WriteFault, find_byte};
+use ptlines::{Out, Sink, WriteFault};
 
 // Checks whether a run of `count` lines is written.
 fn has_output(show: Show, count: u64) -> bool
@@ -26,8 +27,8 @@ fn has_output(show: Show, count: u64) -> bool
     }
 }
 
-// Pushes the deferred output `before`, and then the count that is written before a run's line, if there is one. Out of
-// line, since most output is pushed without it.
+// Pushes the deferred output `before`, and then the count that is written before a run's line, if there is one. Most
+// counts have one digit, which needs no buffer. Out of line, since most output is pushed without a count.
 #[inline(never)]
 fn flush_with_count<W: Sink>(
     show: Show,
@@ -38,6 +39,7 @@ fn flush_with_count<W: Sink>(
     ensures { PushPost out.old out.new (before.now ++ count_prefix show count) result }
 {
     match show {
+        Show::Counts if count < 10 => out.push_line(before, &[b'0' + count as u8], b" "),
         Show::Counts => {
             let mut buffer = Buffer::new();
             out.push_line(before, buffer.format(count).as_bytes(), b" ")
@@ -172,9 +174,9 @@ impl RunWriter<'_> {
         let mut pending = Span { from: 0, to: 0 };
         let mut run_key = key(job, first);
         let mut rest = block;
-        'lines: while let Some(at) = find_byte(terminator, rest) {
+        'lines: while let Some(at) = find_line_end(terminator, rest) {
             let next = key(job, &rest[..at]);
-            if run_key == next {
+            if is_equal(run_key, next) {
                 let (repeats, left) = skip_repeats(rest, at + 1);
                 count += 1 + repeats;
                 rest = left;

@@ -18,30 +18,30 @@ after : (g : given.Over) (c : After-left-1 g)
     c.skip_repeats-repeats.result.1.now c.args.carried (c.lines.count + (1 + c.skip_repeats-repeats.result.0))
     c.lines.line c.lines.pending c.lines.run_key.now c.args.out.now c.lines.out
 after g c = runs_loop_repeats c.lines.invariant (rw c.args.self.now.ends at c.in-Some.ensures) c.key-next.ensures
-    c.eq.ensures c.if-eq.true _ c.skip_repeats-repeats.ensures
+    c.is_equal.ensures c.if-is_equal.true _ c.skip_repeats-repeats.ensures
 
 pub overflow_add-count : goal.overflow_add-count
 overflow_add-count g c = omega (arith, runs_loop_few (after g c))
 
-pub overflow_add-count-then-eq : goal.overflow_add-count-then-eq
-overflow_add-count-then-eq g c = omega (arith, runs_loop_few (after g c))
+pub overflow_add-count-then-is_equal : goal.overflow_add-count-then-is_equal
+overflow_add-count-then-is_equal g c = omega (arith, runs_loop_few (after g c))
 
-pub lines-smaller-then-eq : goal.lines-smaller-then-eq
-lines-smaller-then-eq g c = grind (arith, (ap length c.skip_repeats-repeats.ensures), length-append, length-drop)
+pub lines-smaller-then-is_equal : goal.lines-smaller-then-is_equal
+lines-smaller-then-is_equal g c = grind (arith, (ap length c.skip_repeats-repeats.ensures), length-append, length-drop)
 
-pub lines-preserved-then-eq : goal.lines-preserved-then-eq
-lines-preserved-then-eq g c = after g c
+pub lines-preserved-then-is_equal : goal.lines-preserved-then-is_equal
+lines-preserved-then-is_equal g c = after g c
 
 pub returns-in_err-pending-clause-halts : goal.returns-in_err-pending-clause-halts
 returns-in_err-pending-clause-halts g c =
     on_err _
-    (runs_loop_failed c.lines.invariant (rw c.args.self.now.ends at c.in-Some.ensures) c.key-next.ensures c.eq.ensures
-    c.if-eq.false c.in_err-pending.ensures.wrote c.in_err-pending.ensures.fault)
+    (runs_loop_failed c.lines.invariant (rw c.args.self.now.ends at c.in-Some.ensures) c.key-next.ensures c.is_equal.ensures
+    c.if-is_equal.false c.in_err-pending.ensures.wrote c.in_err-pending.ensures.fault)
 
 pub lines-preserved : goal.lines-preserved
 lines-preserved g c =
     rw take_rest (runs_loop_next c.lines.invariant (rw c.args.self.now.ends at c.in-Some.ensures) c.key-next.ensures
-    c.eq.ensures c.if-eq.false c.in_ok-pending.ensures.waits refl refl)
+    c.is_equal.ensures c.if-is_equal.false c.in_ok-pending.ensures.waits refl refl)
 
 pub overflow_sub-len : goal.overflow_sub-len
 overflow_sub-len g c = grind usual
@@ -74,8 +74,8 @@ overflow_add-at g c = grind usual
 pub overflow_sub-from : goal.overflow_sub-from
 overflow_sub-from g c = grind usual
 
-pub overflow_sub-from-else-eq : goal.overflow_sub-from-else-eq
-overflow_sub-from-else-eq g c = grind usual
+pub overflow_sub-from-else-is_equal : goal.overflow_sub-from-else-is_equal
+overflow_sub-from-else-is_equal g c = grind usual
 
 pub overflow_sub-to : goal.overflow_sub-to
 overflow_sub-to g c = grind usual

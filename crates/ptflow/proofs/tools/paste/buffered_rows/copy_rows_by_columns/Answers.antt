@@ -5,7 +5,7 @@ use proofs.Common.{◌≡◌, take, take-take, take-append-le, length-take-le, �
 use proofs.Common.{usual}
 use proofs.PasteLemmas.BufferedRows.{fill_starts, rows_taken_none, rows_taken_trans, row_taken, consumed_none}
 use proofs.PasteLemmas.BufferedRows.{consumed_trans, still_readable}
-use proofs.tools.paste.buffered_rows.copy_rows.Goals as goal
+use proofs.tools.paste.buffered_rows.copy_rows_by_columns.Goals as goal
 
 pub rows-init : goal.rows-init
 rows-init g c = search (rules, rows_taken_none, consumed_none)

@@ -1,7 +1,7 @@
 -- Each row takes a line, so the budget decreases.
 use Rattle.ptflow.proofs
 use proofs.Common.{◌≡◌, ◌≤◌, length, take, sum_by, budget, AreConsumed, RowsTaken, shape_of}
-use proofs.tools.paste.buffered_rows.copy_rows.Given as goal
+use proofs.tools.paste.buffered_rows.copy_rows_by_segments.Given as goal
 
 abbrev pub invariant-rows : goal.invariant-rows
 invariant-rows g l = record {

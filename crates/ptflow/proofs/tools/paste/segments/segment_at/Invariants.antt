@@ -1,0 +1,17 @@
+-- The columns before `next` are done, and that one belongs to the segment.
+use Rattle.ptflow.proofs
+use proofs.Common.{◌≡◌, ◌<◌, ◌≤◌, ◌+◌, ◌-◌, length, take, shape_of}
+use proofs.PasteLemmas.Segments.{ends_text}
+use Rattle.ptflow.specs.Private.Paste.Segments.{AreEnded}
+use proofs.tools.paste.segments.segment_at.Given as goal
+
+abbrev pub invariant-columns : goal.invariant-columns
+invariant-columns g l = record {
+  within : (l.column ≤ l.next) × (l.next < length l.row.cells.now);
+  room : l.len < 16;
+  text : take l.len l.bytes ≡ ends_text (shape_of l.row) l.column (l.next - l.column);
+  ended : AreEnded (shape_of l.row) l.readers (l.column + 1) (l.next - l.column);
+}
+
+abbrev pub decreases-columns : goal.decreases-columns
+decreases-columns g l = length l.row.cells.now - l.next
