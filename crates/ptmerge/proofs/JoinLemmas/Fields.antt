@@ -31,7 +31,8 @@ use lib.Count.{count_trailing_zeros}
 use Rattle.ptlines.proofs.MatchMasks.{shifted, none_if_zero_mask, first_at_lowest_bit}
 use lemmas.List.Sums.{position_or_len_is}
 use Rattle.ptlangs.proofs.ListElements.{split_around, split_whole}
-use specs.Join.{join_key, or_filler, is_nonempty, field_named, nth_field}
+use specs.Calls.Join.{join_key}
+use specs.Join.{or_filler, is_nonempty, field_named, nth_field}
 use specs.Private.JoinFields.{IsFieldAt, IsFieldFound, IsFirstPieceEnd, IsCanonical, IsFieldIn, IsPiece, around}
 use specs.Private.Join.{entry_alone}
 use specs.Private.JoinFields.{HasOneLine, IsUnchanged, is_evenly_separated, has_single_spaces}
