@@ -1,6 +1,6 @@
 -- The output of `tr` for a text (POSIX.1-2017, XCU, `tr`): first bytes are deleted, then the others translated, and
 -- then repeats squeezed.
-use Rattle.std.specs.Prelude.{ℕ, ◌==◌, ◌&&◌, List, [], ◌∷◌, Bool, not, map, filter, zip}
+use Rattle.std.specs.Prelude.{ℕ, ◌==◌, ◌&&◌, List, [], ◌∷◌, Bool, true, not, map, filter, zip}
 use Rattle.ptlines.specs.Received.{Received}
 use Rattle.ptlangs.specs.TrTables.{Tables, deletes, image, squeezes}
 use Rattle.ptflow.specs.ToolSpec.{ToolSpec}
@@ -33,4 +33,11 @@ tr_decided tables given = tr tables given.bytes
 
 -- No line is kept in a slot.
 abbrev pub tr_tool : Tables → ToolSpec
-tr_tool tables = record { text = tr tables; decided = tr_decided tables; size = λ input. 0; slots = 0; end = 10 }
+tr_tool tables = record {
+  text = tr tables;
+  decided = tr_decided tables;
+  size = λ input. 0;
+  slots = 0;
+  end = 10;
+  keeps_end = true;
+}

@@ -1,5 +1,5 @@
 -- The precondition and the postcondition of a tool that merges two inputs, such as `comm` and `join`.
-use Rattle.std.specs.Prelude.{ℕ, option_map}
+use Rattle.std.specs.Prelude.{ℕ, false, option_map}
 use Rattle.ptlines.specs.Engines.{EngineSpec}
 use Rattle.ptmerge.specs.MergeSpec.{MergeDisorder, MergeTool, decided_output, disorder, lines_of, merge_output}
 use Rattle.ptmerge.specs.declared.key_order.Side.{Side}
@@ -21,4 +21,5 @@ merge_engine tool = record {
   first_slots = 4;
   keeps_groups = tool.keeps_groups;
   terminator = tool.terminator;
+  keeps_terminator = false;
 }
