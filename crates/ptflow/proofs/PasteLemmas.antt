@@ -236,14 +236,14 @@ module _ {job : Paste} {cells : List ℕ} {old set : List Reader} {was : Output}
   since_set : {new : CallState ℕ} {end : CallEnd ℕ}
       → CallPost (inputs_at cells) (paste_engine job cells) (call_state (reader_at set) was first) new end
       → CallPost (inputs_at cells) (paste_engine job cells) (call_state (reader_at old) was first) new end
-  since_set = call_set _ _ (call_state (reader_at old) was first) (call_state (reader_at set) was first) _ s.writable
+  since_set = call_set _ _ refl (call_state (reader_at old) was first) (call_state (reader_at set) was first) _ s.writable
       refl refl (λ p named. (s.are_set p).set (is_in_used _ p named)) (λ p other. (s.are_set p).left (not_in _ p other))
 
   pub paste_without_slots : {store : Slots} → AddedSlots first store (length cells) → store.peak ≡ first.peak
       → store.denied ≡ true → length store.lines < length cells → {result : Result (Unit {0}) FlowFault}
       → result ≡ Err Memory → PastePost job cells old set was was first store result
   paste_without_slots adds same denied missing is =
-      rw (is, paste_end) (since_set (call_without_slots _ _ _ _ s.writable refl (grind (arith, is_in_used))
+      rw (is, paste_end) (since_set (call_without_slots _ _ _ _ s.writable refl (λ p named. refl) (grind (arith, is_in_used))
       (λ p other. refl) (λ p named. (s.are_set p).sound (is_in_used _ p named)) never_failed denied same
       adds.least missing (λ texts. omega arith) (λ p named. let some = is_in_used _ p named in
       begins_earlier job cells (λ q. received_with [] (reader_at set q)) []
@@ -490,6 +490,8 @@ module _ {job : Paste} {cells : List ℕ} {old set now : List Reader} {was is : 
             slots = λ texts a. omega arith;
             least = omega arith;
             room = omega arith;
+            terminator = λ p named.
+                sym (ap (λ (r : Reader). r.terminator) ((s.starts.are_set p).set (is_in_used _ p named)));
           } in
           since_set s.starts (call_ends _ _ _ _ _ progress (paste_end result) ends decided)
 

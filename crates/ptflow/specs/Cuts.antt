@@ -1,5 +1,5 @@
 -- The output of `cut` (POSIX.1-2017, XCU, `cut`).
-use Rattle.std.specs.Prelude.{ℕ, ◌+◌, ◌==◌, List, [], ◌∷◌, Bool, if◌then◌else◌}
+use Rattle.std.specs.Prelude.{ℕ, ◌+◌, ◌==◌, List, [], ◌∷◌, Bool, false, if◌then◌else◌}
 use Rattle.std.specs.List.{flat_map, list_any, slice_split, join_with_byte}
 use Rattle.ptlines.specs.Text.{unlines, lines, max_line_length}
 use Rattle.ptlines.specs.Received.{Received, known_lines}
@@ -55,4 +55,5 @@ cut_tool job =
       slots = if job.fields
           then 1 else 0;
       end = job.terminator;
+      keeps_end = false;
     }

@@ -14,4 +14,5 @@ pass_engine tool = record {
   first_slots = tool.slots;
   keeps_groups = false;
   terminator = tool.end;
+  keeps_terminator = tool.keeps_end;
 }

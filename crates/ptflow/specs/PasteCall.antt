@@ -16,4 +16,5 @@ paste_engine job cells = record {
   first_slots = length cells;
   keeps_groups = false;
   terminator = job.terminator;
+  keeps_terminator = false;
 }

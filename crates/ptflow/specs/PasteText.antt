@@ -1,5 +1,5 @@
 -- The output of `paste`, with and without option `-s`, as a function of its inputs.
-use Rattle.std.specs.Prelude.{ℕ, ◌+◌, ◌%◌, ◌==◌, ◌||◌, List, [], ◌∷◌, ◌++◌, Bool, length, take, max, map, filter, zip}
+use Rattle.std.specs.Prelude.{ℕ, ◌+◌, ◌%◌, ◌==◌, ◌||◌, List, [], ◌∷◌, ◌++◌, Bool, false, length, take, max, map, filter, zip}
 use Rattle.std.specs.Prelude.{fold, count_by, sum_by, nat_lt, Option, option_to_list, slice_index_or, if◌then◌else◌}
 use Rattle.std.specs.List.{enumerate_from, range_with_len, list_all}
 use Rattle.ptlines.specs.Text.{unlines, lines, max_line_length}
@@ -40,6 +40,7 @@ paste_serial_tool job = record {
   size = max_line_length job.terminator;
   slots = 0;
   end = job.terminator;
+  keeps_end = false;
 }
 
 -- ---- `paste` without `-s`: several inputs side by side

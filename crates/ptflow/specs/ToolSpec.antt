@@ -1,5 +1,5 @@
 -- The specification of a tool with one input.
-use Rattle.std.specs.Prelude.{ℕ, List}
+use Rattle.std.specs.Prelude.{ℕ, Bool, List}
 use Rattle.ptlines.specs.Received.{Received}
 
 -- a tool: its output for an input, and the use that it makes of slots
@@ -14,3 +14,5 @@ pub record ToolSpec : Type 0 where
   pub slots : ℕ
   -- the line terminator, for a tool with slots
   pub end : ℕ
+  -- whether the reader keeps the terminator that it had, since the tool has no lines
+  pub keeps_end : Bool

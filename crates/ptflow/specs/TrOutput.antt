@@ -1,6 +1,6 @@
 -- The output of `tr` for a text (POSIX.1-2017, XCU, `tr`): first bytes are deleted, then the others translated, and
 -- then repeats squeezed.
-use Rattle.std.specs.Prelude.{ℕ, ◌==◌, ◌&&◌, List, [], ◌∷◌, Bool, not, map, filter, zip}
+use Rattle.std.specs.Prelude.{ℕ, ◌==◌, ◌&&◌, List, [], ◌∷◌, Bool, true, not, map, filter, zip}
 use Rattle.ptlines.specs.Received.{Received}
 use Rattle.ptlangs.specs.TrPlan.{ByteMap}
 use Rattle.ptflow.specs.ToolSpec.{ToolSpec}
@@ -34,4 +34,11 @@ tr_decided m given = tr m given.bytes
 
 -- No line is kept in a slot.
 abbrev pub tr_tool : ByteMap → ToolSpec
-tr_tool m = record { text = tr m; decided = tr_decided m; size = λ input. 0; slots = 0; end = 10 }
+tr_tool m = record {
+  text = tr m;
+  decided = tr_decided m;
+  size = λ input. 0;
+  slots = 0;
+  end = 10;
+  keeps_end = true;
+}

@@ -1,5 +1,5 @@
 -- The output of `uniq` (POSIX.1-2017, XCU, `uniq`).
-use Rattle.std.specs.Prelude.{ℕ, zero, suc, ◌+◌, ◌*◌, ◌==◌, ◌&&◌, List, [], ◌∷◌, ◌++◌, Bool, not, if◌then◌else◌, drop}
+use Rattle.std.specs.Prelude.{ℕ, zero, suc, ◌+◌, ◌*◌, ◌==◌, ◌&&◌, List, [], ◌∷◌, ◌++◌, Bool, false, not, if◌then◌else◌, drop}
 use Rattle.std.specs.Prelude.{slice_get, bytes_eq, decimal, nat_lt}
 use Rattle.std.specs.List.{flat_map}
 use Rattle.std.specs.Option.{option_map_or}
@@ -85,4 +85,5 @@ uniq_tool job =
       size = λ bytes. 2 * max_line_length job.terminator bytes;
       slots = 2;
       end = job.terminator;
+      keeps_end = false;
     }

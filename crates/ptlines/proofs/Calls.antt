@@ -2,11 +2,11 @@
 -- progress.
 use Rattle.ptlines.proofs
 use Rattle.ptlines.specs
-use proofs.Common.{◌≡◌, ℕ, ◌<◌, ◌≤◌, true, false, List, [], Option, length, max, refl, ◌∙◌, ap, arith, Reader}
+use proofs.Common.{◌≡◌, ℕ, ◌<◌, ◌≤◌, true, false, List, [], Option, length, max, refl, sym, ◌∙◌, ap, arith, Reader}
 use proofs.Common.{ReaderAdvance, IsSound, Received, IsPrefix, PushEffect}
 use specs.Calls.Engines.{InputNames, CallState, CallEnd, Complete, OutOfOrder, ReadFault, WriteFault, MemoryFault}
 use specs.Engines.{EngineSpec}
-use specs.Calls.Engines.{CallPost, CallOutcome, AreAllConsistent, AllPushed, with_input}
+use specs.Calls.Engines.{CallPost, CallOutcome, AreAllConsistent, AllPushed, terminator_after, with_input}
 use specs.Calls.Lag.{BoundedLag}
 use proofs.Lag.{bounded_lag_now}
 use proofs.Push.{push_nothing}
@@ -39,11 +39,14 @@ module _ {I : Type 0} (names : InputNames I) (engine : EngineSpec I) where
     slots = grind arith;
     added = λ clean. cc;
     unread = λ clean few. cc;
+    terminator = λ i read clean. cc;
     unchanged_if_failed = grind arith;
   }
 
   -- A first slot could not be added: only the terminator of the readers was set.
   module _ (old new : CallState I) (clean : old.out.write_failed ≡ false) (same_output : new.out ≡ old.out)
+      (ends : (i : I) → names.is_read i ≡ true
+      → terminator_after engine (old.reader i).terminator ≡ engine.terminator)
       (set : (i : I) → names.is_read i ≡ true
       → new.reader i ≡ record (old.reader i) { terminator = engine.terminator })
       (untouched : (i : I) → names.is_read i ≡ false → new.reader i ≡ old.reader i) where
@@ -95,6 +98,7 @@ module _ {I : Type 0} (names : InputNames I) (engine : EngineSpec I) where
       slots = λ texts agree. omega (arith, few, most texts);
       added = λ fine. record { least = least; all = λ allowed. cc };
       unread = λ fine less. record { readers = set; output = same_output };
+      terminator = λ i read fine. ap (λ r. r.terminator) (set i read) ∙ sym (ends i read);
       unchanged_if_failed = λ fault. cc;
     }
 
@@ -118,6 +122,9 @@ module _ {I : Type 0} (names : InputNames I) (engine : EngineSpec I) where
           → length new.store.lines ≤ max (length old.store.lines) (engine.slots texts)
       pub least : length old.store.lines ≤ length new.store.lines
       pub room : engine.first_slots ≤ length new.store.lines
+      -- the readers had the terminator of the engine before, if it has one
+      pub terminator : (i : I) → names.is_read i ≡ true
+          → terminator_after engine (old.reader i).terminator ≡ (old.reader i).terminator
 
     abbrev pub DecidedIfReadFailed : List ℕ → CallEnd I → Type 0
     DecidedIfReadFailed pushed (ReadFault input) =
@@ -150,11 +157,13 @@ module _ {I : Type 0} (names : InputNames I) (engine : EngineSpec I) where
         slots = p.slots;
         added = λ clean. record { least = p.least; all = λ allowed. p.room };
         unread = λ clean few. absurd (omega (arith, few));
+        terminator = λ i read clean. (p.reads i read).terminator ∙ sym (p.terminator i read);
         unchanged_if_failed = λ fault. cc (p.writable);
       }
 
   -- The terminator of the readers was set before the call.
-  module _ (old set new : CallState I) (clean : old.out.write_failed ≡ false) (same_output : set.out ≡ old.out)
+  module _ (sets : engine.keeps_terminator ≡ false) (old set new : CallState I)
+      (clean : old.out.write_failed ≡ false) (same_output : set.out ≡ old.out)
       (same_store : set.store ≡ old.store) (is : (i : I) → names.is_read i ≡ true
       → set.reader i ≡ record (old.reader i) { terminator = engine.terminator })
       (other : (i : I) → names.is_read i ≡ false → set.reader i ≡ old.reader i) where
@@ -191,5 +200,7 @@ module _ {I : Type 0} (names : InputNames I) (engine : EngineSpec I) where
             ∙ ap {B = Reader} (λ (r : Reader). record r { terminator = engine.terminator }) (is i read);
         output = none.output ∙ same_output;
       };
+      terminator = λ i read fine. c.terminator i read (ap (λ o. o.write_failed) same_output ∙ fine)
+          ∙ rw sets refl;
       unchanged_if_failed = λ fault. cc;
     }

@@ -24,3 +24,5 @@ pub record EngineSpec (I : Type 0) : Type 0 where
   pub keeps_groups : Bool
   -- the line terminator
   pub terminator : ℕ
+  -- whether the readers keep the terminator that they had, since the engine has no lines
+  pub keeps_terminator : Bool

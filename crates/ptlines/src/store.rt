@@ -2,9 +2,9 @@
 //! the lines that they need in it (`uniq` keeps one beside it).
 
 ghost use Rattle.std.specs.Prelude.{◌≡◌, ℕ, ◌<◌, ◌≤◌, ◌≢◌, true, false, [], ◌∷◌, ◌++◌, length, take, ◌+◌, replicate};
-ghost use Rattle.std.specs.Prelude.{swap, slice_set, slice_index_or, IfOk, OnOk, OnErr};
+ghost use Rattle.std.specs.Prelude.{swap, slice_set, slice_index_or, vec_len, vec_capacity, IfOk, OnOk, OnErr};
 ghost use Rattle.ptlines.specs.Calls.Slots.{SwapPre, CopyPre, line};
-ghost use Rattle.ptlines.specs.Private.Slots.{LengthsAreBounded, AreBuffersBounded, slot_lines};
+ghost use Rattle.ptlines.specs.Private.Slots.{LengthsAreBounded, AreBuffersBounded, HasFewSpare, slot_lines};
 ghost use Rattle.ptlines.specs.Slots.{total_bytes};
 ghost use Rattle.ptlines.specs.Calls.Slots.{with_line, with_new_slot, with_denied};
 
@@ -23,7 +23,8 @@ pub enum LineFault {
 }
 
 /// Numbered slots, from 0, for one line each. The store counts the bytes of all lines and tracks the high-water mark.
-/// Padding and bookkeeping are not counted. The buffer of a slot is never longer than twice that mark and 128 bytes.
+/// Padding and bookkeeping are not counted. The buffer of a slot is never longer than twice that mark and 128 bytes, and
+/// the list of the slots never has room for more than twice as many, and four.
 #[derive(Drop)]
 pub struct Store<A: Allocator + Copy = Global> {
     slots: Vec<Slot<A>, A>,
@@ -35,13 +36,14 @@ pub struct Store<A: Allocator + Copy = Global> {
 
 impl<A: Allocator + Copy> Model for Store<A> {
     ghost use Rattle.ptlines.specs.Slots.{Slots};
-    ghost use Rattle.ptlines.specs.Private.Slots.{AreCounted, slot_lines};
+    ghost use Rattle.std.specs.Prelude.{vec_len, vec_capacity};
+    ghost use Rattle.ptlines.specs.Private.Slots.{IsSoundStore, slot_lines};
 
     ghost Value = { Slots };
 
     ghost view = { λ s. record { lines = slot_lines s.slots.items; peak = s.peak; denied = s.denied } };
 
-    ghost invariant = { λ s. AreCounted s.byte_count s.peak s.slots.items };
+    ghost invariant = { λ s. IsSoundStore s.byte_count s.peak s.slots.items (vec_capacity s.slots) (vec_len s.slots) };
 }
 
 // Appends the line of the slot `from` to that of the slot `to`.
@@ -67,13 +69,18 @@ fn append_slot<A: Allocator + Copy>(
     }
 }
 
-// Adds an empty slot.
+// Adds an empty slot. If the list is full, it gets room for as many slots again, and four.
 fn push_empty<A: Allocator + Copy>(slots: &mut Vec<Slot<A>, A>, alloc: A) -> Result<(), AllocError>
+    requires { HasFewSpare (vec_capacity slots.old) (vec_len slots.old) }
     ensures ok { OnOk result (slots.new.items ≡ slots.old.items ++ record { line = []; buffer_size = 128 } ∷ []) }
     ensures err { OnErr result (slots.new.items ≡ slots.old.items) }
+    ensures room { HasFewSpare (vec_capacity slots.new) (vec_len slots.new) }
 {
-    let empty = Slot::new(alloc)?;
-    slots.push(empty)?;
+    let count = slots.len();
+    if slots.capacity() <= count {
+        slots.reserve_exact(count + 4)?;
+    }
+    slots.push_reserved(Slot::new(alloc)?);
     Ok(())
 }
 

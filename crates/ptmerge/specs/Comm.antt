@@ -65,4 +65,5 @@ comm_engine job = record {
   first_slots = 4;
   keeps_groups = false;
   terminator = job.terminator;
+  keeps_terminator = false;
 }

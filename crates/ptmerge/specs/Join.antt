@@ -145,4 +145,5 @@ join_engine job = record {
   first_slots = 4;
   keeps_groups = job.pairs;
   terminator = job.terminator;
+  keeps_terminator = false;
 }

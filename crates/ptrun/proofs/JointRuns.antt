@@ -114,6 +114,7 @@ module _ {I : Type 0} {names : InputNames I} (engine : EngineSpec I) (position :
     slots = grind arith;
     added = grind arith;
     unread = λ fine none. absurd (omega arith);
+    terminator = each by _ (λ i read fine. call.terminator i read fine);
     unchanged_if_failed = λ fault. cc;
   }
 

@@ -19,7 +19,14 @@ use Rattle.std.proofs.Math.Seq.{take-length}
 
 abbrev pub one_tool : ToolInRun → ToolSpec
 one_tool (OneByOne t) = t
-one_tool (Together t) = record { text = λ i. []; decided = λ g. []; size = λ i. 0; slots = 0; end = 10 }
+one_tool (Together t) = record {
+  text = λ i. [];
+  decided = λ g. [];
+  size = λ i. 0;
+  slots = 0;
+  end = 10;
+  keeps_end = false;
+}
 
 pub decides_all : (s : ToolInRun) → DecidesAllInTurn s → DecidesAll (one_tool s)
 decides_all (OneByOne t) law = law

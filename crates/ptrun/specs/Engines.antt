@@ -17,4 +17,5 @@ at_positions engine position = record {
   first_slots = engine.first_slots;
   keeps_groups = engine.keeps_groups;
   terminator = engine.terminator;
+  keeps_terminator = engine.keeps_terminator;
 }

@@ -44,7 +44,14 @@ written_of_the_first t bytes written failed k =
     failed kept.1
 
 abbrev no_tool : ToolSpec
-no_tool = record { text = λ text. []; decided = λ given. []; size = λ text. 0; slots = 0; end = 10 }
+no_tool = record {
+  text = λ text. [];
+  decided = λ given. [];
+  size = λ text. 0;
+  slots = 0;
+  end = 10;
+  keeps_end = true;
+}
 
 -- Nothing was written for a file of 3 bytes, and no write failed.
 nothing_of_a_small_file : HasBoundedLag (spec_of_args (words "cut -c 1 f g")) (first_complete (codes "ab\n")) 1
@@ -62,7 +69,14 @@ more_than_a_block_is_lost t bytes written too_much k =
     omega (arith, (written_of_the_first t bytes written true k).0, too_much)
 
 abbrev copier : ToolSpec
-copier = record { text = λ text. text; decided = λ given. given.bytes; size = λ text. 0; slots = 0; end = 10 }
+copier = record {
+  text = λ text. text;
+  decided = λ given. given.bytes;
+  size = λ text. 0;
+  slots = 0;
+  end = 10;
+  keeps_end = true;
+}
 
 -- Nothing was written for 20,000 bytes of the only input, each of which is decided as soon as it is received.
 nothing_of_one_input : HasBoundedLag (joint_spec [] (one_input_tool copier) [] (0 ∷ []))

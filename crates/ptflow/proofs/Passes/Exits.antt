@@ -10,7 +10,7 @@ use proofs.Common.{Received, IsPrefix, IsConsistent, Output, PushEffect, total_b
 use proofs.Common.{advance_trans, push_nothing, ToolSpec, PassPost, Read, CallState, call_state, CallOutcome}
 use proofs.Common.{AddedSlots, CallProgress, DecidedIfReadFailed, take, call_ends, call_on_failed_output, call_set}
 use proofs.Common.{call_without_slots, bounded_lag_after, Write, FlowFault, Memory, rules, drop, advance_ok_take, Bool}
-use proofs.Common.{refl, push_past_failure, OnErr, ◌+◌, ◌-◌, take_all, inl, inr, zero, suc, ◌∷◌, unlines}
+use proofs.Common.{refl, sym, if◌then◌else◌, push_past_failure, OnErr, ◌+◌, ◌-◌, take_all, inl, inr, zero, suc, ◌∷◌, unlines}
 use proofs.Common.{take-append-drop, false≢true, lines, IsLine, AreLines, max_length, max_line_length, known_lines}
 use proofs.Common.{FillLine, lines_of_unlines, lines_of_last, lines_cons, lines-unlines, ◌==◌}
 use proofs.Common.{complete_lines_of_unlines, AreReceivedLines, Some, eqb-true, eqb-false, complete_lines}
@@ -21,6 +21,7 @@ use specs.Private.Passes.BlockLoop.{IsBlockFilter, RunBlocksPost}
 use specs.Private.Passes.StepOutput.{OutputPart}
 pub use Rattle.ptlines.proofs.MaxLength.{max_length-append, piece_le_max_length}
 use specs.Calls.Passes.{PassPre, only_input, pass_end}
+use Rattle.ptlines.specs.Calls.Engines.{terminator_after}
 use specs.Passes.{pass_engine}
 use Rattle.ptlines.specs.Calls.Lag.{ProcessLag}
 
@@ -73,16 +74,25 @@ module _ (old : Reader) {set : Reader} {end : ℕ} where
 
   pub pass_set : {tool : ToolSpec} {new : Reader} {was is : Output} {before store : Slots}
       {result : Result (Unit {0}) FlowFault} → PassPost tool set new was is before store result
-      → set ≡ record old { terminator = end } → end ≡ tool.end → was.write_failed ≡ false
+      → set ≡ record old { terminator = end } → end ≡ tool.end → tool.keeps_end ≡ false → was.write_failed ≡ false
       → PassPost tool old new was is before store result
   pass_set = grind (arith, call_set)
+
+-- A reader that has the terminator of a tool keeps it.
+pub terminator_kept : (tool : ToolSpec) (reader : Reader) → reader.terminator ≡ tool.end
+    → terminator_after (pass_engine tool) reader.terminator ≡ reader.terminator
+terminator_kept tool reader same = by_choice tool.keeps_end
+  where
+    by_choice : (keeps : Bool) → (if keeps then reader.terminator else tool.end) ≡ reader.terminator
+    by_choice true = refl
+    by_choice false = sym same
 
 pub pass_unslotted : (tool : ToolSpec) {old : Reader} (was : Output) {before store : Slots} → PassPre old before
     → IsSound old → was.write_failed ≡ false → AddedSlots before store tool.slots → length store.lines < tool.slots
     → store.peak ≡ before.peak → store.denied ≡ true → old.terminator ≡ tool.end
     → IsPrefix (tool.decided (record { bytes = []; eof = false })) []
     → PassPost tool old old was was before store (Err Memory)
-pass_unslotted = grind (arith, call_without_slots)
+pass_unslotted = grind (arith, call_without_slots, terminator_kept)
 
 pub never_memory : {tool : ToolSpec} {old new : Reader} {was is : Output} {store : Slots}
     {result : Result (Unit {0}) FlowFault}
@@ -100,6 +110,7 @@ pub record PassEnding (tool : ToolSpec) (left : List ℕ → List ℕ) (old read
   pub reads : ReaderAdvance reader new piece
   pub stored : StoreBounds tool before store (received_with (given ++ piece) new)
   pub keeps_store : tool.slots ≡ 0 → store ≡ before
+  pub terminator : terminator_after (pass_engine tool) old.terminator ≡ old.terminator
   pub processing : LaggedOutput tool (received_with (given ++ piece) new) pushed
 
 module _ {tool : ToolSpec} {left : List ℕ → List ℕ} {old reader new : Reader} {was is : Output} {before store : Slots}
@@ -135,6 +146,7 @@ module _ {tool : ToolSpec} {left : List ℕ → List ℕ} {old reader new : Read
       slots = λ texts a. omega arith;
       least = omega arith;
       room = omega arith;
+      terminator = λ u read. p.terminator;
     }
 
     pass : (result : Result (Unit {0}) FlowFault)
@@ -284,11 +296,12 @@ module _ {X : Type 0} {rest_from : X → List ℕ → List ℕ} {IsUnchanged : X
 
     -- the end of a pass after a block was read, or a read failed
     abbrev pub Ending : Reader → Type 0
-    Ending new = (tool : ToolSpec) → IsBlockFilter tool rest_from IsUnchanged start → (store : Slots)
-        → PassPre old store → PassEnding tool (rest_from now) old reader new was is store store run.given [] run.pushed
+    Ending new = (tool : ToolSpec) → IsBlockFilter tool rest_from IsUnchanged start
+        → terminator_after (pass_engine tool) old.terminator ≡ old.terminator → (store : Slots) → PassPre old store
+        → PassEnding tool (rest_from now) old reader new was is store store run.given [] run.pushed
 
     pub ending : IsSound reader → {new : Reader} → ReaderAdvance reader new [] → IsSound new → Ending new
-    ending sound {new} reads is_sound tool filter store ready = record {
+    ending sound {new} reads is_sound tool filter terminator store ready = record {
       reached = run.reached;
       on = λ rest may. cc (filter.text (run.given ++ rest), run.on rest);
       ready = ready;
@@ -296,6 +309,7 @@ module _ {X : Type 0} {rest_from : X → List ℕ → List ℕ} {IsUnchanged : X
       reads = reads;
       stored = search rules;
       keeps_store = λ none. refl;
+      terminator = terminator;
       processing = record {
         before = λ u. record {
           earlier = record { bytes = run.given; eof = false };
@@ -310,8 +324,8 @@ module _ {X : Type 0} {rest_from : X → List ℕ → List ℕ} {IsUnchanged : X
 
     pub block_failed : {new : Reader} → Ending new → HasReadCause reader new
         → RunBlocksPost rest_from IsUnchanged start old new was is (Err (Read 0))
-    block_failed end cause tool filter store ready =
-        pass_read (end tool filter store ready) cause ready.not_denied (search rules)
+    block_failed end cause tool filter ends store ready =
+        pass_read (end tool filter ends store ready) cause ready.not_denied (search rules)
 
 -- ---- lines of a text
 

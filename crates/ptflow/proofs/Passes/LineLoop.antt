@@ -13,7 +13,7 @@ use proofs.Common.{Read, Write, Memory, received_with, reads_nothing, rules}
 use Rattle.ptlines.specs.Calls.ReadLine.{FillReadErr, FillMemoryErr}
 use proofs.Passes.Exits.{line_split, complete_prefix, max_length-append, lines_none, lines_few, lines_on, lines_more}
 use proofs.Passes.Exits.{lines_block, line_prefix, received_longest, piece_longest, whole_before, before_line, Progress}
-use proofs.Passes.Exits.{progress_flushed, StoreBounds, PassEnding, nothing_more, pass_unslotted, pass_read}
+use proofs.Passes.Exits.{progress_flushed, StoreBounds, PassEnding, nothing_more, pass_unslotted, pass_read, terminator_kept}
 use proofs.Passes.Exits.{pass_memory, pass_write, pass_done, pass_unended}
 use Rattle.ptflow.specs.Private.Passes.LineLoop.{RunLinesPre, SlotsCleared, IsSwapped, LinesFailed, LinesWritten}
 use Rattle.ptflow.specs.Private.Passes.LineLoop.{IsLinesLength}
@@ -276,6 +276,7 @@ module _ {S X E : Type 0} {tool : ToolSpec} {state : S → Slots → X} {rest_fr
           reads = reads;
           stored = bounded;
           keeps_store = λ none. absurd (omega arith);
+          terminator = terminator_kept tool old run.begins.ends;
           processing = before_line run.came reads line behind is whole short tool decided_so;
         }
 

@@ -34,6 +34,10 @@ pub record CallState (I : Type 0) : Type 0 where
 abbrev pub call_state : {I : Type 0} → (I → Reader) → Output → Slots → CallState I
 call_state reader out store = record { reader = reader; out = out; store = store }
 
+-- The terminator of a reader after a call of an engine, given the one before it.
+abbrev pub terminator_after : {I : Type 0} → EngineSpec I → ℕ → ℕ
+terminator_after engine before = if engine.keeps_terminator then before else engine.terminator
+
 -- How a call ended: with all of its output, with a fault, or at a line of an input that is out of order.
 pub data CallEnd (I : Type 0) : Type 0 where
   Complete : CallEnd I
@@ -151,5 +155,8 @@ module _ {I : Type 0} (names : InputNames I) where
       pub added : old.out.write_failed ≡ false → AddedAtLeast old.store new.store engine.first_slots
       -- if one of the first slots could not be added, nothing was read or pushed
       pub unread : old.out.write_failed ≡ false → length new.store.lines < engine.first_slots → IsCallUnread old new
+      -- the readers have the terminator of the engine, if it has one
+      pub terminator : (i : I) → names.is_read i ≡ true → old.out.write_failed ≡ false
+          → (new.reader i).terminator ≡ terminator_after engine (old.reader i).terminator
       -- on an output that had failed before, the call does nothing
       pub unchanged_if_failed : old.out.write_failed ≡ true → IsCallUnchanged old new end

@@ -28,12 +28,21 @@ slot_lines slots = map (λ s. s.line) slots
 abbrev pub AreBuffersBounded : ℕ → List SlotBuffer → Type 0
 AreBuffersBounded peak slots = All (λ s. s.buffer_size ≤ 2 * peak + 128) slots
 
--- The invariant of `Store`: the bytes of all lines are counted, and no line or buffer is too long.
+-- The bytes of all lines are counted, and no line or buffer is too long.
 pub record AreCounted (byte_count peak : ℕ) (slots : List SlotBuffer) : Type 0 where
   pub total : byte_count ≡ total_bytes (slot_lines slots)
   pub below_peak : byte_count ≤ peak
   pub lines : LengthsAreBounded (slot_lines slots)
   pub buffers : AreBuffersBounded peak slots
+
+-- A list of `count` slots has room for at most twice as many, and four.
+abbrev pub HasFewSpare : ℕ → ℕ → Type 0
+HasFewSpare capacity count = capacity ≤ 2 * count + 4
+
+-- The invariant of `Store`.
+pub record IsSoundStore (byte_count peak : ℕ) (slots : List SlotBuffer) (capacity count : ℕ) : Type 0 where
+  pub counted : AreCounted byte_count peak slots
+  pub room : HasFewSpare capacity count
 
 -- The invariant of `Slot`: at least 64 bytes of the buffer follow the line.
 pub record IsPadded (size buffer_size : ℕ) : Type 0 where

@@ -583,6 +583,7 @@ module _ {tool : MergeTool} {old : MergeState} (w : IsOpenMerge tool old) (new :
       slots = λ texts agree. (fits (lines_of tool texts) (input_lines _ agree)).1;
       least = omega (arith, has);
       room = omega (arith, has);
+      terminator = λ side read. sym (w.terminator side);
     }
       where
         has : max (length old.store.lines) 4 ≤ length new.store.lines
@@ -628,7 +629,7 @@ unfolding call_set
 merge_set {tool} {first} {second} {set1} {set2} {new = new} zero_byte end clean is1 is2 m =
     let is : (side : Side) → both set1 set2 side ≡ record (both first second side) { terminator = tool.terminator } =
     λ side. grind (arith, is1, is2) in record {
-      call = call_set both_sides _ _ _ new clean refl refl (λ side read. is side) (λ side none. cc) m.call;
+      call = call_set both_sides _ refl _ _ new clean refl refl (λ side read. is side) (λ side none. cc) m.call;
       stops_at_disorder = m.stops_at_disorder;
       first_reads = grind arith;
     }
@@ -660,7 +661,7 @@ merge_without_slots {tool} {old} w {new} same_output unread slots =
       split = refl;
     } in
     record {
-      call = call_without_slots both_sides (merge_engine tool) old new w.writable same_output (search rules)
+      call = call_without_slots both_sides (merge_engine tool) old new w.writable same_output (λ side read. refl) (search rules)
           (λ side none. cc) (λ side read. w.sound side) (λ side read. w.unfailed side) slots.denied slots.peak
           slots.least slots.few (λ texts. omega arith)
           (λ side read. decided_by w.o (given_before old) lag seen side (point side)

@@ -104,4 +104,5 @@ merge_engine tool = record {
   first_slots = 4;
   keeps_groups = tool.keeps_groups;
   terminator = tool.terminator;
+  keeps_terminator = false;
 }

@@ -28,8 +28,8 @@ reading-init g c = search (rules, blocks_start)
 pub returns-in_err-write_out_before_blocking : goal.returns-in_err-write_out_before_blocking
 returns-in_err-write_out_before_blocking g c =
     let sound = c.write_out_before_blocking.ensures.sound in
-    rw (is_fault c.from_residual.ensures) (λ t tool store ready.
-    let end = ending c.reading.invariant.run sound (reads_nothing _) sound t tool store ready in
+    rw (is_fault c.from_residual.ensures) (λ t tool ends store ready.
+    let end = ending c.reading.invariant.run sound (reads_nothing _) sound t tool ends store ready in
     pass_write end c.write_out_before_blocking.ensures.pushed.wrote (nothing_more end)
     c.in_err-write_out_before_blocking.ensures.pushed.fault refl ready.not_denied)
 
@@ -45,22 +45,22 @@ pub returns-in_err-process_block-in-Ok : goal.returns-in_err-process_block-in-Ok
 returns-in_err-process_block-in-Ok g c =
     let (_, end, (refilled, shown, _)) = read g (goal.at.returns-in_err-process_block-in-Ok g c).In-Ok in
     let halted = c.in_err-process_block-in-Ok.ensures.halts in
-    rw (is_fault c.from_residual-in_err-process_block-in-Ok.ensures) (λ t tool store ready.
-    pass_write (end t tool store ready) halted.wrote (λ rest may. rw shown (halted.is_prefix rest)) halted.fault
+    rw (is_fault c.from_residual-in_err-process_block-in-Ok.ensures) (λ t tool ends store ready.
+    pass_write (end t tool ends store ready) halted.wrote (λ rest may. rw shown (halted.is_prefix rest)) halted.fault
     refilled.failed ready.not_denied)
 
 pub returns-then-is_empty : goal.returns-then-is_empty
 returns-then-is_empty g c =
     let (_, end, (refilled, _, ended)) = read g (goal.at.returns-then-is_empty g c).In-Ok in
-    λ t tool store ready. pass_done (end t tool store ready) c.finish.ensures.wrote
+    λ t tool ends store ready. pass_done (end t tool ends store ready) c.finish.ensures.wrote
     (ended (grind usual)) refl refilled.failed ready.not_denied c.in_ok-finish-in-Ok.ensures.clean
     refilled.fault (c.block.follows.holds-at-none.is_sound.long refilled.fault) ready.empty
 
 pub returns-in_err-finish-in-Ok : goal.returns-in_err-finish-in-Ok
 returns-in_err-finish-in-Ok g c =
     let (_, end, (refilled, _, ended)) = read g (goal.at.returns-in_err-finish-in-Ok g c).In-Ok in
-    rw (is_fault c.from_residual-in_err-finish-in-Ok.ensures) (λ t tool store ready.
-    pass_unended (end t tool store ready) c.finish.ensures.wrote (ended (grind usual)) refl
+    rw (is_fault c.from_residual-in_err-finish-in-Ok.ensures) (λ t tool ends store ready.
+    pass_unended (end t tool ends store ready) c.finish.ensures.wrote (ended (grind usual)) refl
     refilled.failed ready.not_denied c.in_err-finish-in-Ok.ensures.fault)
 
 pub reading-preserved : goal.reading-preserved

@@ -1,9 +1,11 @@
 -- Tools that work block by block, and keep nothing in the store.
 use Rattle.std.specs.Prelude.{◌≡◌, ◌<◌, ◌≤◌, ◌+◌, ◌^◌, ℕ, List, ◌++◌, false, None, Result}
 use Rattle.ptlines.specs.Received.{IsPrefix}
+use Rattle.ptlines.specs.Calls.Engines.{terminator_after}
 use Rattle.ptlines.specs.Calls.Outputs.{Output}
 use Rattle.ptlines.specs.Readers.{Reader}
 use Rattle.ptflow.specs.Calls.Passes.{StorelessPost}
+use Rattle.ptflow.specs.Passes.{pass_engine}
 use Rattle.ptflow.specs.ToolSpec.{ToolSpec}
 use Rattle.ptflow.specs.declared.faults.FlowFault.{FlowFault}
 
@@ -28,8 +30,9 @@ pub record IsBlockFilter {X : Type 0} (tool : ToolSpec) (rest_from : X → List 
   pub holds : IsUnchanged start start
   pub slots : tool.slots ≡ 0
 
--- a call over the blocks of an input is a pass of every such tool
+-- A call over the blocks of an input is a pass of every such tool, if the reader has the terminator of the tool.
 abbrev pub RunBlocksPost : {X : Type 0} → (X → List ℕ → List ℕ) → (X → X → Type 0) → X → Reader → Reader → Output
     → Output → Result (Unit {0}) FlowFault → Type 0
 RunBlocksPost rest_from IsUnchanged start old new was is result =
-    (tool : ToolSpec) → IsBlockFilter tool rest_from IsUnchanged start → StorelessPost tool old new was is result
+    (tool : ToolSpec) → IsBlockFilter tool rest_from IsUnchanged start
+    → terminator_after (pass_engine tool) old.terminator ≡ old.terminator → StorelessPost tool old new was is result

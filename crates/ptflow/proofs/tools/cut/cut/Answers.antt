@@ -21,7 +21,7 @@ run_lines-requires-clause-tool g c = grind (arith, (cut_sure (cut_job c.new.resu
 pub returns-then-job : goal.returns-then-job
 returns-then-job g c =
     pass_set _ (rw c.new.ensures at c.run_lines.ensures) c.set_ending.ensures.set (ends _)
-    (sym c.has_failed.ensures ∙ c.if-has_failed.false)
+    refl (sym c.has_failed.ensures ∙ c.if-has_failed.false)
 
 pub returns : goal.returns
 returns g c =
@@ -43,5 +43,5 @@ returns g c =
       holds = (refl, refl);
       slots = ap (λ b. cond b 1 0) c.if-job.false;
     })
-    c.args.store.now (ready_set _ c.requires c.set_ending.ensures.set) in
-    pass_set _ pass c.set_ending.ensures.set (ends _) (sym c.has_failed.ensures ∙ c.if-has_failed.false)
+    (sym (ap (λ (r : Reader). r.terminator) c.set_ending.ensures.set ∙ ends _)) c.args.store.now (ready_set _ c.requires c.set_ending.ensures.set) in
+    pass_set _ pass c.set_ending.ensures.set (ends _) refl (sym c.has_failed.ensures ∙ c.if-has_failed.false)

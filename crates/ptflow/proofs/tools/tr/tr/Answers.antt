@@ -22,7 +22,7 @@ returns-clause-pass g c =
       holds = refl;
       slots = refl;
     })
-    store ready
+    refl store ready
 
 pub returns-clause-no_memory : goal.returns-clause-no_memory
 returns-clause-no_memory g c = never_memory refl (returns-clause-pass g c no_store c.requires)

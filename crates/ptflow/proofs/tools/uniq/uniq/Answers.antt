@@ -14,4 +14,4 @@ run_lines-requires-clause-tool g c = uniq_line_tool (uniq_job c.args.job.now) (�
 
 pub returns : goal.returns
 returns g c = pass_set _ c.run_lines.ensures c.set_ending.ensures.set (search rules)
-    (sym c.has_failed.ensures ∙ c.if-has_failed.false)
+    refl (sym c.has_failed.ensures ∙ c.if-has_failed.false)

@@ -9,13 +9,16 @@ pub overflow_add-self : goal.overflow_add-self
 overflow_add-self g c =
     let s = c.self.inside.slots in
     let few : length (slot_lines s.items) < 2 ^ 63 = omega (arith, length-map s.items line_of) in
-    omega (arith, total_fits (slot_lines s.items) (length c.args.bytes.now) c.self.invariant.lines few (omega arith))
+    omega (arith, total_fits (slot_lines s.items) (length c.args.bytes.now) c.self.invariant.counted.lines few (omega arith))
 
 pub invariant_of-self : goal.invariant_of-self
 invariant_of-self g c =
     let low = slot_in_range _ _ c.self.view_is c.requires in
-    counted_after_set _ _ _ low c.index_mut.ensures.value c.self.invariant
-    _ c.append.ensures.short c.append.ensures.buffer (grind (arith, length-append)) (omega arith) (omega arith)
+    record {
+      counted = counted_after_set _ _ _ low c.index_mut.ensures.value c.self.invariant.counted
+          _ c.append.ensures.short c.append.ensures.buffer (grind (arith, length-append)) (omega arith) (omega arith);
+      room = c.self.invariant.room;
+    }
 
 pub invariant_of-self-in-Err : goal.invariant_of-self-in-Err
 invariant_of-self-in-Err g c = grind (usual, slot_in_range)
@@ -28,7 +31,7 @@ returns-in-Ok-clause-ok g c =
     let low = slot_in_range _ _ c.self.view_is c.requires in
     let had = line_before _ _ c.self.view_is low c.index_mut.ensures.value in
     store_after_set _ _ c.self.view_is _ (c.in-Ok.ensures.ok ∙ ap (λ l. l ++ c.args.bytes.now) had)
-    (invariant_of-self g c).total c.max-self-inside.ensures
+    (invariant_of-self g c).counted.total c.max-self-inside.ensures
 
 pub returns-in-Err-clause-err : goal.returns-in-Err-clause-err
 returns-in-Err-clause-err g c = grind usual

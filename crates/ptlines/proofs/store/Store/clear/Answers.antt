@@ -7,22 +7,25 @@ use proofs.store.Store.clear.Goals as goal
 pub overflow_sub-self : goal.overflow_sub-self
 overflow_sub-self g c =
     let low = slot_in_range _ _ c.self.view_is c.requires in
-    omega (arith, line_le_total _ _ _ low c.index.ensures c.self.invariant)
+    omega (arith, line_le_total _ _ _ low c.index.ensures c.self.invariant.counted)
 
 pub invariant_of-self : goal.invariant_of-self
 invariant_of-self g c =
     let low = slot_in_range _ _ c.self.view_is c.requires in
     let there = c.index_mut.ensures.value in
-    let few = line_le_total _ _ _ low there c.self.invariant in
+    let few = line_le_total _ _ _ low there c.self.invariant.counted in
     let same = ap (λ t. length (line_of t)) (same_slot _ _ low c.index.ensures there) in
     let none = ap (λ t. length (line_of t)) c.clear.ensures in
-    counted_after_set _ _ _ low there c.self.invariant _ (omega arith) (grind arith) (omega arith)
-    (omega arith) (omega arith)
+    record {
+      counted = counted_after_set _ _ _ low there c.self.invariant.counted _ (omega arith) (grind arith)
+          (omega arith) (omega arith) (omega arith);
+      room = c.self.invariant.room;
+    }
 
 pub returns : goal.returns
 returns g c =
     store_after_set _ _ c.self.view_is _ (ap line_of c.clear.ensures)
-    (invariant_of-self g c).total (omega arith)
+    (invariant_of-self g c).counted.total (omega arith)
 
 pub index-requires : goal.index-requires
 index-requires g c = grind usual

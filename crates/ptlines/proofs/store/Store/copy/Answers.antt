@@ -23,7 +23,7 @@ pub overflow_add-self : goal.overflow_add-self
 overflow_add-self g c =
     let s = c.self.inside.slots in
     let few : length (slot_lines s.items) < 2 ^ 63 = omega (arith, length-map s.items line_of) in
-    let fits = total_fits (slot_lines s.items) c.size.result c.self.invariant.lines few (omega arith) in
+    let fits = total_fits (slot_lines s.items) c.size.result c.self.invariant.counted.lines few (omega arith) in
     omega arith
 
 pub invariant_of-self : goal.invariant_of-self
@@ -36,16 +36,19 @@ invariant_of-self g c =
     let (total, _, _) =
     copied _ _ (with_items s.slots c.append_slot.new.slots).items c.args.from c.args.to _ _ _ c.requires.differ
     c.requires.from_in c.requires.to_in cleared (ap slot_lines whole ∙ lines)
-    c.self.invariant.total c.index.ensures c.size.ensures.size in
+    c.self.invariant.counted.total c.index.ensures c.size.ensures.size in
     let peak = c.max-self-inside.result in
     let below : total_bytes (slot_lines c.append_slot.new.slots) ≤ peak = grind (arith, slot_lines) in
     let fit : AreBuffersBounded peak s.slots.items = grind arith in
     record {
-      total = total;
-      below_peak = omega arith;
-      lines = grind arith;
-      buffers = subst (AreBuffersBounded peak) (sym whole)
-          (c.append_slot.ensures.buffers peak below (grind arith));
+      counted = record {
+        total = total;
+        below_peak = omega arith;
+        lines = grind arith;
+        buffers = subst (AreBuffersBounded peak) (sym whole)
+            (c.append_slot.ensures.buffers peak below (grind arith));
+      };
+      room = c.self.invariant.room;
     }
 
 pub returns-in-Ok-clause-ok : goal.returns-in-Ok-clause-ok

@@ -6,8 +6,11 @@ use proofs.store.Store.swap.Goals as goal
 
 pub invariant_of-self : goal.invariant_of-self
 invariant_of-self g c =
-    rw c.swap.ensures.items (counted_after_swap _ _ _ (slot_in_range _ _ c.self.view_is c.requires.a_in)
-    (slot_in_range _ _ c.self.view_is c.requires.b_in) c.self.invariant)
+    record {
+      counted = rw c.swap.ensures.items (counted_after_swap _ _ _ (slot_in_range _ _ c.self.view_is c.requires.a_in)
+          (slot_in_range _ _ c.self.view_is c.requires.b_in) c.self.invariant.counted);
+      room = rw (c.swap.ensures.capacity, c.swap.ensures.len) c.self.invariant.room;
+    }
 
 pub returns : goal.returns
 returns g c = grind (usual, slot_lines-swap)

@@ -1,6 +1,6 @@
 -- `SerialPaste` is a block filter: at the start of a row the rest of the row is the whole output.
 use Rattle.ptflow.proofs
-use proofs.Common.{◌≡◌, [], refl, paste_job, paste_serial_tool, row_rest, rules, sym, ◌∙◌}
+use proofs.Common.{◌≡◌, [], Reader, ap, refl, paste_job, paste_serial_tool, row_rest, rules, sym, ◌∙◌}
 use proofs.Passes.Exits.{pass_unchanged, pass_set, ready_set}
 use proofs.PasteLemmas.Replaced.{serial_is_decided}
 use proofs.tools.paste.serial.paste_serial.Goals as goal
@@ -21,5 +21,5 @@ returns g c =
       holds = refl;
       slots = refl;
     })
-    c.args._store.now (ready_set _ c.requires c.set_ending.ensures.set))
-    c.set_ending.ensures.set (search rules) (sym c.has_failed.ensures ∙ c.if-has_failed.false)
+    (sym (ap (λ (r : Reader). r.terminator) c.set_ending.ensures.set ∙ (search rules))) c.args._store.now (ready_set _ c.requires c.set_ending.ensures.set))
+    c.set_ending.ensures.set (search rules) refl (sym c.has_failed.ensures ∙ c.if-has_failed.false)
