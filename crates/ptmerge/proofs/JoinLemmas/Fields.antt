@@ -22,7 +22,7 @@ use Rattle.ptlangs.specs.declared.outlist.OutField.{OutField}
 use proofs.Common.{First, Second, Side}
 use specs.declared.key_order.Span.{Span}
 use lemmas.Simd.{mask_l-lt, trailing_mask_l}
-use Rattle.std.specs.Simd.Lanes.{chunk, mask_l, top, zip2}
+use Rattle.std.specs.Simd.Lanes.{chunk, mask_l}
 use Rattle.memchr.specs.Find.{is_byte, is_byte2, IsFirstByte}
 use Rattle.std.proofs.Math.Nat.{div-div-eq-div-mul, mul-lt-mul_of_pos_right, mul_assoc, one-le-pow}
 use Rattle.std.proofs.Math.Pow.{pow-add, pow-lt, pow_mono}

@@ -11,7 +11,7 @@ use std::marker::Model;
 #[derive(Drop)]
 pub(crate) struct Row {
     // The first `end` bytes are the row.
-    bytes: [u8; 128],
+    bytes: [u8; 96],
     end: usize,
 }
 
@@ -22,7 +22,7 @@ impl Model for Row {
 
     ghost view = { λ r. take r.end r.bytes };
 
-    ghost invariant = { λ r. (r.end ≤ 128) × (length r.bytes ≡ 128) };
+    ghost invariant = { λ r. (r.end ≤ 96) × (length r.bytes ≡ 96) };
 }
 
 impl Row {
@@ -32,7 +32,7 @@ impl Row {
         ensures { result ≡ [] }
     {
         Row {
-            bytes: [0; 128],
+            bytes: [0; 96],
             end: 0,
         }
     }
@@ -48,7 +48,7 @@ impl Row {
     ) -> Result<(), WriteFault>
         ensures { AddPost self.old self.new (prefix.now ++ field.now) out.old out.new result }
     {
-        if prefix.len() + field.len() > 128 - self.end {
+        if prefix.len() + field.len() > 96 - self.end {
             return self.push_with(prefix, field, out);
         }
         let from = self.end + prefix.len();
