@@ -1,4 +1,5 @@
 pub mod Below
+pub mod FileLemmas
+pub mod Unread
 pub mod RoomLemmas
-pub mod InputLemmas
 pub mod RunLemmas

@@ -2,7 +2,7 @@
 
 use std::alloc::{AllocError, Allocator};
 
-/// The end of a file that is not there.
+// The end of a file that cannot be opened.
 const NO_FILE: usize = usize::MAX;
 
 /// Splits words, each of which ends with byte 0.
@@ -29,7 +29,7 @@ pub fn are_ends(ends: &[usize], size: usize) -> bool {
     true
 }
 
-/// Splits files that lie one after another and have these ends.
+/// Splits files that lie one after another and have these ends, which must be in order.
 pub fn files_of<'a, A: Allocator + Copy>(
     alloc: A,
     bytes: &'a [u8],

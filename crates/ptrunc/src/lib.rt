@@ -3,6 +3,7 @@
 #![tactic(auto)]
 
 mod answer;
+mod files;
 mod given;
 mod memory;
 mod naming;
@@ -11,10 +12,8 @@ mod running;
 use answer::{Answer, refuse};
 use given::{are_ends, files_of, words_of};
 use naming::write_names;
-use running::{NO_MEMORY, run_in_memory};
+use running::run_in_memory;
 use std::alloc::Global;
-
-const NOT_UTF8: &str = "ptext: a word is not UTF-8\n";
 
 /// Runs a command over bytes in memory. Each word ends with byte 0. The files lie one after another in `files`, with
 /// these ends; `usize::MAX` is the end of a file that cannot be opened.
@@ -43,7 +42,7 @@ fn run_given(
 ) -> Answer {
     let (files, ends) = given;
     let Ok(text) = str::from_utf8(words) else {
-        return refuse(2, NOT_UTF8, messages);
+        return refuse(2, "ptext: a word is not UTF-8\n", messages);
     };
     if !are_ends(ends, files.len()) {
         return refuse(
@@ -54,7 +53,7 @@ fn run_given(
     }
     match (words_of(alloc, text), files_of(alloc, files, ends)) {
         (Ok(words), Ok(files)) => run_in_memory(alloc, &words, input, &files, out, messages),
-        _ => refuse(4, NO_MEMORY, messages),
+        _ => refuse(4, "ptext: out of memory\n", messages),
     }
 }
 
@@ -67,12 +66,16 @@ pub extern "C" fn ptext_names_in_memory(
     output: &mut [u8],
     answer: &mut Answer,
 ) {
+    *answer = name_given(alloc, words, names, output);
+}
+
+// Names the files of a command whose words are split first.
+fn name_given(alloc: Global, words: &[u8], names: &mut [u8], output: &mut [u8]) -> Answer {
     let Ok(text) = str::from_utf8(words) else {
-        *answer = refuse(0, "", output);
-        return;
+        return refuse(0, "", output);
     };
-    *answer = match words_of(alloc, text) {
+    match words_of(alloc, text) {
         Ok(words) => write_names(alloc, &words, names, output),
         Err(_) => refuse(4, "", output),
-    };
+    }
 }

@@ -1,0 +1,2 @@
+-- The contracts of public calls.
+pub mod Answers
