@@ -9,11 +9,15 @@ mod memory;
 mod naming;
 mod running;
 
+ghost use Rattle.ptrunc.specs.Calls.Given.{RunGivenPost};
+
 use answer::{Answer, refuse};
 use given::{are_ends, files_of, words_of};
 use naming::write_names;
 use running::run_in_memory;
 use std::alloc::Global;
+
+const NO_MEMORY: &str = "ptext: out of memory\n";
 
 /// Runs a command over bytes in memory. Each word ends with byte 0. The files lie one after another in `files`, with
 /// these ends; `usize::MAX` is the end of a file that cannot be opened.
@@ -27,7 +31,9 @@ pub extern "C" fn ptext_run_in_memory(
     out: &mut [u8],
     messages: &mut [u8],
     answer: &mut Answer,
-) {
+)
+    ensures { RunGivenPost words.now input.now files.now ends.now out.new messages.new answer.new }
+{
     *answer = run_given(alloc, words, input, (files, ends), out, messages);
 }
 
@@ -39,7 +45,9 @@ fn run_given(
     given: (&[u8], &[usize]),
     out: &mut [u8],
     messages: &mut [u8],
-) -> Answer {
+) -> Answer
+    ensures { RunGivenPost words.now input.now given.entry.0.now given.entry.1.now out.new messages.new result }
+{
     let (files, ends) = given;
     let Ok(text) = str::from_utf8(words) else {
         return refuse(2, "ptext: a word is not UTF-8\n", messages);
@@ -51,9 +59,12 @@ fn run_given(
             messages,
         );
     }
-    match (words_of(alloc, text), files_of(alloc, files, ends)) {
-        (Ok(words), Ok(files)) => run_in_memory(alloc, &words, input, &files, out, messages),
-        _ => refuse(4, "ptext: out of memory\n", messages),
+    let Ok(words) = words_of(alloc, text) else {
+        return refuse(4, NO_MEMORY, messages);
+    };
+    match files_of(alloc, files, ends) {
+        Ok(files) => run_in_memory(alloc, &words, input, &files, out, messages),
+        Err(_) => refuse(4, NO_MEMORY, messages),
     }
 }
 
