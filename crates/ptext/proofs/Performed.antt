@@ -1,5 +1,6 @@
 -- Standard output is returned unchanged unless the words mean a command that writes to it.
-use Rattle.std.proofs.Common.{◌≡◌, ℕ, Bool, true, false, List, [], ◌∷◌, ⊎_elim, refl, subst}
+use Rattle.std.proofs.Common.{◌≡◌, ℕ, Bool, true, false, List, [], ◌∷◌, ⊎_elim, inl, inr, refl, subst}
+use Rattle.std.specs.Prelude.{⊤}
 use Rattle.ptlines.specs.Sinks.{SinkState}
 use Rattle.ptlines.specs.Sources.{SourceState}
 use Rattle.ptopts.specs.Commands.{command_of_args}
@@ -20,28 +21,44 @@ if_directed : (names : List (List ℕ)) (b : Before) (a : After) (outputs : List
 if_directed [] b a outputs old new Unused directed = directed.3
 if_directed (name ∷ names) b a outputs old new Unused directed = directed.2
 
-if_run : (words : List (List ℕ)) (b : Before) (a : After) (Unused : Type 0)
-    → has_standard_output (valid_command (command_of_args words)) ≡ false → HasRun words b a Unused → Unused
-if_run words b a Unused not_standard h =
+if_run : (words : List (List ℕ)) (b : Before) (a : After) (Unused Failing : Type 0)
+    → has_standard_output (valid_command (command_of_args words)) ≡ false → HasRun words b a Unused Failing → Unused
+if_run words b a Unused Failing not_standard h =
     let command = command_to_run words a.out_of_memory in
     if_directed (output_names command (new_readers b.standard h.inputs))
     (record b { files = with_opened b.files (input_names command) h.inputs }) a h.ran.outputs h.ran.sink
     h.ran.sink_after Unused (rw (if_not_standard words a.out_of_memory not_standard) at h.ran.directed)
 
-pub out_is_unused : {words : List (List ℕ)} {b : Before} {a : After} {Unused : Type 0}
-    → has_standard_output (valid_command (command_of_args words)) ≡ false → RunOverFilesPost words b a Unused → Unused
-out_is_unused {words} {b} {a} {Unused} not_standard = ⊎_elim (λ run. if_run words b a Unused not_standard run.0)
+pub out_is_unused : {words : List (List ℕ)} {b : Before} {a : After} {Unused Failing : Type 0}
+    → has_standard_output (valid_command (command_of_args words)) ≡ false → RunOverFilesPost words b a Unused Failing
+    → Unused
+out_is_unused {words} {b} {a} {Unused} {Failing} not_standard =
+    ⊎_elim (λ run. if_run words b a Unused Failing not_standard run.0)
     (⊎_elim (λ unopened. unopened.not_created.said.unused) (λ memory. memory.said.unused))
+
+-- Nothing is said of when a read of a file of the system fails.
+of_system : {words : List (List ℕ)} {b : Before} {a : After} {Unused Failing : Type 0}
+    → RunOverFilesPost words b a Unused Failing → RunOverFilesPost words b a Unused ⊤
+of_system {words} {b} {a} {Unused} (inl (h, exact)) = let of_system : HasRun words b a Unused ⊤ = record {
+  inputs = h.inputs;
+  are_new = h.are_new;
+  contents = h.contents;
+  new = h.new;
+  ran = h.ran;
+  failures = λ position failed. tt;
+} in inl (of_system, exact)
+of_system (inr other) = inr other
 
 -- The files of the system were not used before.
 pub performed : {words : List (List ℕ)} {old new : FilesState} {standard : SourceState} {out messages : SinkState}
-    {file : Output} {out_of_memory : Bool} {o : Outcome} {Unused : Type 0} → old ≡ no_calls
-    → RunOverFilesInOwnStore words old new standard out messages file out_of_memory o Unused
+    {file : Output} {out_of_memory : Bool} {o : Outcome} {Unused Failing : Type 0} → old ≡ no_calls
+    → RunOverFilesInOwnStore words old new standard out messages file out_of_memory o Unused Failing
     → PerformPost words standard out messages Unused o
 performed {words} {old} {new} {standard} {out} {messages} {file} {out_of_memory} {o} {Unused} none post = (
   new,
   file,
   out_of_memory,
   subst
-      (λ files. RunOverFilesInOwnStore words files new standard out messages file out_of_memory o Unused) none post,
+      (λ files. RunOverFilesInOwnStore words files new standard out messages file out_of_memory o Unused ⊤) none
+      (post.0, of_system post.1),
 )

@@ -1,5 +1,5 @@
 -- The postcondition of `perform`.
-use Rattle.std.specs.Prelude.{ℕ, Bool, List, [], None}
+use Rattle.std.specs.Prelude.{ℕ, Bool, List, [], None, ⊤}
 use Rattle.ptlines.specs.Sinks.{SinkState}
 use Rattle.ptlines.specs.Sources.{SourceState}
 use Rattle.ptrun.specs.Runs.{Outcome}
@@ -14,4 +14,4 @@ no_calls = record { opened = []; inputs = []; created = []; outputs = []; conten
 abbrev pub PerformPost : List (List ℕ) → SourceState → SinkState → SinkState → Type 0 → Outcome → Type 0
 PerformPost words standard out messages Unused o =
     (files : FilesState) × (file : Output) × (out_of_memory : Bool)
-    × RunOverFilesInOwnStore words no_calls files standard out messages file out_of_memory o Unused
+    × RunOverFilesInOwnStore words no_calls files standard out messages file out_of_memory o Unused ⊤

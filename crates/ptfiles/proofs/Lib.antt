@@ -1,3 +1,4 @@
+pub mod FailedReads
 pub mod Inputs
 pub mod Outputs
 pub mod Runs

@@ -15,7 +15,7 @@ use Rattle.ptlines.specs.Readers.{Reader}
 use Rattle.ptlines.specs.Sinks.{SinkState}
 use Rattle.ptlines.specs.Slots.{Slots}
 use Rattle.ptlines.specs.Sources.{SourceState, IsFresh}
-use Rattle.ptrun.specs.Files.{AreNewInputs}
+use Rattle.ptrun.specs.Files.{AreNewInputs, HasReadFailed, HaveReceived, ReceivedInputs}
 use Rattle.ptrun.specs.Runs.{Outcome, IsExactUnlessFailed, IsRunInStore, IsStoreUnchangedIfUnread, IsUnchangedIfUnread}
 use Rattle.ptrun.specs.Runs.{sinks}
 use Rattle.ptrun.specs.SpecOfArgs.{is_memory_fault, file_count, spec_of_args, spec_of_parsed, spec_unless_memory}
@@ -157,17 +157,21 @@ output_is_parsed (Err fault) readers name is = absurd (nil_is_not_cons is)
 -- ---- runs over files
 
 -- The files that the words name were opened, and the command was run over them.
-module _ (words : List (List ℕ)) (b : Before) (a : After) {Unused : Type 0} {files : FilesState}
+module _ (words : List (List ℕ)) (b : Before) (a : After) {Unused Failing : Type 0} {files : FilesState}
     {old new : List Reader}
+    (failing : (received : ReceivedInputs) → HaveReceived old new received
+    → (position : ℕ) → HasReadFailed old new position → Failing)
     (opened : HaveOpened b.files files (input_names (command_to_run words a.out_of_memory)) b.standard old)
     (after_open : RunOverInputsPost words old new (record b { files = files }) a Unused) where
-  has_run : HasRunOver words old new (record b { files = files }) a Unused → RunOverFilesPost words b a Unused
-  has_run ran = let h : HasRun words b a Unused = record {
+  has_run : HasRunOver words old new (record b { files = files }) a Unused → RunOverFilesPost words b a Unused Failing
+  has_run ran = let h : HasRun words b a Unused Failing = record {
     inputs = opened.inputs;
     are_new = opened.are_new;
     contents = opened.contents;
     new = new;
     ran = rw (opened.readers_are, opened.opened) at ran;
+    failures = subst (λ l. (position : ℕ) → HasReadFailed l new position → Failing) opened.readers_are
+        (failing ran.run.run.received ran.run.run.came);
   } in inl (
     h,
     λ bytes contents is short have unfailed written fits parsed.
@@ -178,7 +182,7 @@ module _ (words : List (List ℕ)) (b : Before) (a : After) {Unused : Type 0} {f
         unfailed written fits,
   )
 
-  not_created : IsNotCreated words old (record b { files = files }) a Unused → RunOverFilesPost words b a Unused
+  not_created : IsNotCreated words old (record b { files = files }) a Unused → RunOverFilesPost words b a Unused Failing
   not_created n = inr (inl (record {
     inputs = opened.inputs;
     are_new = opened.are_new;
@@ -186,7 +190,7 @@ module _ (words : List (List ℕ)) (b : Before) (a : After) {Unused : Type 0} {f
     not_created = rw (opened.readers_are, opened.opened) at n;
   }))
 
-  over_opened : RunOverFilesPost words b a Unused
+  over_opened : RunOverFilesPost words b a Unused Failing
   over_opened = ⊎_elim has_run not_created after_open
 
 module _ {A : Type 0} (command : Result (code.Command A) UseFault) {names : List (List ℕ)}
@@ -206,20 +210,22 @@ module _ {A : Type 0} (command : Result (code.Command A) UseFault) {names : List
         (opened_are_new before_open files names standard readers fresh opened)
 
     pub run_over_files : (words : List (List ℕ)) → CommandPost command (command_of_args words) → {new : List Reader}
-        (out messages : SinkState) (store : Slots) (a : After) {Unused : Type 0}
+        (out messages : SinkState) (store : Slots) (a : After) {Unused Failing : Type 0}
+        → ((received : ReceivedInputs) → HaveReceived old new received
+        → (position : ℕ) → HasReadFailed old new position → Failing)
         → a.out_of_memory ≡ is_memory_fault command
         → RunOverInputsPost words old new (before files standard out messages store) a Unused
-        → RunOverFilesPost words (before before_open standard out messages store) a Unused
-    run_over_files words meant out messages store a oom post =
-        over_opened words (before before_open standard out messages store) a
+        → RunOverFilesPost words (before before_open standard out messages store) a Unused Failing
+    run_over_files words meant out messages store a failing oom post =
+        over_opened words (before before_open standard out messages store) a failing
         (subst (λ l. HaveOpened before_open files (input_names (command_to_run words a.out_of_memory)) standard l) (sym same)
         (subst (λ l. HaveOpened before_open files l standard readers)
         (named ∙ ap input_names (to_run command words meant a.out_of_memory oom)) opened))
         post
 
 pub in_own_store : {words : List (List ℕ)} {files : FilesState} {standard : SourceState} {out messages : SinkState}
-    {store own : Slots} {a : After} {Unused : Type 0} → store ≡ own
-    → RunOverFilesPost words (before files standard out messages store) a Unused
-    → RunOverFilesPost words (before files standard out messages own) a Unused
-in_own_store {words} {files} {standard} {out} {messages} {store} {own} {a} {Unused} same post =
-    subst (λ s. RunOverFilesPost words (before files standard out messages s) a Unused) same post
+    {store own : Slots} {a : After} {Unused Failing : Type 0} → store ≡ own
+    → RunOverFilesPost words (before files standard out messages store) a Unused Failing
+    → RunOverFilesPost words (before files standard out messages own) a Unused Failing
+in_own_store {words} {files} {standard} {out} {messages} {store} {own} {a} {Unused} {Failing} same post =
+    subst (λ s. RunOverFilesPost words (before files standard out messages s) a Unused Failing) same post

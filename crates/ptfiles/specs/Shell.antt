@@ -109,9 +109,13 @@ pub record HasRunOver (words : List (List ℕ)) (old new : List Reader) (b : Bef
   pub keeps_nothing : IsStoreUnchangedIfUnread (spec_unless_memory words a.out_of_memory) old b.store a.store
   pub store : (a.outcome.peak ≡ a.store.peak) × (a.outcome.denied ≡ a.store.denied)
 
+-- A source of one of these types may say that a read of it has failed. No bytes in memory say so.
+abbrev pub MayFail : {S R : Type 0} → (S → SourceState) → (R → SourceState) → Type 0
+MayFail {S} {R} s r = ((x : S) × ((s x).failed ≡ true)) ⊎ ((x : R) × ((r x).failed ≡ true))
+
 -- The files that the words name were opened, in their order, each once, and the command was run over what these calls
--- returned. No other file was opened; none if the words are not valid.
-pub record HasRun (words : List (List ℕ)) (b : Before) (a : After) (Unused : Type 0) : Type 0 where
+-- returned. No other file was opened; none if the words are not valid. `Failing` says that a source may have failed.
+pub record HasRun (words : List (List ℕ)) (b : Before) (a : After) (Unused Failing : Type 0) : Type 0 where
   pub inputs : List Input
   pub are_new : All IsNewInput inputs
   pub contents : AreContents b.files.content (length b.files.opened)
@@ -120,11 +124,13 @@ pub record HasRun (words : List (List ℕ)) (b : Before) (a : After) (Unused : T
   pub new : List Reader
   pub ran : HasRunOver words (new_readers b.standard inputs) new
       (record b { files = with_opened b.files (input_names (command_to_run words a.out_of_memory)) inputs }) a Unused
+  -- a read has failed only if its source says so
+  pub failures : (position : ℕ) → HasReadFailed (new_readers b.standard inputs) new position → Failing
 
 -- The main theorem over names: if the bytes of standard input and of the files are known, no read and no write fails,
 -- and memory does not run out, then output, messages, status and memory are those that the words mean for these bytes.
-abbrev pub IsExactOverNames : (words : List (List ℕ)) (b : Before) (a : After) {Unused : Type 0}
-    → HasRun words b a Unused → Type 0
+abbrev pub IsExactOverNames : (words : List (List ℕ)) (b : Before) (a : After) {Unused Failing : Type 0}
+    → HasRun words b a Unused Failing → Type 0
 IsExactOverNames words b a h =
     (bytes : List ℕ) (contents : List Content) → b.standard ≡ source_of bytes → IsShort (Some bytes)
     → HaveContents b.files.content (length b.files.opened) (input_names (command_to_run words a.out_of_memory)) contents
@@ -172,14 +178,14 @@ pub record IsOutputUnopened (words : List (List ℕ)) (b : Before) (a : After) (
 -- ---- the postconditions
 
 -- The postcondition of `run_over_files_in_store`.
-abbrev pub RunOverFilesPost : List (List ℕ) → Before → After → Type 0 → Type 0
-RunOverFilesPost words b a Unused =
-    ((h : HasRun words b a Unused) × IsExactOverNames words b a h)
+abbrev pub RunOverFilesPost : List (List ℕ) → Before → After → Type 0 → Type 0 → Type 0
+RunOverFilesPost words b a Unused Failing =
+    ((h : HasRun words b a Unused Failing) × IsExactOverNames words b a h)
     ⊎ (IsOutputUnopened words b a Unused ⊎ IsOutOfMemory b a Unused)
 
 -- The postcondition of `run_over_files`, which has a store of its own. It is empty at first.
 abbrev pub RunOverFilesInOwnStore : List (List ℕ) → FilesState → FilesState → SourceState → SinkState → SinkState
-    → Output → Bool → Outcome → Type 0 → Type 0
-RunOverFilesInOwnStore words old new standard out messages file out_of_memory outcome Unused =
+    → Output → Bool → Outcome → Type 0 → Type 0 → Type 0
+RunOverFilesInOwnStore words old new standard out messages file out_of_memory outcome Unused Failing =
     (left : Slots) × RunOverFilesPost words (before old standard out messages empty_store)
-    (after new left file out_of_memory outcome) Unused
+    (after new left file out_of_memory outcome) Unused Failing

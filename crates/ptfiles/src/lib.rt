@@ -4,6 +4,7 @@
 #![tactic(auto)]
 
 mod calls;
+mod failures;
 mod files;
 mod output;
 mod report;

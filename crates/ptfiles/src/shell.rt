@@ -13,11 +13,12 @@ ghost use Rattle.ptrun.specs.Runs.{outcome, sinks as run_sinks};
 ghost use Rattle.ptrun.specs.SpecOfArgs.{file_count, is_memory_fault};
 ghost use Rattle.ptfiles.specs.Files.{IsNewInput, created_state, reader_of_input};
 ghost use Rattle.ptfiles.specs.Private.Files.{opened_state};
-ghost use Rattle.ptfiles.specs.Shell.{RunOverFilesPost, RunOverFilesInOwnStore};
+ghost use Rattle.ptfiles.specs.Shell.{MayFail, RunOverFilesPost, RunOverFilesInOwnStore};
 ghost use Rattle.ptfiles.specs.Private.Shell.{RunOverInputsPost, HaveOpened};
 ghost use Rattle.ptfiles.specs.Private.Shell.{IsDestination, command_of_parsed};
 ghost use Rattle.ptfiles.specs.Shell.{before, after, input_names};
 
+use crate::failures::failures_are_of_sources;
 use crate::files::Files;
 use crate::output::Output;
 use crate::report::FilesReport;
@@ -49,7 +50,7 @@ pub fn run_over_files<A: Allocator + Copy, F: Files, S: Source, W: Sink, E: Sink
     ensures { RunOverFilesInOwnStore (words_view words.now) (F.state files.old) (F.state files.new)
         (S.state streams.standard) (W.state streams.out) (E.state streams.messages)
         (created_state F.Output.state result.file) result.out_of_memory (outcome W.state E.state result.report)
-        (result.report.out ≡ streams.out) }
+        (result.report.out ≡ streams.out) (MayFail S.state F.Input.state) }
 {
     let mut store = Store::empty(alloc);
     run_over_files_in_store(alloc, &mut store, files, words, streams)
@@ -86,7 +87,7 @@ pub fn run_over_files_in_store<
     ensures { RunOverFilesPost (words_view words.now)
         (before (F.state files.old) (S.state streams.standard) (W.state streams.out) (E.state streams.messages) store.old)
         (after (F.state files.new) store.new (created_state F.Output.state result.file) result.out_of_memory
-        (outcome W.state E.state result.report)) (result.report.out ≡ streams.out) }
+        (outcome W.state E.state result.report)) (result.report.out ≡ streams.out) (MayFail S.state F.Input.state) }
 {
     let Streams {
         standard,
@@ -95,14 +96,13 @@ pub fn run_over_files_in_store<
     } = streams;
     let command = Command::read(alloc, words);
     match open_inputs(alloc, files, names_of(&command), standard) {
-        Ok(mut inputs) => run_over_inputs(
-            store,
-            files,
-            command,
-            words,
-            &mut inputs,
-            Sinks { out, messages },
-        ),
+        Ok(mut inputs) => {
+            let inputs = &mut *inputs;
+            let sinks = Sinks { out, messages };
+            let report = run_over_inputs(store, files, command, words, inputs, sinks);
+            failures_are_of_sources(inputs);
+            report
+        }
         Err(_) => FilesReport::no_memory(out, messages),
     }
 }

@@ -1,4 +1,6 @@
 pub mod Below
+pub mod FileLemmas
+pub mod GivenLemmas
+pub mod Unread
 pub mod RoomLemmas
-pub mod InputLemmas
 pub mod RunLemmas

@@ -1,15 +1,18 @@
 -- A run that returns a sink to which it has added bytes has returned the sink of the same room: the state of a sink
 -- begins with the ghost name of its room. And what the room has is what the state says.
-use Rattle.std.proofs.Common.{◌≡◌, ℕ, ◌<◌, List, [], ◌∷◌, ◌++◌, Option, Some, None, ap, sym, ◌∙◌, arith, length, take}
-use Rattle.std.proofs.Common.{length-append, append_assoc, vec_len, ⊎_elim}
-use Rattle.std.proofs.lemmas.List.{length-take-le}
+use Rattle.std.proofs.Common.{◌≡◌, ℕ, ◌<◌, Bool, true, false, List, [], ◌∷◌, ◌++◌, Option, Some, None, ap, sym, ◌∙◌, refl}
+use Rattle.std.proofs.Common.{arith, inl, inr, length, take, length-append, append_assoc, vec_len, ⊎_elim, Result, Ok, Err}
+use Rattle.std.proofs.lemmas.Bool.{true≢false}
+use Rattle.std.proofs.lemmas.List.{append-nil, length-take-le}
 use Rattle.std.proofs.Math.Seq.{take-append_seam}
-use Rattle.ptrunc.proofs.Below.{below_or_not}
 use Rattle.std.specs.Io.KnownBytes.{append_known}
+use Rattle.ptlines.specs.Calls.Sinks.{WriteOutErr, WriteOutOk}
 use Rattle.ptlines.specs.Received.{IsPrefix}
-use Rattle.ptrunc.specs.Results.{Holds, part_of}
-use Rattle.ptrunc.specs.Rooms.{filling_bytes, filling_state, IsNewFilling}
+use Rattle.ptrunc.proofs.Below.{below_or_not}
+use Rattle.ptrunc.specs.Private.Rooms.{AppendPost, IsNewFilling, filling_bytes, filling_state, part_of}
+use Rattle.ptrunc.specs.Results.{Holds, IsFull}
 use Rattle.ptrunc.specs.declared.memory.Filling.{Filling}
+use Rattle.ptrunc.specs.declared.memory.Kept.{Kept}
 
 head_of : Option (List ℕ) → ℕ
 head_of None = 0
@@ -27,35 +30,84 @@ module _ {A : Type 0} (old new : Filling A) (bytes : List ℕ)
   unfolding head_of
   same_room = ap head_of added
 
-  pub bytes_added : IsNewFilling old → filling_bytes new ≡ bytes
+  pub bytes_after : filling_bytes new ≡ filling_bytes old ++ bytes
   unfolding tail_of
-  bytes_added is_new = ap tail_of added ∙ ap (λ (l : List ℕ). l ++ bytes) is_new.empty
+  bytes_after = ap tail_of added
+
+  pub bytes_added : IsNewFilling old → filling_bytes new ≡ bytes
+  bytes_added is_new = bytes_after ∙ ap (λ (l : List ℕ). l ++ bytes) is_new.empty
+
+-- ---- a file is appended
+
+module _ {A : Type 0} (old new : Filling A) (file : Kept A) where
+  pub appended : old.rest.failed ≡ false → WriteOutOk (filling_state old) (filling_state new) file.bytes.items
+      → AppendPost old new (Some file) file.failed
+  appended unfailed all =
+      let after = bytes_after old new file.bytes.items (ap (λ s. s.accepted) all) in
+      record {
+        same_room = same_room old new file.bytes.items (ap (λ s. s.accepted) all);
+        is_prefix = record { rest = []; is = sym after ∙ sym (append-nil (filling_bytes new)) };
+        whole = λ fine. (after, unfailed, fine);
+        cause = λ failed. inl failed;
+      }
+
+  pub partly_appended : WriteOutErr (filling_state old) (filling_state new) file.bytes.items
+      → AppendPost old new (Some file) true
+  partly_appended part = record {
+    same_room = same_room old new part.front part.accepted;
+    is_prefix = record {
+      rest = part.rest;
+      is = ap (λ l. filling_bytes old ++ l) part.split
+          ∙ sym (append_assoc (filling_bytes old) part.front part.rest)
+          ∙ ap (λ l. l ++ part.rest) (sym (bytes_after old new part.front part.accepted));
+    };
+    whole = λ fine. absurd (true≢false fine);
+    cause = λ failed. inr part.failed;
+  }
+
+pub nothing_appended : {A : Type 0} (out : Filling A) → AppendPost out out None out.rest.failed
+nothing_appended out = record {
+  same_room = refl;
+  is_prefix = record { rest = []; is = refl };
+  whole = λ fine. (sym (append-nil (filling_bytes out)), fine, refl);
+  cause = λ failed. inr failed;
+}
+
+-- ---- a room
 
 module _ {A : Type 0} (s : Filling A) where
   written_length : length (take s.room.written s.room.bytes.now) ≡ s.room.written
   written_length = length-take-le s.room.written s.room.bytes.now s.room.within
 
-  pub holds_of : (text : List ℕ) → filling_bytes s ≡ text
-      → Holds s.room.bytes.now (part_of s.room (vec_len s.rest)) text
+  pub holds_of : (text : List ℕ) → filling_bytes s ≡ text → Holds s.room.bytes.now (part_of s) text
   holds_of text is = rw (← is) (record {
     begins = sym (ap (λ (n : ℕ). take n (filling_bytes s)) (sym written_length)
-        ∙ take-append_seam (take s.room.written s.room.bytes.now) s.rest.items);
-    counts =
-        omega (arith, written_length, s.rest.ok.0, length-append (take s.room.written s.room.bytes.now) s.rest.items);
+        ∙ take-append_seam (take s.room.written s.room.bytes.now) s.rest.bytes.items);
+    counts = omega (
+      arith,
+      written_length,
+      s.rest.bytes.ok.0,
+      length-append (take s.room.written s.room.bytes.now) s.rest.bytes.items,
+    );
     within = s.room.within;
     is_full = λ lacking. room_is_full lacking;
   })
     where
-      room_is_full : 0 < vec_len s.rest → s.room.written ≡ length s.room.bytes.now
+      room_is_full : 0 < vec_len s.rest.bytes → s.room.written ≡ length s.room.bytes.now
       room_is_full lacking =
-          ⊎_elim (λ space. absurd (omega (arith, lacking, s.rest.ok.0, ap length (s.rest_is_after space))))
+          ⊎_elim (λ space. absurd (omega (arith, lacking, s.rest.bytes.ok.0, ap length (s.rest_is_after space).0)))
           (λ full. omega (arith, full, s.room.within)) (below_or_not s.room.written (length s.room.bytes.now))
+
+  pub full_if_failed : s.rest.failed ≡ true → IsFull s.room.bytes.now (part_of s)
+  full_if_failed failed =
+      ⊎_elim (λ space. absurd (true≢false (sym failed ∙ (s.rest_is_after space).1)))
+      (λ full. omega (arith, full, s.room.within)) (below_or_not s.room.written (length s.room.bytes.now))
 
   pub prefix_of_room : (text : List ℕ) → IsPrefix (filling_bytes s) text
       → IsPrefix (take s.room.written s.room.bytes.now) text
   prefix_of_room text p =
       record {
-        rest = s.rest.items ++ p.rest;
+        rest = s.rest.bytes.items ++ p.rest;
         is = p.is
-            ∙ append_assoc (take s.room.written s.room.bytes.now) s.rest.items p.rest;
+            ∙ append_assoc (take s.room.written s.room.bytes.now) s.rest.bytes.items p.rest;
       }

@@ -1,5 +1,5 @@
 -- the contract of a run over memory
 pub mod Results
 pub mod Inputs
--- the rooms that it fills
-pub mod Rooms
+pub mod Calls
+pub mod Private

@@ -1,12 +1,14 @@
--- The contract of a run over memory, by the specification of the command and the bytes of its inputs.
-use Rattle.std.specs.Prelude.{◌≡◌, ℕ, ◌+◌, ◌<◌, ◌≤◌, ◌⊎◌, List, Option, Some, None, length, take}
+-- The contract of a run over memory, by the words of the command and the bytes of its inputs.
+use Rattle.std.specs.Prelude.{◌≡◌, ℕ, ◌+◌, ◌<◌, ◌≤◌, ◌⊎◌, List, ◌++◌, codes, length, take, ⊤}
+use Rattle.ptflow.specs.declared.faults.FlowFault.{FlowFault}
+use Rattle.ptflow.specs.declared.faults.FlowFault.TheVariants.{Memory, Read, Write}
 use Rattle.ptlines.specs.Received.{IsPrefix}
-use Rattle.ptrun.specs.CommandSpec.{CommandSpec, messages}
+use Rattle.ptrun.specs.CommandSpec.{CommandSpec, messages, operand_messages}
 use Rattle.ptrun.specs.Files.{InputBytes}
+use Rattle.ptrun.specs.Messages.{fault_message, memory_message}
+use Rattle.ptrun.specs.SpecOfArgs.{spec_of_args, tool_name}
 use Rattle.ptrunc.specs.declared.answer.Answer.{Answer}
 use Rattle.ptrunc.specs.declared.answer.Part.{Part}
-use Rattle.ptrunc.specs.declared.memory.Room.{Room}
-use Rattle.ptrunc.specs.declared.running.Filled.{Filled}
 
 -- The room holds the beginning of a text, as much as fits, and the part counts its bytes and those that did not fit.
 pub record Holds (room : List ℕ) (part : Part) (text : List ℕ) : Type 0 where
@@ -23,29 +25,46 @@ pub record IsExactInMemory (m : CommandSpec) (w : InputBytes) (out messages' : L
   pub status_is : a.out.lacking ≡ 0 → a.messages.lacking ≡ 0 → a.status ≡ m.status w
   pub lacks_room : (0 < a.out.lacking) ⊎ (0 < a.messages.lacking) → a.status ≡ 3
 
+-- ---- memory ran out
+
+-- A request for memory can fail, and so can a write: the bytes for which there is no room need memory. No read fails.
+abbrev pub IsOfMemory : FlowFault → Type 0
+IsOfMemory Memory = ⊤
+IsOfMemory Write = ⊤
+IsOfMemory (Read position) = ⊥
+
+-- Memory ran out before the run, while its words or its files were listed or while the words were parsed.
+abbrev pub IsBeforeRun : List (List ℕ) → List ℕ → Type 0
+IsBeforeRun words text = (text ≡ memory_message (codes "ptext")) ⊎ (text ≡ memory_message (tool_name words))
+
+-- The run stopped after some operands.
+pub record IsStoppedRun (m : CommandSpec) (w : InputBytes) (text : List ℕ) : Type 0 where
+  pub operands : ℕ
+  pub fault : FlowFault
+  pub of_memory : IsOfMemory fault
+  pub text_is : text ≡ operand_messages m w operands ++ fault_message m.tool m.names fault
+
+-- The run was complete, but one of the rooms is full, and there was no memory for what did not fit.
+abbrev pub IsFull : List ℕ → Part → Type 0
+IsFull room part = part.written ≡ length room
+
+pub record IsUncounted (m : CommandSpec) (w : InputBytes) (out messages' : List ℕ) (a : Answer) (text : List ℕ) : Type 0
+  where
+    pub text_is : text ≡ messages m w
+    pub full : IsFull out a.out ⊎ IsFull messages' a.messages
+
+-- The cause of status 4, with the text of which the messages are a beginning.
+pub record IsOutOfMemory (words : List (List ℕ)) (w : InputBytes) (out messages' : List ℕ) (a : Answer) : Type 0 where
+  pub text : List ℕ
+  pub begins : IsPrefix (take a.messages.written messages') text
+  pub cause : IsBeforeRun words text
+      ⊎ (IsStoppedRun (spec_of_args words) w text ⊎ IsUncounted (spec_of_args words) w out messages' a text)
+
+-- ---- a run
+
 -- The postcondition of a run over memory. Status 4 says that memory ran out.
-pub record IsRunInMemory (m : CommandSpec) (w : InputBytes) (out messages' : List ℕ) (a : Answer) : Type 0 where
-  pub is_exact : (a.status ≡ 4 → ⊥) → IsExactInMemory m w out messages' a
-  pub is_prefix : IsPrefix (take a.out.written out) (m.out w)
-
--- ---- contracts of private functions
-
--- The status of an answer, by the exit status of the run; there is none if memory ran out.
-abbrev pub StatusPost : Option ℕ → Part → Part → ℕ → Type 0
-StatusPost None out messages' status = status ≡ 4
-StatusPost (Some exit) out messages' status =
-    (out.lacking ≡ 0 → messages'.lacking ≡ 0 → status ≡ exit)
-    × ((0 < out.lacking) ⊎ (0 < messages'.lacking) → status ≡ 3)
-
--- How much of a text a room has got, if this many bytes did not fit.
-abbrev pub part_of : Room → ℕ → Part
-part_of room lacking = record { written = room.written; lacking = lacking }
-
--- Two rooms were filled by a run. There is an exit status unless memory ran out.
-pub record FilledPost (m : CommandSpec) (w : InputBytes) (out messages' : Room) (filled : Filled) : Type 0 where
-  pub out_holds : (status : ℕ) → filled.status ≡ Some status
-      → Holds out.bytes.now (part_of out filled.out_lacking) (m.out w)
-  pub messages_hold : (status : ℕ) → filled.status ≡ Some status
-      → Holds messages'.bytes.now (part_of messages' filled.messages_lacking) (messages m w)
-  pub status_is : (status : ℕ) → filled.status ≡ Some status → status ≡ m.status w
-  pub is_prefix : IsPrefix (take out.written out.bytes.now) (m.out w)
+pub record IsRunInMemory (words : List (List ℕ)) (w : InputBytes) (out messages' : List ℕ) (a : Answer) : Type 0 where
+  pub is_exact : (a.status ≡ 4 → ⊥) → IsExactInMemory (spec_of_args words) w out messages' a
+  pub out_of_memory : a.status ≡ 4 → IsOutOfMemory words w out messages' a
+  pub is_prefix : IsPrefix (take a.out.written out) ((spec_of_args words).out w)
+  pub within : (a.out.written ≤ length out) × (a.messages.written ≤ length messages')

@@ -1,6 +1,9 @@
-//! `Answer`, what a call returns beside the bytes that it writes. Used by every module.
+//! `Answer`, the result of a call beside the bytes that it writes. Used by every module.
 
 ghost use Rattle.std.specs.Prelude.{◌≡◌};
+ghost use Rattle.ptrunc.specs.Calls.Answers.{IsRefused};
+ghost use Rattle.ptrunc.specs.Private.Answers.{StatusPost};
+ghost use Rattle.ptrunc.specs.Results.{Holds};
 
 /// How much of a text a room has got.
 #[repr(C)]
@@ -25,28 +28,47 @@ pub struct Answer {
     pub status: u8,
 }
 
-/// Writes a text to a room, as far as it fits.
-fn write_text(text: &str, room: &mut [u8]) -> Part {
-    let bytes = text.as_bytes();
-    let written = bytes.len().min(room.len());
-    room[..written].copy_from_slice(&bytes[..written]);
-    Part {
-        written,
-        lacking: bytes.len() - written,
+impl Answer {
+    /// The answer with this exit status; `None` if memory ran out.
+    pub fn new(exit: Option<u8>, out: Part, messages: Part) -> Self
+        ensures parts { (result.out ≡ out) × (result.messages ≡ messages) }
+        ensures status { StatusPost exit out messages result.status }
+    {
+        let status = match exit {
+            None => 4,
+            Some(_) if out.lacking > 0 || messages.lacking > 0 => 3,
+            Some(status) => status,
+        };
+        Answer {
+            out,
+            messages,
+            status,
+        }
     }
 }
 
 /// Writes a message about a call that ran nothing.
 pub fn refuse(status: u8, text: &str, messages: &mut [u8]) -> Answer
-    ensures status { result.status ≡ status }
-    ensures nothing { result.out ≡ record { written = 0; lacking = 0 } }
+    ensures { IsRefused status text.now messages.new result }
 {
     Answer {
         out: Part {
             written: 0,
             lacking: 0,
         },
-        messages: write_text(text, messages),
+        messages: write_text(text.as_bytes(), messages),
         status,
+    }
+}
+
+// Writes a text to a room, as far as it fits.
+fn write_text(text: &[u8], room: &mut [u8]) -> Part
+    ensures { Holds room.new result text.now }
+{
+    let written = text.len().min(room.len());
+    room[..written].copy_from_slice(&text[..written]);
+    Part {
+        written,
+        lacking: text.len() - written,
     }
 }

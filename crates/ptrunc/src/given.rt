@@ -1,21 +1,27 @@
 //! The arguments of a call as C gives them. Used by `lib`.
 
+ghost use Rattle.std.specs.Prelude.{◌≡◌, IfOk, length, true};
+ghost use Rattle.ptlines.specs.Text.{lines};
+ghost use Rattle.ptopts.specs.Commands.{words_view};
+ghost use Rattle.ptrunc.specs.Calls.Given.{are_ascending, cut_at};
+ghost use Rattle.ptrunc.specs.Inputs.{files_view};
+
 use std::alloc::{AllocError, Allocator};
 
-/// The end of a file that is not there.
+// The end of a file that cannot be opened.
 const NO_FILE: usize = usize::MAX;
 
 /// Splits words, each of which ends with byte 0.
-pub fn words_of<A: Allocator + Copy>(alloc: A, text: &str) -> Result<Vec<&str, A>, AllocError> {
-    let mut words = Vec::new(alloc);
-    for word in text.split_terminator('\0') {
-        words.push(word)?;
-    }
-    Ok(words)
+pub fn words_of<A: Allocator + Copy>(alloc: A, text: &str) -> Result<Vec<&str, A>, AllocError>
+    ensures { IfOk result (λ words. words_view words.items ≡ lines 0 text.now) }
+{
+    text.split_terminator('\0').collect(alloc)
 }
 
 /// Returns whether these can be the ends of files that lie one after another in `size` bytes.
-pub fn are_ends(ends: &[usize], size: usize) -> bool {
+pub fn are_ends(ends: &[usize], size: usize) -> bool
+    ensures { result ≡ are_ascending 0 ends.now size }
+{
     let mut begin = 0;
     for end in ends {
         if *end == NO_FILE {
@@ -29,19 +35,22 @@ pub fn are_ends(ends: &[usize], size: usize) -> bool {
     true
 }
 
-/// Splits files that lie one after another and have these ends.
+/// Splits files that lie one after another and have these ends, which must be in order.
 pub fn files_of<'a, A: Allocator + Copy>(
     alloc: A,
     bytes: &'a [u8],
     ends: &[usize],
-) -> Result<Vec<Option<&'a [u8]>, A>, AllocError> {
+) -> Result<Vec<Option<&'a [u8]>, A>, AllocError>
+    requires { are_ascending 0 ends.now (length bytes.now) ≡ true }
+    ensures { IfOk result (λ files. files_view files.items ≡ cut_at 0 ends.now bytes.now) }
+{
     let mut files = Vec::new(alloc);
     let mut begin = 0;
     for end in ends {
         if *end == NO_FILE {
             files.push(None)?;
         } else {
-            files.push(bytes.get(begin..*end))?;
+            files.push(Some(&bytes[begin..*end]))?;
             begin = *end;
         }
     }

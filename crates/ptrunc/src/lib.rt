@@ -3,18 +3,21 @@
 #![tactic(auto)]
 
 mod answer;
+mod files;
 mod given;
 mod memory;
 mod naming;
 mod running;
 
+ghost use Rattle.ptrunc.specs.Calls.Given.{RunGivenPost};
+
 use answer::{Answer, refuse};
 use given::{are_ends, files_of, words_of};
 use naming::write_names;
-use running::{NO_MEMORY, run_in_memory};
+use running::run_in_memory;
 use std::alloc::Global;
 
-const NOT_UTF8: &str = "ptext: a word is not UTF-8\n";
+const NO_MEMORY: &str = "ptext: out of memory\n";
 
 /// Runs a command over bytes in memory. Each word ends with byte 0. The files lie one after another in `files`, with
 /// these ends; `usize::MAX` is the end of a file that cannot be opened.
@@ -28,7 +31,9 @@ pub extern "C" fn ptext_run_in_memory(
     out: &mut [u8],
     messages: &mut [u8],
     answer: &mut Answer,
-) {
+)
+    ensures { RunGivenPost words.now input.now files.now ends.now out.new messages.new answer.new }
+{
     *answer = run_given(alloc, words, input, (files, ends), out, messages);
 }
 
@@ -40,10 +45,12 @@ fn run_given(
     given: (&[u8], &[usize]),
     out: &mut [u8],
     messages: &mut [u8],
-) -> Answer {
+) -> Answer
+    ensures { RunGivenPost words.now input.now given.entry.0.now given.entry.1.now out.new messages.new result }
+{
     let (files, ends) = given;
     let Ok(text) = str::from_utf8(words) else {
-        return refuse(2, NOT_UTF8, messages);
+        return refuse(2, "ptext: a word is not UTF-8\n", messages);
     };
     if !are_ends(ends, files.len()) {
         return refuse(
@@ -52,9 +59,12 @@ fn run_given(
             messages,
         );
     }
-    match (words_of(alloc, text), files_of(alloc, files, ends)) {
-        (Ok(words), Ok(files)) => run_in_memory(alloc, &words, input, &files, out, messages),
-        _ => refuse(4, NO_MEMORY, messages),
+    let Ok(words) = words_of(alloc, text) else {
+        return refuse(4, NO_MEMORY, messages);
+    };
+    match files_of(alloc, files, ends) {
+        Ok(files) => run_in_memory(alloc, &words, input, &files, out, messages),
+        Err(_) => refuse(4, NO_MEMORY, messages),
     }
 }
 
@@ -67,12 +77,16 @@ pub extern "C" fn ptext_names_in_memory(
     output: &mut [u8],
     answer: &mut Answer,
 ) {
+    *answer = name_given(alloc, words, names, output);
+}
+
+// Names the files of a command whose words are split first.
+fn name_given(alloc: Global, words: &[u8], names: &mut [u8], output: &mut [u8]) -> Answer {
     let Ok(text) = str::from_utf8(words) else {
-        *answer = refuse(0, "", output);
-        return;
+        return refuse(0, "", output);
     };
-    *answer = match words_of(alloc, text) {
+    match words_of(alloc, text) {
         Ok(words) => write_names(alloc, &words, names, output),
         Err(_) => refuse(4, "", output),
-    };
+    }
 }

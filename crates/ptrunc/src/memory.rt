@@ -1,7 +1,8 @@
 //! Bytes in memory as a source, and room for bytes as a sink. Used by `running` and `naming`.
 
-ghost use Rattle.std.specs.Prelude.{◌≡◌, ◌+◌, ◌-◌, ◌≤◌, ◌<◌, false, [], ◌++◌, length, min, take};
+ghost use Rattle.std.specs.Prelude.{◌≡◌, ◌+◌, ◌-◌, ◌≤◌, ◌<◌, ◌^◌, false, [], ◌++◌, length, min, take};
 
+use crate::answer::Part;
 use ptlines::{Failed, Sink, Source};
 use std::alloc::Allocator;
 
@@ -15,7 +16,8 @@ pub struct Bytes<'a> {
 impl<'a> Bytes<'a> {
     /// Gives all of these bytes.
     pub fn new(bytes: &'a [u8]) -> Self
-        ensures { result ≡ record { left = bytes.entry; eof = false } }
+        ensures all { result ≡ record { left = bytes.entry; eof = false } }
+        ensures short { length bytes.entry.now < 2 ^ 63 }
     {
         Bytes {
             left: bytes,
@@ -25,9 +27,9 @@ impl<'a> Bytes<'a> {
 }
 
 impl Source for Bytes<'_> {
-    ghost use Rattle.ptrunc.specs.Inputs.{bytes_state};
+    ghost use Rattle.ptrunc.specs.Private.Files.{source_state};
 
-    ghost state = { λ s. bytes_state s.left.now s.eof };
+    ghost state = { λ s. source_state s };
 
     fn pull(&mut self, into: &mut [u8]) -> Result<usize, Failed> {
         let count = self.left.len().min(into.len());
@@ -73,49 +75,48 @@ impl<'a> Room<'a> {
     }
 }
 
-/// A sink that fills a room. Bytes that do not fit are kept, so that no write fails for want of room, and their number
-/// is known in the end.
+/// A sink that keeps its bytes. A write fails only if memory runs out.
 #[derive(Drop)]
-pub struct Filling<'a, A: Allocator> {
-    pub room: Room<'a>,
-    pub rest: Vec<u8, A>,
+pub struct Kept<A: Allocator> {
+    pub bytes: Vec<u8, A>,
     pub failed: bool,
     pub unflushed: bool,
     pub flushes: u64,
-    ghost rest_is_after: { room.written < length room.bytes.now → rest.items ≡ [] },
 }
 
-impl<'a, A: Allocator> Filling<'a, A> {
+impl<A: Allocator> Kept<A> {
     ghost use Rattle.std.specs.Prelude.{◌≡◌};
-    ghost use Rattle.ptrunc.specs.Rooms.{IsNewFilling};
+    ghost use Rattle.ptlines.specs.Sinks.{flushes_after};
+    ghost use Rattle.ptrunc.specs.Private.Rooms.{IsNewKept};
 
-    /// Fills a room.
-    pub fn new(alloc: A, room: Room<'a>) -> Self
-        ensures same_room { result.room.bytes.ghost_name ≡ room.entry.bytes.ghost_name }
-        ensures is_new { room.entry.written ≡ 0 → IsNewFilling result }
+    /// Keeps no bytes yet.
+    pub fn new(alloc: A) -> Self
+        ensures { IsNewKept result }
     {
-        Filling {
-            room,
-            rest: Vec::new(alloc),
+        Kept {
+            bytes: Vec::new(alloc),
             failed: false,
             unflushed: false,
             flushes: 0,
         }
     }
+
+    // Records a flush.
+    fn set_flushed(&mut self)
+        ensures { self.new ≡ record self.old { unflushed = false; flushes = flushes_after self.old.flushes } }
+    {
+        self.unflushed = false;
+        self.flushes = self.flushes.saturating_add(1);
+    }
 }
 
-impl<A: Allocator + Drop> Sink for Filling<'_, A> {
-    ghost use Rattle.ptrunc.specs.Rooms.{filling_state};
+impl<A: Allocator + Drop> Sink for Kept<A> {
+    ghost use Rattle.ptrunc.specs.Private.Rooms.{kept_state};
 
-    ghost state = { λ s. filling_state s };
+    ghost state = { λ s. kept_state s };
 
     fn put(&mut self, bytes: &[u8]) -> Result<usize, Failed> {
-        let count = self.room.append(bytes);
-        if count > 0 {
-            self.unflushed = true;
-            return Ok(count);
-        }
-        match self.rest.extend_from_slice(bytes) {
+        match self.bytes.extend_from_slice(bytes) {
             Ok(()) => {
                 self.unflushed = true;
                 Ok(bytes.len())
@@ -128,8 +129,71 @@ impl<A: Allocator + Drop> Sink for Filling<'_, A> {
     }
 
     fn flush(&mut self) -> Result<(), Failed> {
-        self.unflushed = false;
-        self.flushes = self.flushes.saturating_add(1);
+        self.set_flushed();
+        Ok(())
+    }
+}
+
+/// A sink that fills a room. Bytes that do not fit are kept, so that no write fails for want of room, and their number
+/// is known in the end.
+#[derive(Drop)]
+pub struct Filling<'a, A: Allocator> {
+    pub room: Room<'a>,
+    pub rest: Kept<A>,
+    ghost rest_is_after: { room.written < length room.bytes.now
+        → (rest.bytes.items ≡ []) × (rest.failed ≡ false) },
+}
+
+impl<'a, A: Allocator + Drop> Filling<'a, A> {
+    ghost use Rattle.std.specs.Prelude.{◌≡◌};
+    ghost use Rattle.ptrunc.specs.Private.Rooms.{IsNewFilling, part_of};
+
+    /// Fills a room.
+    pub fn new(alloc: A, room: Room<'a>) -> Self
+        ensures same_room { result.room.bytes.ghost_name ≡ room.entry.bytes.ghost_name }
+        ensures is_new { room.entry.written ≡ 0 → IsNewFilling result }
+    {
+        Filling {
+            room,
+            rest: Kept::new(alloc),
+        }
+    }
+
+    /// Returns the room.
+    pub fn into_room(self) -> Room<'a>
+        ensures { result ≡ self.entry.room }
+    {
+        let Filling { room, rest: _ } = self;
+        room
+    }
+
+    /// Returns how much was written to the room, and how much more there is.
+    pub fn part(&self) -> Part
+        ensures { result ≡ part_of self.now }
+    {
+        Part {
+            written: self.room.written,
+            lacking: self.rest.bytes.len(),
+        }
+    }
+}
+
+impl<A: Allocator + Drop> Sink for Filling<'_, A> {
+    ghost use Rattle.ptrunc.specs.Private.Rooms.{filling_state};
+
+    ghost state = { λ s. filling_state s };
+
+    fn put(&mut self, bytes: &[u8]) -> Result<usize, Failed> {
+        let count = self.room.append(bytes);
+        if count > 0 {
+            self.rest.unflushed = true;
+            return Ok(count);
+        }
+        self.rest.put(bytes)
+    }
+
+    fn flush(&mut self) -> Result<(), Failed> {
+        self.rest.set_flushed();
         Ok(())
     }
 }

@@ -1,11 +1,11 @@
 //! The files that a command names. Used by `lib`.
 
-ghost use Rattle.std.specs.Prelude.{◌≡◌, false, IfOk};
+ghost use Rattle.std.specs.Prelude.{◌≡◌, false, true};
 
-use crate::answer::{Answer, Part, refuse};
+use crate::answer::{Answer, refuse};
 use crate::memory::{Filling, Room};
-use ptlines::{Failed, write_out};
-use ptopts::Command;
+use ptlines::write_out;
+use ptopts::{Command, UseFault};
 use std::alloc::Allocator;
 
 /// Writes the names of the input files that a command names, in their order, and the name of its output file, if it
@@ -16,58 +16,42 @@ pub fn write_names<A: Allocator + Copy + Drop>(
     names: &mut [u8],
     output: &mut [u8],
 ) -> Answer {
-    let Ok(command) = Command::read(alloc, words) else {
-        return refuse(0, "", output);
+    let command = match Command::read(alloc, words) {
+        Ok(command) => command,
+        Err(UseFault::Memory) => return refuse(4, "", output),
+        Err(_) => return refuse(0, "", output),
     };
-    let written = write_all(alloc, command.names(), names);
-    let output_written = match command.output() {
-        Some(name) => write_all(alloc, &[name], output),
-        None => write_all(alloc, &[], output),
+    let mut to_names = Filling::new(alloc, Room::new(names));
+    let mut to_output = Filling::new(alloc, Room::new(output));
+    let named = append_names(&mut to_names, command.names());
+    let output_named = match command.output() {
+        Some(name) => append_names(&mut to_output, &[name]),
+        None => true,
     };
-    match (written, output_written) {
-        (Ok(out), Ok(messages)) => Answer {
-            out,
-            messages,
-            status: if out.lacking > 0 || messages.lacking > 0 {
-                3
-            } else {
-                0
-            },
-        },
-        _ => refuse(4, "", output),
-    }
+    let exit = if named && output_named { Some(0) } else { None };
+    Answer::new(exit, to_names.part(), to_output.part())
 }
 
-// Writes names to a room, each of which ends with byte 0.
-fn write_all<A: Allocator + Copy + Drop>(
-    alloc: A,
-    names: &[&str],
-    room: &mut [u8],
-) -> Result<Part, Failed> {
-    let mut sink = Filling::new(alloc, Room::new(room));
+// Appends names, each of which ends with byte 0. Returns whether all of them were appended.
+fn append_names<A: Allocator + Drop>(sink: &mut Filling<'_, A>, names: &[&str]) -> bool
+    requires { sink.old.rest.failed ≡ false }
+    ensures { result ≡ true → sink.new.rest.failed ≡ false }
+{
     for name in names {
-        write_name(&mut sink, name)?;
+        if !append_name(sink, name) {
+            return false;
+        }
     }
-    Ok(Part {
-        written: sink.room.written,
-        lacking: sink.rest.len(),
-    })
+    true
 }
 
-// Writes one name and byte 0.
-fn write_name<A: Allocator + Copy + Drop>(
-    sink: &mut Filling<'_, A>,
-    name: &str,
-) -> Result<(), Failed>
-    requires { sink.old.failed ≡ false }
-    ensures { IfOk result (λ _. sink.new.failed ≡ false) }
+// Appends one name and byte 0.
+fn append_name<A: Allocator + Drop>(sink: &mut Filling<'_, A>, name: &str) -> bool
+    requires { sink.old.rest.failed ≡ false }
+    ensures { result ≡ true → sink.new.rest.failed ≡ false }
 {
     match write_out(sink, name.as_bytes()) {
-        Ok(()) => {}
-        Err(_) => return Err(Failed),
-    }
-    match write_out(sink, b"\0") {
-        Ok(()) => Ok(()),
-        Err(_) => Err(Failed),
+        Ok(()) => write_out(sink, b"\0").is_ok(),
+        Err(_) => false,
     }
 }

@@ -11,7 +11,7 @@ use Rattle.ptlines.specs.Text.{is_blank}
 use Rattle.ptmerge.specs.Join.{join_fields, output_fields, output_separator}
 use Rattle.ptmerge.specs.Calls.Join.{join_key}
 use Rattle.ptmerge.specs.MergeSpec.{Lines}
-use Rattle.ptmerge.specs.Sides.{both}
+use Rattle.ptmerge.specs.Calls.Sides.{both}
 use Rattle.ptmerge.specs.declared.key_order.Side.{Side}
 use Rattle.ptmerge.specs.declared.key_order.Side.TheVariants.{First, Second}
 use Rattle.ptmerge.specs.declared.key_order.Span.{Span}

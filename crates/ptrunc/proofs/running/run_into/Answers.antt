@@ -1,14 +1,20 @@
--- Both rooms have what the run wrote, since no other sink begins with their ghost names. No read fails.
-use Rattle.std.proofs.Common.{ap, ◌∙◌}
-use Rattle.ptrunc.proofs.RoomLemmas.{same_room}
-use Rattle.ptrunc.proofs.RunLemmas.{filled_by}
+-- Both rooms have what the run wrote, since no other sink begins with their ghost names.
+use Rattle.std.proofs.Common.{ap, refl, ◌∙◌}
+use Rattle.ptopts.specs.Commands.{words_view}
+use Rattle.ptrunc.proofs.RunLemmas.{answer_of_run, file_leaves_out, same_messages, same_out}
+use Rattle.ptrunc.specs.Inputs.{files_view}
+use Rattle.ptrunc.specs.Private.Files.{source_state}
 use Rattle.ptrunc.proofs.running.run_into.Goals as goal
+
+pub append_file-out_failed-requires : goal.append_file-out_failed-requires
+append_file-out_failed-requires g c = file_leaves_out c.run_over_files-report.ensures
+    (c.new-3.ensures.is_new (ap (λ r. r.written) c.replace.ensures.value ∙ c.requires.out_is_empty))
 
 pub returns-clause-same_out : goal.returns-clause-same_out
 returns-clause-same_out g c =
-    rw (c.replace-empty.ensures.after, c.into_room.ensures, ← c.replace.ensures.value, ← c.new-to_out.ensures.same_room)
-    (same_room c.new-to_out.result c.run-report.result.out c.run-report.ensures.run.written
-    c.run-report.ensures.run.output)
+    rw (c.replace-empty.ensures.after, c.into_room.ensures, ← c.replace.ensures.value, ← c.new-3.ensures.same_room)
+    (c.append_file-out_failed.ensures.same_room
+    ∙ same_out c.new-3.result c.run_over_files-report.result.report.out c.run_over_files-report.ensures refl)
 
 pub returns-clause-same_messages : goal.returns-clause-same_messages
 returns-clause-same_messages g c =
@@ -16,23 +22,25 @@ returns-clause-same_messages g c =
       c.replace-empty-2.ensures.after,
       c.into_room-2.ensures,
       ← c.replace-2.ensures.value,
-      ← c.new-to_messages.ensures.same_room,
+      ← c.new-5.ensures.same_room,
     )
-    (same_room c.new-to_messages.result c.run-report.result.messages c.run-report.ensures.run.has_said.front
-    c.run-report.ensures.run.has_said.accepted)
+    (same_messages c.new-5.result c.run_over_files-report.result.report.messages c.run_over_files-report.ensures refl)
 
-pub returns-clause-filled : goal.returns-clause-filled
-returns-clause-filled g c w bytes =
+pub returns-clause-run : goal.returns-clause-run
+returns-clause-run g c =
+    let ran = c.run_over_files-report in
     rw (
       c.replace-empty.ensures.after,
       c.into_room.ensures,
       c.replace-empty-2.ensures.after,
       c.into_room-2.ensures,
-      c.len.ensures,
-      c.len-2.ensures,
     )
-    (filled_by w c.new-to_out.result c.new-to_messages.result c.run-report.result
-    (c.new-to_out.ensures.is_new (ap (λ r. r.written) c.replace.ensures.value ∙ c.requires.out_is_empty))
-    (c.new-to_messages.ensures.is_new (ap (λ r. r.written) c.replace-2.ensures.value ∙ c.requires.messages_are_empty))
-    c.requires.fresh.1 (rw c.requires.memory at c.run-report.ensures.run) c.no_read_failed.ensures
-    (c.run-report.ensures.is_exact c.requires.memory w bytes) bytes c.whole_status.result c.whole_status.ensures)
+    (answer_of_run (words_view c.args.words.now) c.args.input.now (files_view c.args.files.now) c.new.ensures.short
+    c.new-3.result c.new-5.result ran.result.report.out ran.result.report.messages c.append_file-out_failed.new.out
+    (c.new-3.ensures.is_new (ap (λ r. r.written) c.replace.ensures.value ∙ c.requires.out_is_empty))
+    (c.new-5.ensures.is_new (ap (λ r. r.written) c.replace-2.ensures.value ∙ c.requires.messages_are_empty))
+    ran.result.file ran.new.files.creates.results ran.new.files.all_new
+    c.new-memory.ensures (ap source_state c.new.ensures.all) refl refl refl ran.ensures
+    c.append_file-out_failed.ensures c.exit_of-exit.result c.exit_of-exit.ensures c.new-answer.result c.part.result
+    c.part-2.result c.part.ensures c.part-2.ensures c.new-answer.ensures.parts.0 c.new-answer.ensures.parts.1
+    c.new-answer.ensures.status)

@@ -1,0 +1,160 @@
+-- A command that is given no sink to write to reads and writes nothing. And no command has status 4.
+use Rattle.std.proofs.Common.{◌≡◌, ℕ, suc, Bool, true, false, List, [], ◌∷◌, Option, Some, None, Result, Ok, Err, ap, refl}
+use Rattle.std.proofs.Common.{arith, if◌then◌else◌, is_none, not, subst, sym, ◌∙◌, take, bytes_eq, find, option_map}
+use Rattle.std.specs.Prelude.{⊤}
+use Rattle.std.proofs.lemmas.Bool.{true≢false}
+use Rattle.std.specs.List.{list_any}
+use Rattle.ptlines.specs.Sources.{SourceState}
+use Rattle.ptopts.specs.Args.{parsed_args}
+use Rattle.ptopts.specs.Commands.{Command, command_of_args, command_of_tool, file_names, ok_unless, or_stdin, order_from}
+use Rattle.ptopts.specs.Commands.{output}
+use Rattle.ptopts.specs.Faults.{Fault, is_standard}
+use Rattle.ptopts.specs.declared.inputs.Input.TheVariants.{File, Standard}
+use Rattle.ptopts.specs.Syntax.{tools}
+use Rattle.ptrun.specs.Files.{InputBytes, is_reader_unopened}
+use Rattle.ptrun.specs.Joint.{disorder_status}
+use Rattle.ptrun.specs.Operands.{positions}
+use Rattle.ptrun.specs.SpecOfArgs.{command_spec, spec_of_args, spec_of_result, spec_unless_memory, tool_name, tool_of_job}
+use Rattle.ptrun.specs.Tools.{OneByOne, Together, ToolInRun, spec_of_tool}
+use Rattle.ptfiles.specs.Files.{AreContents, Content, Input, new_readers}
+use Rattle.ptfiles.specs.Shell.{command_to_run, has_standard_output, input_names, name_of_output, output_names}
+use Rattle.ptfiles.specs.Shell.{valid_command}
+
+-- ---- a command without a sink
+
+abbrev Each : {T : Type 0} → (Option T → Type 0) → List (List ℕ × T) → Type 0
+Each P [] = ⊤
+Each P (t ∷ ts) = P (Some t.1) × Each P ts
+
+of_each : {T : Type 0} (P : Option T → Type 0) (test : List ℕ × T → Bool) (ts : List (List ℕ × T)) → P None → Each P ts
+    → P (option_map (λ t. t.1) (find test ts))
+of_each P test [] none each = none
+of_each {T} P test (t ∷ ts) none each = by_test (test t) (of_each P test ts none each.1)
+  where
+    by_test : (found : Bool) → P (option_map (λ t. t.1) (find test ts))
+        → P (option_map (λ t. t.1) (if found then Some t else find test ts))
+    by_test true others = each.0
+    by_test false others = others
+
+-- Of the tools, which have no names here, `uniq` is the fifth.
+abbrev Fifth : {T : Type 0} → (T → Type 0) → List (List ℕ × T) → Type 0
+Fifth P (a ∷ b ∷ c ∷ d ∷ e ∷ more) = P e.1
+Fifth P _ = ⊤
+
+of_fifth : {T : Type 0} (P : T → Type 0) → ((t : T) → P t) → (ts : List (List ℕ × T)) → Fifth P ts
+of_fifth P of [] = tt
+of_fifth P of (a ∷ []) = tt
+of_fifth P of (a ∷ b ∷ []) = tt
+of_fifth P of (a ∷ b ∷ c ∷ []) = tt
+of_fifth P of (a ∷ b ∷ c ∷ d ∷ []) = tt
+of_fifth P of (a ∷ b ∷ c ∷ d ∷ e ∷ more) = of e.1
+
+module _ (standard : SourceState) (content : ℕ → List ℕ → Option Content) (count : ℕ) where
+  is_cons : {X : Type 0} {x : X} → x ∷ [] ≡ [] → ⊥
+  is_cons is = cc
+
+  -- `from_standard` says whether the operand is standard input, and `to_standard` whether the output is standard output.
+  uniq_by : (from_standard to_standard : Bool) (input written : List ℕ) (inputs : List Input)
+      → AreContents content count (if not from_standard then input ∷ [] else []) inputs
+      → is_none (if to_standard then None else Some written) ≡ false
+      → (if list_any (λ r. r.refused) (new_readers standard inputs) then []
+      else name_of_output (if to_standard then None else Some written)) ≡ []
+      → list_any (is_reader_unopened (new_readers standard inputs))
+      (positions (if from_standard then Standard ∷ [] else File 0 ∷ [])) ≡ true
+  uniq_by from_standard true input written inputs are some none = absurd (true≢false some)
+  uniq_by true false input written [] are some none = absurd (is_cons none)
+  uniq_by true false input written (i ∷ inputs) are some none = absurd (is_cons' are)
+    where
+      is_cons' : i ∷ inputs ≡ [] → ⊥
+      is_cons' is = cc
+  uniq_by false false input written [] are some none = absurd are
+  uniq_by false false input written (None ∷ inputs) are some none = refl
+  uniq_by false false input written (Some s ∷ []) are some none = absurd (is_cons none)
+  uniq_by false false input written (Some s ∷ i ∷ inputs) are some none = absurd (is_cons' are.1)
+    where
+      is_cons' : i ∷ inputs ≡ [] → ⊥
+      is_cons' is = cc
+
+  module _ (word : List ℕ) (inputs : List Input) where
+    abbrev IsUnread : Result Command Fault → Type 0
+    IsUnread r = AreContents content count (input_names (valid_command r)) inputs
+        → has_standard_output (valid_command r) ≡ false
+        → output_names (valid_command r) (new_readers standard inputs) ≡ []
+        → (spec_of_result word r).reads_nothing (is_reader_unopened (new_readers standard inputs)) ≡ true
+
+    -- `uniq` has one input, and an output file if its second operand names one.
+    abbrev IsUniq : (List (List ℕ) → Option (List ℕ)) → List (List ℕ) → Type 0
+    IsUniq out operands = out [] ≡ None → ((input : List ℕ) → out (input ∷ []) ≡ None)
+        → ((input written : List ℕ) (more : List (List ℕ))
+        → out (input ∷ written ∷ more) ≡ (if is_standard written then None else Some written))
+        → AreContents content count (file_names (take 1 (or_stdin operands))) inputs → is_none (out operands) ≡ false
+        → (if list_any (λ r. r.refused) (new_readers standard inputs) then [] else name_of_output (out operands)) ≡ []
+        → list_any (is_reader_unopened (new_readers standard inputs)) (positions (order_from 0 (take 1 (or_stdin operands))))
+        ≡ true
+
+    of_uniq : (out : List (List ℕ) → Option (List ℕ)) (operands : List (List ℕ)) → IsUniq out operands
+    of_uniq out [] zero one two are some none = absurd (true≢false (ap is_none (sym zero) ∙ some))
+    of_uniq out (input ∷ []) zero one two are some none = absurd (true≢false (ap is_none (sym (one input)) ∙ some))
+    of_uniq out (input ∷ written ∷ more) zero one two are some none =
+        uniq_by (is_standard input) (is_standard written) input written inputs are (rw (two input written more) at some)
+        (rw (two input written more) at none)
+
+    of_fault : (command : Command) (fault : Option Fault) → IsUnread (Ok command) → IsUnread (ok_unless fault command)
+    of_fault command None unread = unread
+    of_fault command (Some fault) unread = λ are some none. refl
+
+    -- Each tool but `uniq` writes to standard output.
+    of_args : (words : List (List ℕ)) → IsUnread (command_of_args words)
+    of_args [] = λ are some none. refl
+    of_args (name ∷ words) = of_each (λ tool. IsUnread (command_of_tool tool words)) (λ t. bytes_eq name t.0) tools
+        (λ are some none. refl) (
+          of_fault _ _ (λ are some none. absurd (true≢false some)),
+          (
+            of_fault _ _ (λ are some none. absurd (true≢false some)),
+            (
+              of_fault _ _ (λ are some none. absurd (true≢false some)),
+              (
+                of_fault _ _ (λ are some none. absurd (true≢false some)),
+                (
+                  of_fault _ _ (of_fifth (λ tool. IsUniq (output tool) (parsed_args tool words).operands)
+                      (λ tool. of_uniq (output tool) (parsed_args tool words).operands) tools refl (λ input. refl)
+                      (λ input written more. refl)),
+                  (of_fault _ _ (λ are some none. absurd (true≢false some)), tt),
+                ),
+              ),
+            ),
+          ),
+        )
+
+pub nothing_is_read : (words : List (List ℕ)) (out_of_memory : Bool) (standard : SourceState) (inputs : List Input)
+    (count : ℕ) (content : ℕ → List ℕ → Option Content)
+    → AreContents content count (input_names (command_to_run words out_of_memory)) inputs
+    → has_standard_output (command_to_run words out_of_memory) ≡ false
+    → output_names (command_to_run words out_of_memory) (new_readers standard inputs) ≡ []
+    → (spec_unless_memory words out_of_memory).reads_nothing (is_reader_unopened (new_readers standard inputs)) ≡ true
+nothing_is_read words true standard inputs count content are some none = refl
+nothing_is_read words false standard inputs count content are some none =
+    of_args standard content count (tool_name words) inputs words are some none
+
+-- ---- the status of a command
+
+status_of_tool : (word : List ℕ) (tool : ToolInRun) (names : List (List ℕ)) (at : List ℕ) (w : InputBytes)
+    → (spec_of_tool word tool names at).status w ≡ 4 → ⊥
+status_of_tool word (OneByOne t law) names at w is = if_unopened _ is
+  where
+    if_unopened : (unopened : Bool) → ◌≡◌ {A = ℕ} (if unopened then 1 else 0) 4 → ⊥
+    if_unopened true is = absurd (omega (arith, is))
+    if_unopened false is = absurd (omega (arith, is))
+status_of_tool word (Together t) names at w is = if_unopened _ _ is
+  where
+    if_unopened : (unopened : Bool) (found : Option (ℕ × ℕ)) → ◌≡◌ {A = ℕ} (if unopened then 1 else disorder_status found) 4 → ⊥
+    if_unopened true found is = absurd (omega (arith, is))
+    if_unopened false None is = absurd (omega (arith, is))
+    if_unopened false (Some line) is = absurd (omega (arith, is))
+
+pub status_is_low : (words : List (List ℕ)) (w : InputBytes) → (spec_of_args words).status w ≡ 4 → ⊥
+status_is_low words w = of_result (command_of_args words)
+  where
+    of_result : (r : Result Command Fault) → (spec_of_result (tool_name words) r).status w ≡ 4 → ⊥
+    of_result (Ok c) is = status_of_tool _ (tool_of_job c.job) c.names (positions c.order) w is
+    of_result (Err fault) is = absurd (omega (arith, is))

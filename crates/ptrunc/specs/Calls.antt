@@ -1,0 +1,3 @@
+-- The contracts of public calls.
+pub mod Answers
+pub mod Given

@@ -1,0 +1,39 @@
+-- The contracts of the calls for C: how their arguments are split, and what they do with them.
+use Rattle.std.specs.Prelude.{◌≡◌, ◌⊎◌, ◌^◌, ◌-◌, ◌≤◌, ◌==◌, ◌&&◌, ℕ, Bool, true, false, List, [], ◌∷◌, Option, Some}
+use Rattle.std.specs.Prelude.{None, codes, drop, length, nat_le, take, if◌then◌else◌}
+use Rattle.std.specs.Str.{IsUtf8}
+use Rattle.ptlines.specs.Text.{lines}
+use Rattle.ptrun.specs.Files.{InputBytes}
+use Rattle.ptrun.specs.MessageWrites.{line_of}
+use Rattle.ptrunc.specs.Calls.Answers.{IsRefused}
+use Rattle.ptrunc.specs.Inputs.{inputs_for}
+use Rattle.ptrunc.specs.Results.{IsRunInMemory}
+use Rattle.ptrunc.specs.declared.answer.Answer.{Answer}
+
+-- The end of a file that cannot be opened.
+abbrev pub no_file : ℕ
+no_file = 2 ^ 64 - 1
+
+-- The known ends ascend from `begin`, and none is after `size`.
+abbrev pub are_ascending : ℕ → List ℕ → ℕ → Bool
+are_ascending begin [] size = true
+are_ascending begin (end ∷ ends) size =
+    if end == no_file then are_ascending begin ends size
+    else (nat_le begin end && nat_le end size && are_ascending end ends size)
+
+-- Files that lie one after another in these bytes, from `begin`, and have these ends.
+abbrev pub cut_at : ℕ → List ℕ → List ℕ → InputBytes
+cut_at begin [] bytes = []
+cut_at begin (end ∷ ends) bytes =
+    if end == no_file then None ∷ cut_at begin ends bytes
+    else Some (take (end - begin) (drop begin bytes)) ∷ cut_at end ends bytes
+
+-- The command that these bytes are was run over these files. The words are its lines that end with byte 0. If the
+-- arguments are wrong, nothing was run.
+abbrev pub RunGivenPost : List ℕ → List ℕ → List ℕ → List ℕ → List ℕ → List ℕ → Answer → Type 0
+RunGivenPost words input files ends out messages' a =
+    (¬ (IsUtf8 words) × IsRefused 2 (line_of (codes "ptext: a word is not UTF-8" ∷ [])) messages' a)
+    ⊎ (((are_ascending 0 ends (length files) ≡ false)
+    × IsRefused 5 (line_of (codes "ptext: the ends of the files are not in order" ∷ [])) messages' a)
+    ⊎ ((are_ascending 0 ends (length files) ≡ true)
+    × IsRunInMemory (lines 0 words) (inputs_for (lines 0 words) input (cut_at 0 ends files)) out messages' a))
