@@ -44,7 +44,7 @@ for page in ptext.1 ptext-comm.1 ptext-cut.1 ptext-join.1 ptext-parts.1 ptext-pa
     is "page $page" yes "$([ -s "$room/empty/share/man/man${page##*.}/$page" ] && echo yes)"
 done
 printf 'a 1\nb 2\n' >"$room/sorted"
-is "ptext-parts" "[[0, 4]]" "$(PATH=$room/empty/bin:$PATH ptext-parts plan 2 uniq "$room/sorted" | sed -n 2p)"
+is "ptext-parts" "[[0, 8]]" "$(PATH=$room/empty/bin:$PATH ptext-parts plan 2 uniq "$room/sorted" | sed -n 2p)"
 is "ptext-slurm.sh" yes "$([ -x "$room/empty/share/ptext/ptext-slurm.sh" ] && echo yes)"
 for tool in cut paste join comm uniq tr; do
     is "$tool.1 beside the tools" same "$(cmp -s "$room/empty/libexec/ptext/man/man1/$tool.1" \

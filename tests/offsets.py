@@ -1,11 +1,12 @@
 #!/usr/bin/env python3
-"""Cuts random small files by ptext-parts in 1 to 20 parts, and compares the outputs of the parts with that of the whole.
+"""Cuts random small files by ptext-parts into 1 to 20 parts, and compares the outputs of these with that of the whole.
 
   python3 tests/offsets.py PROGRAM [COUNT [SEED]]
 
-The commands are those of tools/compare: all options, files out of order, empty files, last lines without a terminator. The
-program checks the words of each. The outputs are those of the model there, and of the program for one command in ten. A
-part is refused if and only if the whole is. Then: files that change, parts that are missing, and what no law lets be cut.
+The commands are those of tools/compare: all options, files out of order, empty files, last lines without a terminator.
+The program checks the words of each. The outputs are those of the model there, and of the program for one command in
+ten. A part is refused if and only if the whole is. Then: strange files, files that have changed, parts that are
+missing, and what no law lets be cut.
 """
 import os
 import random
@@ -26,11 +27,20 @@ from project import Failed, run_script
 
 COUNT, MOST_PARTS, STDIN = 2000, 20, "stdin"
 STRANGE = [
-    # all keys equal; no line; one line; more parts than lines; byte 0; no last terminator
-    (["uniq", "-c"], [b"a\n" * 999]), (["comm", "f", "g"], [b"a\n" * 99, b"a\n" * 33]),
-    (["join", "f", "g"], [b"a 1\n" * 9, b"a 2\n" * 9]), (["join", "f", "g"], [b"", b""]), (["paste", "f", "g"], [b"", b"a"]),
-    (["cut", "-c", "1"], [b"ab"]), (["uniq", "-z"], [b"a\0a\0\nb\0\0\0"]), (["comm", "-z", "f", "g"], [b"\0a\0a\nb", b"a"]),
-    (["tr", "-s", "a"], [b"aa\n\naa\na"]), (["paste", "-", "-", "-"], [b"1\n2\n3\n4\n5"]), (["cut", "-c1", "f", "-", "f"], [b"ab", b"c"]),
+    # All keys are equal.
+    (["uniq", "-c"], [b"a\n" * 999]),
+    (["comm", "f", "g"], [b"a\n" * 99, b"a\n" * 33]),
+    (["join", "f", "g"], [b"a 1\n" * 9, b"a 2\n" * 9]),
+    # There are more parts than lines.
+    (["join", "f", "g"], [b"", b""]),
+    (["paste", "f", "g"], [b"", b"a"]),
+    (["paste", "-", "-", "-"], [b"1\n2\n3\n4\n5"]),
+    (["cut", "-c", "1"], [b"ab"]),
+    (["cut", "-c1", "f", "-", "f"], [b"ab", b"c"]),
+    (["tr", "-s", "a"], [b"aa\n\naa\na"]),
+    # Lines end with byte 0.
+    (["uniq", "-z"], [b"a\0a\0\nb\0\0\0"]),
+    (["comm", "-z", "f", "g"], [b"\0a\0a\nb", b"a"]),
 ]
 
 
@@ -80,7 +90,8 @@ def has_law(case):
     if case.tool == "tr" and case.has("s"):
         newlines = compute_answer(case._replace(inputs={"-": b"\n\n"}))
         return len(newlines.out) == 2
-    return not (case.tool == "paste" and case.has("s") or case.tool == "uniq" and len(case.operands + list_late_words(case)) > 1)
+    has_output = case.tool == "uniq" and len(case.operands + list_late_words(case)) > 1
+    return not (case.tool == "paste" and case.has("s")) and not has_output
 
 
 def compare_case(case, count, is_run, program, room):
@@ -138,9 +149,12 @@ def compare_strange(program, room):
 
 def fails(wanted, *words):
     """What is wrong with a call of ptext-parts that has to fail with this message."""
-    answer = subprocess.run([sys.executable, f"{TOP}/python/ptext/parts.py", *words], capture_output=True, text=True, check=False)
+    command = [sys.executable, f"{TOP}/python/ptext/parts.py", *words]
+    answer = subprocess.run(command, capture_output=True, text=True, check=False)
     said = answer.stderr.replace(os.getcwd() + "/", "")
-    return [] if answer.returncode and wanted in said else [f"{words}: status {answer.returncode}, {said}, not {wanted}"]
+    return (
+        [] if answer.returncode and wanted in said else [f"{words}: status {answer.returncode}, {said}, not {wanted}"]
+    )
 
 
 def check_failures():
@@ -149,8 +163,14 @@ def check_failures():
     write_file("sorted", b"".join(b"%05d\n" % number for number in range(3000)))
     write_file("disorder", b"".join(b"%05d\n" % number for number in [*range(2000), 0, *range(2000, 3000)]))
     write_file("folder.plan", parts.make_plan(["comm", "sorted", "disorder"], 5).write().encode())
-    wrong = fails("comm: disorder: line 200 is out of order\npart 4 of 5: lines are counted in sorted from byte 10806, "
-                  "disorder from byte 10806", "run", "folder.plan", "4", "empty")
+    wrong = fails(
+        "comm: disorder: line 200 is out of order\npart 4 of 5: lines are counted in sorted from byte 10806, "
+        "disorder from byte 10806",
+        "run",
+        "folder.plan",
+        "4",
+        "empty",
+    )
     wrong += fails("empty: there is no output of part 1, 2, 3, 4, 5", "whole", "folder.plan", "empty", "result.bad")
     wrong += fails("there is no part 6 of 5", "run", "folder.plan", "6")
     wrong += fails("comm: wrong number of operands", "plan", "5", "comm", "sorted")

@@ -1,16 +1,18 @@
 #!/usr/bin/env python3
-"""Runs the six tools by ptext.dask on a scheduler and three workers of this machine, over loopback, and compares the outputs
-with one run over the whole.
+"""Runs the six tools by ptext.dask on a scheduler and three workers of this machine, over loopback, and compares the
+outputs with one run over the whole.
 
   python3 tests/on_dask.py PROGRAM [MEGABYTES]
   python3 tests/on_dask.py --inputs MEGABYTES       only writes the inputs
 
-A worker is killed in the middle of a command. Then commands that fail: files out of order, a full disk, no law, words that
-the program refuses. It needs the packages dask and distributed, and the library (PTEXT_LIBRARY, or build/libptext.so).
+A worker is killed in the middle of a command. Then commands that fail: files out of order, a full disk, no law, words
+that the program refuses. It needs the packages dask and distributed, and the library (PTEXT_LIBRARY, or
+build/libptext.so).
 """
 import filecmp
 import os
 import re
+import resource
 import signal
 import subprocess
 import sys
@@ -42,25 +44,50 @@ def write_inputs(megabytes):
 
     size = megabytes << 20
     write_lines("log", size, make_log_line)
-    write_lines("words", size, lambda number: f"word {number // (number % 50 + 1)}\n" if number % 100 < 90 else "equal\n" * 9)
+    write_lines("words", size, lambda number: f"{number // 9}\n" if number % 100 < 90 else "equal\n" * 9)
     write_lines("left", size, lambda number: f"{number * 2:010} first__________ second_________\n")
     write_lines("right", size, lambda number: f"{number * 3:010} first__________ second_________\n")
 
 
 def start_cluster(room):
     """The scheduler and the workers, as processes, and the address of the scheduler."""
-    environment = {**os.environ, "PYTHONPATH": f"{TOP}/python", "PYTHONDONTWRITEBYTECODE": "1",
-                   "DASK_TEMPORARY_DIRECTORY": room, "DASK_DISTRIBUTED__COMM__TIMEOUTS__CONNECT": "60s"}
+    environment = {
+        **os.environ,
+        "PYTHONPATH": f"{TOP}/python",
+        "PYTHONDONTWRITEBYTECODE": "1",
+        "DASK_TEMPORARY_DIRECTORY": room,
+        "DASK_DISTRIBUTED__COMM__TIMEOUTS__CONNECT": "60s",
+    }
 
     def start(name, *words):
         with open(f"{room}/{name}.log", "wb") as log:
             return subprocess.Popen([sys.executable, "-m", *words], env=environment, stdout=log, stderr=log, cwd=room)
 
-    scheduler = start("scheduler", "distributed.cli.dask_scheduler", "--host", "127.0.0.1", "--port", "0", "--no-dashboard",
-                      "--scheduler-file", f"{room}/cluster.json")
+    scheduler = start(
+        "scheduler",
+        "distributed.cli.dask_scheduler",
+        "--host",
+        "127.0.0.1",
+        "--port",
+        "0",
+        "--no-dashboard",
+        "--scheduler-file",
+        f"{room}/cluster.json",
+    )
     workers = [
-        start(f"worker{number}", "distributed.cli.dask_worker", "--scheduler-file", f"{room}/cluster.json", "--nthreads", "1",
-              "--no-dashboard", "--host", "127.0.0.1", "--local-directory", room)
+        start(
+            f"worker{number}",
+            "distributed.cli.dask_worker",
+            "--scheduler-file",
+            f"{room}/cluster.json",
+            "--nthreads",
+            "1",
+            "--no-dashboard",
+            "--host",
+            "127.0.0.1",
+            "--local-directory",
+            room,
+        )
         for number in range(WORKERS)
     ]
     return [scheduler, *workers]
@@ -97,7 +124,8 @@ def kill_worker(client, killed):
     deadline = time.monotonic() + 60
     while not killed and time.monotonic() < deadline:
         busy = [address for address, tasks in client.processing().items() if tasks]
-        begun = [name for name in os.listdir("result.parts") if name.startswith(".")] if os.path.isdir("result.parts") else []
+        folder = os.listdir("result.parts") if os.path.isdir("result.parts") else []
+        begun = [name for name in folder if name.startswith(".")]
         if busy and begun:
             os.kill(pids[busy[0]], signal.SIGKILL)
             killed.append(busy[0])
@@ -128,17 +156,28 @@ def run_page():
     compare_files("what docs/PARALLEL.md has")
 
 
+def limit_files(size):
+    """On a worker: lets it write files of at most this size."""
+    resource.setrlimit(resource.RLIMIT_FSIZE, (size, resource.RLIM_INFINITY))
+
+
 def check_failures(client):
     from ptext import dask
 
     with open("disorder", "w", encoding="ascii") as file:
         file.write("".join(f"{number:05}\n" for number in [*range(2000), 0, *range(2000, 3000)]))
     words = ["comm", "disorder", "disorder"]
-    expect_failure("disorder: line 200 is out of order\npart 4 of 5", lambda: dask.run(client, words, "result", parts=5))
+    expect_failure(
+        "disorder: line 200 is out of order\npart 4 of 5", lambda: dask.run(client, words, "result", parts=5)
+    )
     expect_failure("disorder: line 200 is out of order\npart 4 of 5", lambda: list(dask.read(client, words, parts=5)))
     expect_failure("parts_of_paste", lambda: dask.run(client, ["paste", "-s", "log"], "result"))
     expect_failure("cut: unknown option in -q", lambda: dask.run(client, ["cut", "-q", "log"], "result"))
     expect_failure("name its file", lambda: dask.run(client, ["uniq"], "result"))
+    # (A limit on the size of files is like a full disk.)
+    client.run(limit_files, 1 << 20)
+    expect_failure("cut was ended by signal", lambda: dask.run(client, ["cut", "-c", "1-", "log"], "result"))
+    client.run(limit_files, resource.RLIM_INFINITY)
 
 
 def check(client, program):
@@ -150,7 +189,9 @@ def check(client, program):
     if b"".join(dask.read(client, ["tr", "a-z", "A-Z"], stdin="words", parts=7)) != open("words", "rb").read().upper():
         raise Failed("the chunks of tr are not those of the whole")
     killed = []
-    compare(client, program, *COMMANDS[-1], parts=40, during=threading.Thread(target=kill_worker, args=(client, killed)))
+    compare(
+        client, program, *COMMANDS[-1], parts=40, during=threading.Thread(target=kill_worker, args=(client, killed))
+    )
     if not killed:
         raise Failed("no worker was killed")
     say(f"a worker was killed: {killed[0]}")
@@ -185,7 +226,7 @@ def main():
             for process in reversed(started):
                 process.wait()
             os.chdir(TOP)
-    print("tests/on_dask.py: six tools in parts, a killed worker and five failures")
+    print("tests/on_dask.py: six tools in parts, a killed worker and six failures")
     return 0
 
 

@@ -1,6 +1,6 @@
 #!/usr/bin/env python3
-"""Installs the built program, ptext-parts, their pages and completion, or the library for C, and removes exactly what was
-installed.
+"""Installs the built program, ptext-parts, their pages and completion, or the library for C, and removes exactly what
+was installed.
 
   python3 tools/install.py install PREFIX [DESTDIR] [NAME=VALUE..]     the programs, their pages and completion
   python3 tools/install.py tools PREFIX [DESTDIR] [NAME=VALUE..]       each tool by its own name, page and completion

@@ -5,9 +5,9 @@
     >>> for chunk in ptext.dask.read(client, ["tr", "a-z", "A-Z"], stdin="log", parts=20):
     ...     file.write(chunk)
 
-The client cuts the files by offsets, as ptext-parts(1) does, so nothing is copied. Each part is a process of the program
-`ptext`, which each worker has in its PATH: the range comes by a pipe, so that a part need not fit into memory, and a tool
-that ends badly leaves the worker alone.
+The client cuts the files by offsets, as ptext-parts(1) does, so nothing is copied. Each part is a process of the
+program `ptext`, which each worker has in its PATH: the range comes by a pipe, so that a part need not fit into memory,
+and a tool that is killed does not end the worker.
 """
 from __future__ import annotations
 
@@ -66,15 +66,21 @@ def _wait(futures: list[Future]) -> None:
 
 
 def run(
-    client: Client, words: Iterable[str], result: str, *, parts: int = 16, stdin: str | None = None,
+    client: Client,
+    words: Iterable[str],
+    result: str,
+    *,
+    parts: int = 16,
+    stdin: str | None = None,
     folder: str | None = None,
 ) -> None:
     """Runs a command in so many parts, and writes the whole output to the file `result`, once each part is there.
 
-    `stdin` names the file that the command reads as standard input. The outputs of parts are in a new folder beside the
-    result, or in `folder`, which all workers can write. There they stay if a part fails, and a second call takes those
-    that are complete. Raises `Error` if the tool refuses a part, with its number and message, and `PartsError` if the files
-    have changed or no law lets the command be cut: then the other parts are cancelled, and there is no result."""
+    `stdin` names the file that the command reads as standard input. The outputs of parts are in a folder beside the
+    result, or in `folder`, which all workers can write. They stay there if a part fails, and a second call takes those
+    that are complete. Raises `Error` if the tool refuses the words or a part, whose number is in the message, and
+    `PartsError` if anything else fails, as when a file has changed, or no law lets the command be cut. Then the other
+    parts are cancelled, and there is no result."""
     plan = _plan(words, parts, stdin)
     folder = os.path.abspath(folder or f"{result}.parts")
     os.makedirs(folder, exist_ok=True)

@@ -5,8 +5,8 @@
   ptext-parts run PLAN PART [FOLDER]                 writes the output of a part, or puts it into the folder
   ptext-parts whole PLAN FOLDER RESULT               puts the outputs of all parts together
 
-INPUT is the file that the command reads as standard input. Parts are counted from 1. ptext is looked for in PATH, unless
-PTEXT_PROGRAM names it. The page ptext-parts(1) has the rest.
+INPUT is the file that the command reads as standard input. Parts are counted from 1. The program ptext is the one in
+PATH, unless PTEXT_PROGRAM names another. The page ptext-parts(1) has the rest.
 """
 from __future__ import annotations
 
@@ -63,7 +63,8 @@ class Command(NamedTuple):
 
     @property
     def operands(self) -> list[str]:
-        """The names of the inputs, in which standard input is `-`. (tr has none, and a second one of uniq is its output.)"""
+        """The names of the inputs, in which standard input is `-`. (The words of tr are none, and a second one of uniq
+        is its output.)"""
         named = [] if self.tool == "tr" else self.words[self.front :]
         return (named[:1] if self.tool == "uniq" else named) or ["-"]
 
@@ -302,8 +303,10 @@ def cut_after_rows(files: list[File], uses: list[int], parts: int) -> Offsets:
     """After the same row: so many lines of each file, or twice as many of standard input that is named twice."""
     counted = [count_lines(file) for file in files]
     rows = share(max(-(-lines[-1][1] // used) for lines, used in zip(counted, uses)), parts)
-    return [[find_row(file, lines, row * used) for row in rows[:-1]] + [file.size]
-            for file, lines, used in zip(files, counted, uses)]
+    return [
+        [find_row(file, lines, row * used) for row in rows[:-1]] + [file.size]
+        for file, lines, used in zip(files, counted, uses)
+    ]
 
 
 def cut_of_tr(command: Command, file: File, parts: int) -> Offsets:
@@ -311,8 +314,10 @@ def cut_of_tr(command: Command, file: File, parts: int) -> Offsets:
     if "s" not in command.options:
         return [share(file.size, parts)]
     if len(call_program(command.words, b"\n\n").stdout) != 2:
-        raise PartsError("tr deletes or squeezes newline: the law parts_of_tr (its clause after_byte) lets it be cut "
-                         "after no line")
+        raise PartsError(
+            "tr deletes or squeezes newline: the law parts_of_tr (its clause after_byte) lets it be cut "
+            "after no line"
+        )
     return cut_after_lines([file], parts)
 
 
@@ -463,8 +468,7 @@ def describe_failure(plan: Plan, part: int, said: str, names: dict[int, str]) ->
     """The message of a tool about a part, with the names of the files, and with the offsets where the part begins."""
     for name, file in zip(names.values(), plan.inputs):
         said = said.replace(f"{'standard input' if name == '-' else name}: ", f"{file.path}: ")
-    ranges = ", ".join(f"{file.path} from byte {begin}" for file, (begin, _) in
-                       zip(plan.inputs, plan.parts[part - 1]))
+    ranges = ", ".join(f"{file.path} from byte {begin}" for file, (begin, _) in zip(plan.inputs, plan.parts[part - 1]))
     return f"{said.rstrip()}\n{describe_part(plan, part)}: lines are counted in {ranges}"
 
 
@@ -482,7 +486,10 @@ def run_part(plan: Plan, part: int, out: int | BinaryIO) -> None:
     try:
         process: Any = subprocess.Popen(
             [find_program(), *command.name_inputs(names)],
-            stdin=stdin, stdout=out, stderr=subprocess.PIPE, pass_fds=[feed.reader for feed in feeds],
+            stdin=stdin,
+            stdout=out,
+            stderr=subprocess.PIPE,
+            pass_fds=[feed.reader for feed in feeds],
         )
     except OSError as why:
         raise PartsError(f"{find_program()}: {why.strerror}") from why
