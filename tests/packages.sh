@@ -128,7 +128,8 @@ for page in share/man/man1/ptext.1 libexec/ptext/man/man1/cut.1; do
     fi
 done
 is "the script of the archive" yes "$([ -x "$local/share/ptext/ptext-slurm.sh" ] && echo yes)"
-is "ptext-parts of the archive" "[[0, 2]]" "$(echo a >"$room/one" && PATH=$local/bin:$PATH ptext-parts plan 1 cut -c 1 "$room/one" | tail -n 1)"
+is "ptext-parts of the archive" "[[0, 2]]" \
+    "$(echo a >"$room/line" && PATH=$local/bin:$PATH ptext-parts plan 1 cut -c 1 "$room/line" | tail -n 1)"
 is "the page of section 7" yes "$([ -s "$local/share/man/man7/ptext-replacing.7" ] && echo yes)"
 is "the file that bash reads" yes "$([ -s "$local/$(lines '^[.] ' | sed 's/.*[.]local.//')" ] && echo yes)"
 (export HOME="$room/home" && eval "$(lines '^cd ')")

@@ -1,7 +1,8 @@
 #!/bin/sh
-# Runs the six tools by ptext-slurm.sh on a cluster of this machine, over loopback: slurmctld, three slurmd and munged, as
-# root. It compares the outputs with one run over the whole; a node is killed in the middle of a command; and a file is out
-# of order, and a disk full. It takes some five minutes, most of which Slurm waits before it queues parts again.
+# Runs the commands of docs/PARALLEL.md for Slurm on a cluster of this machine, over loopback: slurmctld, three slurmd
+# and munged, as root. It compares the outputs of the six tools with one run over the whole; then a file is out of order, a
+# disk is full, and a node is killed in the middle of a command. It takes some four minutes, in two of which Slurm waits
+# before it queues parts again.
 # usage: tests/slurm.sh PROGRAM [MEGABYTES]
 set -u
 program=$(realpath "${1:?which program?}")
@@ -64,7 +65,7 @@ KillWait=5
 SchedulerParameters=sched_interval=2
 JobAcctGatherType=jobacct_gather/none
 SlurmdParameters=config_overrides
-NodeName=w[1-3] NodeHostname=$host NodeAddr=127.0.0.1 Port=[$((port + 2))-$((port + 4))] CPUs=2 RealMemory=4000 State=UNKNOWN
+NodeName=w[1-3] NodeHostname=$host NodeAddr=127.0.0.1 Port=[$((port + 2))-$((port + 4))] CPUs=2 RealMemory=4000
 PartitionName=all Nodes=w[1-3] Default=YES MaxTime=INFINITE State=UP
 END
 head -c 1024 /dev/urandom >munge/key
@@ -97,37 +98,30 @@ failed() {
     tail -n 3 messages
 }
 
-# at: the time, in seconds
-at() {
-    date +%s.%N
-}
-
-# whole PARTS NAME INPUT WORDS..: a command in parts, whose output has to be that of one run
-whole() {
-    parts=$1 name=$2 input=$3
-    shift 3
-    began=$(at)
-    ptext "$@" <"${input:-/dev/null}" >wanted 2>messages || failed "$name as a whole"
-    middle=$(at)
-    mkdir "$name"
-    ptext-parts plan "$parts" ${input:+-i "$input"} "$@" >"$name/plan" 2>messages || failed "the plan of $name"
-    ptext-slurm.sh "$name/plan" "$name" result 2>messages && cmp -s wanted result || failed "$name is not that of one run"
-    count=$((count + 1))
-    echo "equal: $name, one process $(echo "$middle - $began" | bc) s, in $parts parts $(echo "$(at) - $middle" | bc) s"
-    rm -rf result
+# block LINE: the block of the page that begins with this line
+block() {
+    LINE="    $1" awk '/^    / && !inside { inside = 1; shown = $0 == ENVIRON["LINE"] } !/^    / { inside = 0 }
+        inside && shown { print substr($0, 5) }' "$top/docs/PARALLEL.md"
 }
 
 # The inputs are those of tests/on_dask.py.
 python3 "$top/tests/on_dask.py" --inputs "${2:-64}" || failed "the inputs"
-whole 5 cut log cut -d ' ' -f 1,3
-whole 5 tr log tr -s a-z A-Z
-whole 5 uniq '' uniq -c words
-whole 5 paste '' paste log left
-whole 5 comm '' comm left right
-whole 5 join '' join -a 1 -a 2 left right
+block "ptext-parts plan 12 cut -d ' ' -f 1,3 log > plan" >plans
+command=$(block 'mkdir parts && ptext-slurm.sh plan parts result')
+[ "$(wc -l <plans)" = 6 ] && [ "$command" ] || failed "the page lacks a plan, or the command for Slurm"
+while IFS= read -r plan; do
+    whole=$(printf '%s\n' "$plan" | sed 's/^ptext-parts plan 12 //; s/ > plan$//; s/^-i \([a-z]*\) \(.*\)/\2 <\1/')
+    began=$(date +%s)
+    sh -c "ptext $whole" >wanted </dev/null 2>messages || failed "$whole"
+    rm -rf parts result
+    sh -c "$plan" 2>messages && bash -c "$command" 2>messages </dev/null && cmp -s wanted result || failed "$plan"
+    count=$((count + 1))
+    echo "equal: ptext $whole, in $(($(date +%s) - began)) s with one run"
+done <plans
 
 # A part that is refused ends the job, with the message of the tool. So does a disk that is full. There is no result.
 printf '1\n3\n2\n' >disorder
+rm -f result
 mkdir refused full
 ptext-parts plan 3 comm disorder disorder >refused/plan
 ptext-slurm.sh refused/plan refused result 2>messages && failed "status 0, though a file is out of order"
@@ -143,8 +137,8 @@ else
     left_out "a full disk below Slurm (no file system can be mounted)"
 fi
 
-# A node dies in the middle of a part: its daemon, and all that it started. Another node does the part. (The program is a
-# slow one then.)
+# A node dies in the middle of a part: its daemon, and all that it started. Another node does the part. (The program is
+# slow then.)
 mkdir killed
 ptext-parts plan 12 cut -d ' ' -f 1,3 log >killed/plan
 ptext cut -d ' ' -f 1,3 log >wanted
@@ -153,12 +147,7 @@ printf '#!/bin/sh\n"%s" "$@" && sleep 8\n' "$program" >bin/ptext
 chmod +x bin/ptext
 ptext-slurm.sh killed/plan killed result 2>messages &
 waiting=$!
-tries=0
-until squeue --noheader --states=R -o %N 2>/dev/null | grep -q w2 || [ "$tries" = 60 ]; do
-    tries=$((tries + 1))
-    sleep 0.5
-done
-sleep 3
+started="$waiting $started"
 
 # below PID: this process and all that it started
 below() {
@@ -166,14 +155,24 @@ below() {
     for child_pid in $(pgrep -P "$1"); do below "$child_pid"; done
 }
 
-doomed=$w2
-for job in $(squeue --noheader --states=R --nodelist=w2 -o %A); do
-    for pid in $(pgrep -f "^slurmstepd: \[$job[.]"); do
-        tr '\0' '\n' <"/proc/$pid/environ" | grep -qxF "SLURM_CONF=$SLURM_CONF" && doomed="$doomed $(below "$pid")"
+# on_w2: the processes of the parts that run on this node
+on_w2() {
+    for job in $(squeue --noheader --states=R --nodelist=w2 -o %A); do
+        for pid in $(pgrep -f "^slurmstepd: \[$job[.]"); do
+            tr '\0' '\n' <"/proc/$pid/environ" | grep -qxF "SLURM_CONF=$SLURM_CONF" && below "$pid"
+        done
     done
+}
+
+tries=0
+until on_w2 | grep -q . || [ "$tries" = 60 ]; do
+    tries=$((tries + 1))
+    sleep 0.5
 done
-[ "$doomed" != "$w2" ] || failed "no part was on the node that dies"
-kill -9 $doomed
+sleep 1
+doomed=$(on_w2)
+[ "$doomed" ] || failed "no part was on the node that dies"
+kill -9 $w2 $doomed
 wait "$waiting" || failed "a node died, and the job failed"
 cmp -s wanted result || failed "a node died, and the output is not that of one run"
 grep -q -i requeue logs/ctld.log || failed "no part was queued again"

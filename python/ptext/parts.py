@@ -14,12 +14,9 @@ import errno
 import hashlib
 import json
 import os
-import shutil
-import socket
 import stat
 import subprocess
 import sys
-import tempfile
 import threading
 from collections.abc import Callable, Iterator
 from typing import Any, BinaryIO, NamedTuple
@@ -211,19 +208,37 @@ def make_uniq_key(command: Command) -> Callable[[bytes], bytes]:
     return find_key
 
 
+def skip_copies(file: File, at: int, line: bytes) -> int:
+    """The offset after the copies of a line that begin at an offset. Many are compared at once."""
+    count = max(LARGE // len(line), 1)
+    while count:
+        copies = line * count
+        while os.pread(file.descriptor, len(copies), at) == copies:
+            at += len(copies)
+        count //= 2
+    return at
+
+
+def find_change(file: File, at: int, find_key: Callable[[bytes], bytes]) -> int:
+    """The offset where the run ends to which the line at an offset belongs."""
+    first = next(file.read_lines(at), None)
+    if first is None:
+        return at
+    line, end = first
+    key, at = find_key(line), skip_copies(file, end, line + file.terminator)
+    for line, end in file.read_lines(at):
+        if find_key(line) != key:
+            break
+        at = end
+    return at
+
+
 def cut_between_runs(file: File, parts: int, find_key: Callable[[bytes], bytes]) -> Offsets:
-    """Between two lines whose keys differ. The lines from each wanted offset on are read up to such a place."""
+    """Between two lines whose keys differ: where the run ends of the first line after each wanted offset."""
     found = [0]
     for wanted in share(file.size, parts)[1:-1]:
-        at, before = found[-1], None
-        if wanted > at:
-            at = file.find_line(wanted)
-            for line, end in file.read_lines(at):
-                key = find_key(line)
-                if before not in (None, key):
-                    break
-                at, before = end, key
-        found.append(at)
+        at = found[-1]
+        found.append(at if wanted <= at else find_change(file, file.find_line(wanted), find_key))
     return [[*found, file.size]]
 
 
@@ -445,6 +460,11 @@ class Feed(threading.Thread):
         self.file = os.open(path, os.O_RDONLY)
         self.reader, self.writer = os.pipe()
 
+    def close(self) -> None:
+        """Closes the end of the pipe that is written to, and the file."""
+        os.close(self.writer)
+        os.close(self.file)
+
     def run(self) -> None:
         try:
             while self.at < self.end and not self.why:
@@ -456,8 +476,7 @@ class Feed(threading.Thread):
         except OSError as why:
             self.why = why.strerror or "read failed"
         finally:
-            os.close(self.writer)
-            os.close(self.file)
+            self.close()
 
 
 def describe_part(plan: Plan, part: int) -> str:
@@ -492,9 +511,13 @@ def run_part(plan: Plan, part: int, out: int | BinaryIO) -> None:
             pass_fds=[feed.reader for feed in feeds],
         )
     except OSError as why:
+        for feed in feeds:
+            feed.close()
         raise PartsError(f"{find_program()}: {why.strerror}") from why
+    finally:
+        for feed in feeds:
+            os.close(feed.reader)
     for feed in feeds:
-        os.close(feed.reader)
         feed.start()
     with process:
         said = process.stderr.read().decode(errors="replace")
@@ -516,16 +539,17 @@ def run_part(plan: Plan, part: int, out: int | BinaryIO) -> None:
 def put_whole(path: str, write: Callable[[BinaryIO], None]) -> None:
     """Writes a file under another name, and renames it once it is on the disk. So it is there whole, or not at all."""
     folder, name = os.path.split(os.path.abspath(path))
-    descriptor, new = tempfile.mkstemp(prefix=f".{name}.{socket.gethostname()}.", dir=folder)
+    # (Another machine may write the file, too: one that was taken for dead.)
+    new = f"{folder}/.{name}.{os.uname().nodename}.{os.getpid()}.{threading.get_ident()}"
     try:
-        with open(descriptor, "wb") as file:
-            os.fchmod(descriptor, 0o644)
+        with open(new, "wb") as file:
             write(file)
             file.flush()
-            os.fsync(descriptor)
+            os.fsync(file.fileno())
         os.rename(new, path)
     except BaseException:
-        os.remove(new)
+        if os.path.exists(new):
+            os.remove(new)
         raise
 
 
@@ -548,7 +572,8 @@ def put_together(plan: Plan, folder: str, result: str) -> None:
     def write(whole: BinaryIO) -> None:
         for path in paths:
             with open(path, "rb") as file:
-                shutil.copyfileobj(file, whole, LARGE)
+                while text := file.read(LARGE):
+                    whole.write(text)
 
     put_whole(result, write)
 
