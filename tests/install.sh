@@ -40,7 +40,8 @@ for words in 'cut -c 1' 'paste -s -' 'uniq -c' 'tr a-b x' 'comm - none' 'join - 
 done
 is "a value with blanks" "a b" "$(printf 'a b\n' | "$bin/cut" -d 'x' -f '1 2')"
 is "cut by name" "a" "$(printf 'ab\n' | PATH=$bin:$PATH cut -c 1)"
-for page in ptext.1 ptext-comm.1 ptext-cut.1 ptext-join.1 ptext-parts.1 ptext-paste.1 ptext-tr.1 ptext-uniq.1 ptext-replacing.7; do
+for page in ptext.1 ptext-comm.1 ptext-cut.1 ptext-join.1 ptext-parts.1 ptext-paste.1 ptext-tr.1 ptext-uniq.1 \
+    ptext-replacing.7; do
     is "page $page" yes "$([ -s "$room/empty/share/man/man${page##*.}/$page" ] && echo yes)"
 done
 printf 'a 1\nb 2\n' >"$room/sorted"
@@ -140,7 +141,8 @@ set --
 # other one with one more line.)
 if [ -f /usr/share/common-licenses/LGPL-2.1 ]; then
     mkdir -p "$room/tree/build" "$room/static"
-    tar -C "$top" -cf - --exclude='crates/*/out' Makefile VERSION HANDLES crates.txt crates docs man completion python tools |
+    tar -C "$top" -cf - --exclude='crates/*/out' Makefile VERSION HANDLES crates.txt crates docs man completion \
+        python tools |
         tar -xf - -C "$room/tree"
     cp "$top/build/ptext" "$room/tree/build/ptext"
     { cat "$top/build/ptext" && echo; } >"$room/tree/build/ptext-static"

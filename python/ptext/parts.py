@@ -19,7 +19,7 @@ import subprocess
 import sys
 import threading
 from collections.abc import Callable, Iterator
-from typing import Any, BinaryIO, NamedTuple
+from typing import IO, Any, BinaryIO, NamedTuple
 
 # The options that have a value.
 VALUED = {"cut": "bcdf", "paste": "d", "join": "aveot12", "comm": "", "uniq": "fs", "tr": ""}
@@ -438,10 +438,12 @@ def check_unchanged(plan: Plan) -> None:
 
 def copy_bytes(file: int, at: int, end: int, pipe: int) -> int:
     """Copies some bytes of a file to a pipe, in the kernel where that can be done."""
+    splice = getattr(os, "splice", None)  # (Python 3.9 has none.)
     try:
-        return os.splice(file, pipe, min(end - at, LARGE), offset_src=at)
-    except (AttributeError, OSError) as why:
-        if isinstance(why, OSError) and why.errno != errno.EINVAL:
+        if splice:
+            return int(splice(file, pipe, min(end - at, LARGE), offset_src=at))
+    except OSError as why:
+        if why.errno != errno.EINVAL:
             raise
     text = memoryview(os.pread(file, min(end - at, LARGE), at))
     done = 0
@@ -491,7 +493,7 @@ def describe_failure(plan: Plan, part: int, said: str, names: dict[int, str]) ->
     return f"{said.rstrip()}\n{describe_part(plan, part)}: lines are counted in {ranges}"
 
 
-def run_part(plan: Plan, part: int, out: int | BinaryIO) -> None:
+def run_part(plan: Plan, part: int, out: int | IO[bytes]) -> None:
     """Runs the program over a part. It gets each range by a pipe, so that a part need not fit into memory."""
     if not 1 <= part <= len(plan.parts):
         raise PartsError(f"there is no part {part} of {len(plan.parts)}", 2)
