@@ -1,17 +1,19 @@
 #!/usr/bin/env python3
-"""Wall time and processor time of each tool over its whole input in one process, and over parts of it by GNU parallel.
+"""Wall time and processor time of each tool over its whole input in one process, over parts of it by `xargs` on all
+processors, and by Dask; of cutting the files; and of `sort`.
 
   bench/parts.py PTEXT [MEGABYTES]
 
 Each input has MEGABYTES, 512 by default. It was written just before, so that it is read from memory. The best of three
-runs counts, and the output is thrown away. For `cut`, `tr` and `uniq`, `parallel` cuts the file into one part for each
-processor. The files of `paste`, `comm` and `join` are cut beforehand, which has a column of its own. Wall time depends
-on other work on the machine, so its load at the start is printed; processor time (in brackets: user and system, of all
-processes) hardly does. docs/PARALLEL.md says where an input may be cut.
+runs counts, and the output is thrown away, except that Dask writes it to a file. Wall time depends on other work on the
+machine, so its load at the start is printed; processor time (in brackets: user and system, of all processes) hardly
+does. The column of Dask is empty if it is not installed, or if the library is not built.
 """
 
+import importlib
 import os
 import resource
+import shlex
 import subprocess
 import sys
 import tempfile
@@ -19,32 +21,14 @@ import time
 
 TOP = os.path.dirname(os.path.dirname(os.path.realpath(__file__)))
 RUNS = 3
-PIPED = "parallel --pipepart -k --halt now,fail=1 --block -1 -a"
-LISTED = "ls {1} | sed -n 's/^1[.]//p' | parallel -k --halt now,fail=1 {0}"
-
-# A tool: how its files are cut beforehand, what is run over the whole, and what over the parts.
+# For each tool its words, and the file that it reads as standard input.
 CASES = [
-    ("cut", None, "ptext cut -d ' ' -f 1,3 log", f"{PIPED} log \"ptext cut -d ' ' -f 1,3\""),
-    ("tr", None, "ptext tr a-z A-Z <log", f"{PIPED} log 'ptext tr a-z A-Z'"),
-    ("uniq", None, "ptext uniq -c left", f"{PIPED} left --group-by '$_' 'ptext uniq -c'"),
-    (
-        "paste",
-        "split -a 4 -d -n l/CORES left rows/1.; split -a 4 -d -n l/CORES left rows/2.",
-        "ptext paste left left",
-        LISTED.format("'ptext paste rows/1.{} rows/2.{}'", "rows"),
-    ),
-    (
-        "comm",
-        "CUT CORES 0 lines left right",
-        "ptext comm left right",
-        LISTED.format("'ptext comm lines/1.{} lines/2.{}'", "lines"),
-    ),
-    (
-        "join",
-        "CUT CORES 1 keys left right",
-        "ptext join left right",
-        LISTED.format("'ptext join keys/1.{} keys/2.{}'", "keys"),
-    ),
+    ("cut -d ' ' -f 1,3 log", None),
+    ("tr a-z A-Z", "log"),
+    ("uniq -c left", None),
+    ("paste left left", None),
+    ("comm left right", None),
+    ("join left right", None),
 ]
 
 
@@ -73,8 +57,36 @@ def measure(command):
     return time.monotonic() - before[0], read_processor_seconds() - before[1]
 
 
+def measure_best(command):
+    return min(measure(command) for _ in range(RUNS))
+
+
 def format_times(times):
     return f"{times[0]:.2f} s ({times[1]:.2f} s)"
+
+
+def start_dask(cores):
+    """A client of a cluster of this machine, with as many workers as processors; or None."""
+    sys.path.insert(0, f"{TOP}/python")
+    os.environ.setdefault("PTEXT_LIBRARY", f"{TOP}/build/libptext.so")
+    os.environ["PYTHONPATH"] = f"{TOP}/python"
+    try:
+        from distributed import Client, LocalCluster
+
+        importlib.import_module("ptext.dask")
+    except (ImportError, OSError):
+        return None
+    return Client(LocalCluster(n_workers=cores, threads_per_worker=1, dashboard_address=None))
+
+
+def measure_dask(client, words, stdin, parts):
+    """Wall time of a command on the workers."""
+    from ptext import dask
+
+    began = time.monotonic()
+    dask.run(client, shlex.split(words), "result", parts=parts, stdin=stdin)
+    os.remove("result")
+    return time.monotonic() - began
 
 
 def main():
@@ -82,26 +94,27 @@ def main():
     ptext, size = os.path.abspath(sys.argv[1]), int(sys.argv[2] if len(sys.argv) > 2 else 512) << 20
     with tempfile.TemporaryDirectory() as folder:
         os.chdir(folder)
-        for name in ("bin", "rows", "lines", "keys"):
-            os.mkdir(name)
+        os.mkdir("bin")
         os.symlink(ptext, "bin/ptext")
-        os.environ.update(
-            LC_ALL="C", PARALLEL="--will-cite", PARALLEL_HOME=folder, PATH=f"{folder}/bin:{os.environ['PATH']}"
-        )
+        os.symlink(f"{TOP}/python/ptext/parts.py", "bin/ptext-parts")
+        os.environ.update(LC_ALL="C", PATH=f"{folder}/bin:{os.environ['PATH']}")
         write_lines("log", size, make_log_line)
         write_lines("left", size, lambda number: f"{number * 2:010} first__________ second_________\n")
         write_lines("right", size, lambda number: f"{number * 3:010} first__________ second_________\n")
         print(f"load at the start: {os.getloadavg()[0]:.1f} of {cores} processors")
-        print(f"| tool | one process | {cores} processors | cut beforehand |\n|---|---|---|---|")
-        for tool, cutting, whole, parts in CASES:
-            cut = (
-                ""
-                if not cutting
-                else cutting.replace("CORES", str(cores)).replace("CUT", f"{TOP}/tools/cut_at_keys.sh")
+        print(f"`sort log`: {format_times(measure('sort -S 1G --parallel=4 -T . log'))}")
+        print("| tool | one process | cutting | in parts, four at once | by Dask |\n|---|---|---|---|---|")
+        client = start_dask(cores)
+        for words, stdin in CASES:
+            given = f"-i {stdin} " if stdin else ""
+            whole = measure_best(f"ptext {words} <{stdin or '/dev/null'}")
+            cutting = measure_best(f"ptext-parts plan {4 * cores} {given}{words} >plan")
+            parts = measure_best(f"seq {4 * cores} | xargs -P {cores} -I @ ptext-parts run plan @")
+            by_dask = (
+                f"{min(measure_dask(client, words, stdin, 4 * cores) for _ in range(RUNS)):.2f} s" if client else ""
             )
-            taken = format_times(measure(cut)) if cut else ""
-            one, many = (min(measure(command) for _ in range(RUNS)) for command in (whole, parts))
-            print(f"| `{tool}` | {format_times(one)} | {format_times(many)} | {taken} |", flush=True)
+            times = " | ".join(map(format_times, (whole, cutting, parts)))
+            print(f"| `{words.split()[0]}` | {times} | {by_dask} |", flush=True)
 
 
 if __name__ == "__main__":

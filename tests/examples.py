@@ -4,10 +4,10 @@
   python3 tests/examples.py PROGRAM
 
 An example is a line `$ COMMAND` in a block. The lines below it are its output and messages, as a terminal shows them.
-The commands of one file run in their order and in one folder, in which `ptext` is PROGRAM, and so is `build/ptext`. A
-line `bash$ COMMAND` needs bash. A line `gnu$ COMMAND` is an example of GNU's tools, and `busybox$ COMMAND` one of
-busybox's; `toybox$`, `uutils$` and `9base$` are of three others. If the system has another version than the documents
-compare with, their examples are left out, with a message.
+The commands of one file run in their order and in one folder, in which `ptext` is PROGRAM, and so is `build/ptext`, and
+`ptext-parts` is that of the source. A line `bash$ COMMAND` needs bash. A line `gnu$ COMMAND` is an example of GNU's
+tools, and `busybox$ COMMAND` one of busybox's; `toybox$`, `uutils$` and `9base$` are of three others. If the system has
+another version than the documents compare with, their examples are left out, with a message.
 """
 import glob
 import os
@@ -84,6 +84,7 @@ def run_examples(file, program, known):
         os.mkdir(f"{room}/bin")
         os.makedirs(f"{room}/here/build")
         os.symlink(program, f"{room}/bin/ptext")
+        os.symlink(f"{TOP}/python/ptext/parts.py", f"{room}/bin/ptext-parts")
         os.symlink(program, f"{room}/here/build/ptext")
         surroundings = {**os.environ, "PATH": f"{room}/bin:{os.environ['PATH']}", "LC_ALL": "C"}
         for side, command, wanted in find_examples(file):

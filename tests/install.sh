@@ -40,13 +40,13 @@ for words in 'cut -c 1' 'paste -s -' 'uniq -c' 'tr a-b x' 'comm - none' 'join - 
 done
 is "a value with blanks" "a b" "$(printf 'a b\n' | "$bin/cut" -d 'x' -f '1 2')"
 is "cut by name" "a" "$(printf 'ab\n' | PATH=$bin:$PATH cut -c 1)"
-for page in ptext.1 ptext-comm.1 ptext-cut.1 ptext-join.1 ptext-paste.1 ptext-tr.1 ptext-uniq.1 ptext-replacing.7; do
+for page in ptext.1 ptext-comm.1 ptext-cut.1 ptext-join.1 ptext-parts.1 ptext-paste.1 ptext-tr.1 ptext-uniq.1 \
+    ptext-replacing.7; do
     is "page $page" yes "$([ -s "$room/empty/share/man/man${page##*.}/$page" ] && echo yes)"
 done
 printf 'a 1\nb 2\n' >"$room/sorted"
-mkdir "$room/parts"
-"$room/empty/share/ptext/cut_at_keys.sh" 2 1 "$room/parts" "$room/sorted"
-is "cut_at_keys.sh" "1.000 1.001 keys" "$(ls "$room/parts" | tr '\n' ' ' | sed 's/ $//')"
+is "ptext-parts" "[[0, 8]]" "$(PATH=$room/empty/bin:$PATH ptext-parts plan 2 uniq "$room/sorted" | sed -n 2p)"
+is "ptext-slurm.sh" yes "$([ -x "$room/empty/share/ptext/ptext-slurm.sh" ] && echo yes)"
 for tool in cut paste join comm uniq tr; do
     is "$tool.1 beside the tools" same "$(cmp -s "$room/empty/libexec/ptext/man/man1/$tool.1" \
         "$room/empty/share/man/man1/ptext-$tool.1" && echo same)"
@@ -89,7 +89,7 @@ rmdir "$top/build/rooted"
 # Each says what it did, in one line.
 mkdir "$room/said.here"
 is "what install says" \
-    "installed in $room/said.here: bin/ptext (of build/ptext), 8 pages in share/man, completion for bash, zsh and fish, share/ptext/cut_at_keys.sh" \
+    "installed in $room/said.here: bin/ptext (of build/ptext) and ptext-parts, 9 pages in share/man, completion for bash, zsh and fish, share/ptext/ptext-slurm.sh" \
     "$(make -s -C "$top" install PREFIX="$room/said.here" DESTDIR= STATIC=no)"
 is "what install-tools says" \
     "to complete them in bash, ~/.bash_completion needs: . $room/said.here/share/bash-completion/completions/ptext-tools
@@ -119,8 +119,8 @@ is "nothing is left of it" "" "$(ls -Ad "$room/a b" 2>/dev/null)"
 mkdir "$room/parts.of"
 set -- prefix=/usr bindir=/usr/progs libexecdir=/usr/lib datadir=/opt/data mandir=/usr/man DESTDIR="$room/parts.of" \
     STATIC=no
-is "what install says of other folders" "installed in $room/parts.of/usr: progs/ptext (of build/ptext), 8 pages in \
-man, completion for bash, zsh and fish, $room/parts.of/opt/data/ptext/cut_at_keys.sh" \
+is "what install says of other folders" "installed in $room/parts.of/usr: progs/ptext (of build/ptext) and ptext-parts, 9 \
+pages in man, completion for bash, zsh and fish, $room/parts.of/opt/data/ptext/ptext-slurm.sh" \
     "$(make -s -C "$top" install "$@" INSTALL_PROGRAM='install -m 511')"
 install install-tools "$@" INSTALL_PROGRAM='install -m 511'
 is "the mode of INSTALL_PROGRAM" 511 "$(stat -c %a "$room/parts.of/usr/progs/ptext")"
@@ -141,7 +141,8 @@ set --
 # other one with one more line.)
 if [ -f /usr/share/common-licenses/LGPL-2.1 ]; then
     mkdir -p "$room/tree/build" "$room/static"
-    tar -C "$top" -cf - --exclude='crates/*/out' Makefile VERSION HANDLES crates.txt crates docs man completion tools |
+    tar -C "$top" -cf - --exclude='crates/*/out' Makefile VERSION HANDLES crates.txt crates docs man completion \
+        python tools |
         tar -xf - -C "$room/tree"
     cp "$top/build/ptext" "$room/tree/build/ptext"
     { cat "$top/build/ptext" && echo; } >"$room/tree/build/ptext-static"
@@ -230,7 +231,7 @@ as=
 [ "$(id -u)" = 0 ] && as='setpriv --reuid=65534 --regid=65534 --clear-groups'
 # (Nobody may not be able to read this folder.)
 mkdir -p "$room/readable"
-tar -C "$top" -cf - tools man docs completion VERSION crates/ptopts/src/tool.rt build/ptext |
+tar -C "$top" -cf - tools man docs completion python VERSION crates/ptopts/src/tool.rt build/ptext |
     tar -xf - -C "$room/readable"
 chmod -R a+rX "$room/readable"
 for python in python3 /usr/bin/python3; do

@@ -127,7 +127,9 @@ for page in share/man/man1/ptext.1 libexec/ptext/man/man1/cut.1; do
             "$(MANWIDTH=80 man -l "$local/$page" | tail -n 1 | sed 's/  *[A-Z][a-z]* [0-9]*, 20[0-9]*  */ /')"
     fi
 done
-is "the script of the archive" yes "$([ -x "$local/share/ptext/cut_at_keys.sh" ] && echo yes)"
+is "the script of the archive" yes "$([ -x "$local/share/ptext/ptext-slurm.sh" ] && echo yes)"
+is "ptext-parts of the archive" "[[0, 2]]" \
+    "$(echo a >"$room/line" && PATH=$local/bin:$PATH ptext-parts plan 1 cut -c 1 "$room/line" | tail -n 1)"
 is "the page of section 7" yes "$([ -s "$local/share/man/man7/ptext-replacing.7" ] && echo yes)"
 is "the file that bash reads" yes "$([ -s "$local/$(lines '^[.] ' | sed 's/.*[.]local.//')" ] && echo yes)"
 (export HOME="$room/home" && eval "$(lines '^cd ')")
@@ -261,9 +263,10 @@ elif command -v dpkg-buildpackage >/dev/null && command -v dh >/dev/null; then
             is "$page, to read in the package" yes "$([ -s "$about/$page" ] && echo yes)"
         done
         same "its copyright" "$about/copyright" "$top/debian/copyright"
-        is "its pages" 7 "$(ls "$usr/share/man/man1" | grep -c '^ptext.*\.1\.gz$')"
+        is "its pages" 8 "$(ls "$usr/share/man/man1" | grep -c '^ptext.*\.1\.gz$')"
         is "its page of section 7" ptext-replacing.7.gz "$(ls "$usr/share/man/man7")"
-        is "its script" yes "$([ -x "$usr/share/ptext/cut_at_keys.sh" ] && echo yes)"
+        is "its script" yes "$([ -x "$usr/share/ptext/ptext-slurm.sh" ] && echo yes)"
+        is "its ptext-parts" yes "$([ -x "$usr/bin/ptext-parts" ] && echo yes)"
         is "completion in bash" "ptext ptext-tools " "$(ls "$usr/share/bash-completion/completions" | tr '\n' ' ')"
         is "completion in zsh" "_ptext _ptext_tools " "$(ls "$usr/share/zsh/vendor-completions" | tr '\n' ' ')"
         into -P ptext-tools ptext

@@ -1,7 +1,7 @@
 #!/bin/sh
-# Tests the commands of docs/PARALLEL.md, except its sketches: their output from the parts of files of 64 MB, in parts of
-# several sizes, against one run over the whole; a second run over the files of the first; and cuts that the page warns
-# of, which have to be wrong. Several machines are network namespaces of this one, with an sshd in each.
+# Tests the commands of docs/PARALLEL.md: the outputs of the parts of files of 64 MB, for each tool and each way to run
+# them, against one run over the whole; and parts that fail. Several machines are network namespaces of this one, with
+# an sshd in each. (tests/on_dask.py and tests/slurm.sh run those for a cluster.)
 # usage: tests/parallel.sh PROGRAM
 set -u
 program=$(realpath "${1:?which program?}")
@@ -31,9 +31,9 @@ if [ "$(df -Pk . | awk 'NR == 2 { print $4 }')" -lt 3000000 ]; then
 fi
 mkdir bin
 ln -s "$program" bin/ptext
-ln -s "$top/tools/cut_at_keys.sh" bin/cut_at_keys.sh
+ln -s "$top/python/ptext/parts.py" bin/ptext-parts
 ln -s "$(command -v parallel)" bin/parallel
-export LC_ALL=C PATH="$room/bin:$PATH" PARALLEL_HOME="$room" PARALLEL=--will-cite
+export LC_ALL=C PYTHONDONTWRITEBYTECODE=1 PATH="$room/bin:$PATH" PARALLEL_HOME="$room" PARALLEL=--will-cite
 : >messages
 
 # failed NAME: reports a failure
@@ -58,12 +58,13 @@ block() {
         inside && shown { print substr($0, 5) }' "$page"
 }
 
-# blocks: the first lines of all blocks of the page before its sketches
+# blocks: the first lines of all blocks of the page
 blocks() {
-    awk '/^## Sketches/ { exit } /^    / { if (!inside) print substr($0, 5); inside = 1; next } { inside = 0 }' "$page"
+    awk '/^    / { if (!inside) print substr($0, 5); inside = 1; next } { inside = 0 }' "$page"
 }
 
-# both LINE WHOLE SIZES..: the block that begins with LINE, in parts of each size, against the command WHOLE; and once more
+# both LINE WHOLE SIZES..: the block that begins with LINE, in parts of each size, against the command WHOLE; once more;
+# and, if it writes to standard output, with a full disk
 both() {
     command=$(block "$1") first=$1
     [ -n "$command" ] || failed "not in the page: $first"
@@ -75,16 +76,26 @@ both() {
         run "$now"
         [ "$status" = 0 ] && cmp -s out want || failed "$first, in parts of $size (status $status)"
     done
-    case $first in
-    mkdir*) ;;
-    *) bash -c "set -o pipefail
-$now" >/dev/full 2>messages </dev/null && failed "$first, status 0, though the disk is full" ;;
-    esac
+    bash -c "set -o pipefail
+$now" >/dev/full 2>messages </dev/null && failed "$first, status 0, though the disk is full"
     run "$now"
-    case $first in
-    mkdir*) [ "$status" != 0 ] && ! [ -s out ] || failed "$first, over the parts of an earlier run (status $status)" ;;
-    *) [ "$status" = 0 ] && cmp -s out want || failed "$first, a second time (status $status)" ;;
-    esac
+    [ "$status" = 0 ] && cmp -s out want || failed "$first, a second time (status $status)"
+}
+
+# each LINE RESULT: for each command of the page's plans, the block that begins with LINE against one run; RESULT is the
+# file that it writes
+each() {
+    command=$(block "$1")
+    [ -n "$command" ] || failed "not in the page: $1"
+    printf '%s\n' "$1" >>tested
+    while IFS= read -r plan; do
+        whole=$(printf '%s\n' "$plan" | sed 's/^ptext-parts plan 12 //; s/ > plan$//; s/^-i \([a-z]*\) \(.*\)/\2 <\1/')
+        sh -c "ptext $whole" >want </dev/null || failed "$whole"
+        rm -rf parts result
+        run "$plan"
+        run "$command"
+        [ "$status" = 0 ] && cmp -s "$2" want || failed "$1, after $plan (status $status)"
+    done <plans
 }
 
 # repeated FILE: the file, again and again, up to 64 MB
@@ -112,120 +123,72 @@ for file in log zeros words left right shuffled; do
     [ "$(wc -c <"$file")" -ge 64000000 ] || failed "$file is too small"
 done
 
-printf 'set -o pipefail\n' >tested
+{
+    echo 'set -o pipefail'
+    echo 'import ptext.dask'
+    echo 'client = Client(scheduler_file="cluster.json")'
+    echo 'mkdir parts && ptext-slurm.sh plan parts result'
+    blocks | grep '^ptext-parts plan'
+} >tested
+block "ptext-parts plan 12 cut -d ' ' -f 1,3 log > plan" >plans
+[ "$(wc -l <plans)" = 6 ] || failed "the page has not a plan for each tool"
 both "sort -S 1G --parallel=4 -T . -k 1b,1 shuffled | ptext join - right" "ptext join left right" one
 both "{ head -n 1 table && tail -n +2 table | sort -S 1G --parallel=4 -T . -t , -k 1,1; } > sorted && cat sorted" \
     "head -n 1 table; tail -n +2 table | sort" one
-each="parallel --pipepart -k --halt now,fail=1"
-both "$each --block -1 -a log 'ptext cut -c 12-30' | cat" "ptext cut -c 12-30 log" one
-both "$each --block 20M -a log 'ptext cut -d \" \" -f 1,3' | cat" "ptext cut -d ' ' -f 1,3 log" 3M 20M
-both "$each --block 20M -a log 'ptext tr a-z A-Z' | cat" "ptext tr a-z A-Z <log" 3M 20M
-both "$each --block 20M -a log 'ptext tr -s \" \"' | cat" "ptext tr -s ' ' <log" 3M 20M
-both "$each --block 20M --recend '\\0' -a zeros 'ptext cut -z -d \" \" -f 2' | cat" \
-    "ptext cut -z -d ' ' -f 2 zeros" 3M 20M
-both "$each --block 20M -a log 'ptext tr -cs \"[:alpha:]\" \"[\\n*]\"' | ptext tr -s '\\n'" \
-    "ptext tr -cs '[:alpha:]' '[\\n*]' <log" 3M 20M
 both "gzip -dc log.gz | parallel --pipe -k --halt now,fail=1 --block 20M 'ptext cut -d \" \" -f 1,3' | cat" \
     "ptext cut -d ' ' -f 1,3 log" 3M 20M
-filled="! { grep -n -m 1 '^\$' words || tail -c 1 words | grep .; } >&2 && parallel --pipepart -k"
-both "$filled --group-by '\$_' -a words \\" "ptext uniq -c words" 3M 20M
-both "$filled -a words \\" "ptext uniq -f 1 words" 3M 20M
-both "mkdir rows && split -a 4 -d -l 300000 first rows/1. && split -a 4 -d -l 300000 second rows/2. &&" \
-    "ptext paste first second" one
-both "mkdir lines && cut_at_keys.sh 5 0 lines left right &&" "ptext comm left right" one
-both "mkdir keys && cut_at_keys.sh 5 1 keys left right &&" "ptext join -a 1 -a 2 left right" one
-both "mkdir spaces && SEPARATOR=' ' cut_at_keys.sh 5 1 spaces left right &&" "ptext join -t ' ' left right" one
-both "mkdir runs && cut_at_keys.sh 5 0 runs right &&" "ptext uniq -c right" one
-rm -r rows lines keys spaces runs
+folder="mkdir parts && seq 12 | xargs -P 4 -I {} ptext-parts run plan {} parts && ptext-parts whole plan parts result"
+printed="seq 12 | parallel -k --halt soon,fail=1 ptext-parts run plan {} | cat"
+each "$folder" result
+run "$folder"
+[ "$status" != 0 ] || failed "status 0, though there is a folder of an earlier run"
+each "$printed" out
+both "export PARALLEL_SHELL=/bin/bash && seq 12 |" "ptext join -a 1 -a 2 left right" one
 
-# Cuts that do not meet the condition: the output is not that of the whole.
-(seq 500000; yes equal | head -n 500000; printf equal) >open
-while IFS= read -r command && IFS= read -r whole; do
-    sh -c "$whole" >want </dev/null || failed "$whole"
-    run "$command"
-    [ "$status" = 0 ] && ! cmp -s out want || failed "equal, though it was cut wrongly: $command"
-done <<'ROWS'
-parallel --pipepart -k --block 3M -a words 'ptext uniq -c'
-ptext uniq -c words
-parallel --pipepart -k --block 3M --group-by '$_' -a open 'ptext uniq -c'
-ptext uniq -c open
-parallel --pipepart -k --block 3M -a log 'ptext tr -cs "[:alpha:]" "[\n*]"'
-ptext tr -cs "[:alpha:]" "[\n*]" <log
-parallel --pipepart -k --block 3M --recend '' -a log 'ptext cut -c 1'
-ptext cut -c 1 log
-parallel --pipepart -k --block 3M -a first 'ptext paste -s -'
-ptext paste -s first
-ROWS
-
-# A part that fails makes the whole command fail, in a pipe, too.
-for command in "$each --block 3M -a log 'ptext cut -c 1 >/dev/full'" "$each --block 3M -a log 'ptext cut -q 1' | cat" \
-    "printf '1\n2\n' | parallel -k --halt now,fail=1 'test {} = 1 && ptext cut -c 1 log' | ptext uniq"; do
-    run "$command"
-    [ "$status" != 0 ] || failed "status 0, though a part failed: $command"
-done
-
-# GNU parallel cuts runs of empty lines, and a last line without its newline from its run, so the recipes for uniq
-# refuse them.
-(head -n 1000 first; yes '' | head -n 99) >empty
-for file in empty open; do
-    for line in "$filled --group-by '\$_' -a words \\" "$filled -a words \\"; do
-        run "$(block "$line" | sed "s/ words/ $file/g")"
-        [ "$status" = 1 ] && ! [ -s out ] && [ -s messages ] || failed "not refused: $line, over the file $file"
+# A part that fails makes the whole command fail, and there is no result.
+fails() {
+    for command in "$folder" "$printed"; do
+        rm -rf parts result
+        run "$command"
+        [ "$status" != 0 ] && [ ! -e result ] || failed "status $status, though $1"
+        grep -q "$2" messages || failed "no message: $2"
     done
-done
-
-# A sorted file with empty lines is cut between runs by cut_at_keys.sh.
-(yes '' | head -n 99; head -n 1000 right) >sorted
-run "$(block "mkdir runs && cut_at_keys.sh 5 0 runs right &&" | sed 's/ right / sorted /')"
-ptext uniq -c sorted >want
-[ "$status" = 0 ] && cmp -s out want || failed "uniq -c of a sorted file with empty lines"
-rm -r runs
-
-# cut_at_keys.sh is refused, with a message and a status, what it would cut wrongly.
-refused() {
-    run "rm -rf parts; mkdir parts; $1"
-    [ "$status" != 0 ] && [ -s messages ] || failed "cut_at_keys.sh does not refuse: $1"
 }
-head -n 1000 left >sorted
-refused "touch parts/1.000; cut_at_keys.sh 5 0 parts sorted"
-refused "touch parts/.hidden; cut_at_keys.sh 5 0 parts sorted"
-refused "cut_at_keys.sh 5 0 none sorted"
-refused "cut_at_keys.sh 0 0 parts sorted"
-refused "cut_at_keys.sh 1001 0 parts sorted"
-refused "cut_at_keys.sh 5 x parts sorted"
-refused "cut_at_keys.sh 5 0 parts none"
-refused "cut_at_keys.sh 5 0 parts sorted none"
-refused "SEPARATOR= cut_at_keys.sh 5 0 parts sorted"
-refused "SEPARATOR=:: cut_at_keys.sh 5 0 parts sorted"
-refused "sort -r sorted >file; cut_at_keys.sh 5 0 parts file"
-refused "(cat sorted; head -n 1 sorted) >file; cut_at_keys.sh 5 1 parts sorted file"
-refused "seq 100 >file; cut_at_keys.sh 5 1 parts file"
-refused "tr '\n' '\0' <sorted >file; cut_at_keys.sh 5 1 parts file"
-refused "ulimit -f 8; cut_at_keys.sh 2 1 parts sorted"
-# It cuts at the keys of join, with every separator, at a last line without newline, and with many equal keys.
-for separator in ' ' '|' '.' '\' '^' '*' '[' ']' '$' t "$(printf '\t')"; do
-    awk -v by="$(printf '%s' "$separator" | sed 's/\\/&&/')" \
-        'BEGIN { for (n = 0; n < 3000; n++) printf "%s%s%s%05d%s%d\n", n % 7 ? "x" : "", by, n % 3 ? "" : by, n / 3, by, n }' |
-        sort -s -t "$separator" -k 2,2 >one
-    head -c -1 one >two
-    rm -rf parts
-    mkdir parts
-    SEPARATOR=$separator
-    export SEPARATOR
-    run "cut_at_keys.sh 9 2 parts one two && for n in \$(ls parts | sed -n 's/^1[.]//p'); do
-        ptext join -t \"\$SEPARATOR\" -1 2 -2 2 parts/1.\$n parts/2.\$n || exit; done"
-    unset SEPARATOR
-    ptext join -t "$separator" -1 2 -2 2 one two >want || failed "join -t '$separator'"
-    [ "$status" = 0 ] && cmp -s out want && [ "$(find parts -size +0 | wc -l)" -gt 9 ] || failed "SEPARATOR='$separator'"
-done
-
-# Blanks before the first field belong to no field, and names may begin with a dash.
-mkdir names
-(cd names && seq 0 1999 | sort | sed 's/^/      1 /' >-n && seq 0 1999 | sort | sed 's/^/x /' >-)
-run 'cd names && mkdir ./-p && cut_at_keys.sh 5 2 -p -n - && for n in 000 001 002 003 004; do
-    ptext join -1 2 -2 2 ./-p/1.$n ./-p/2.$n || exit; done'
-(cd names && ptext join -1 2 -2 2 ./-n ./- >../want)
-[ "$status" = 0 ] && cmp -s out want && [ "$(find names/-p -type f -size +0 | wc -l)" = 11 ] || failed "blanks before a field"
+(seq 300000 399999 && seq 100000 199999) >disorder
+ptext-parts plan 12 comm disorder disorder >plan
+fails "a file is out of order" "disorder: line .* is out of order"
+ptext-parts plan 12 cut -c 1 disorder >plan
+echo >>disorder
+fails "a file has changed" "disorder: it has changed since it was cut"
+rm disorder
+fails "a file is gone" "disorder: No such file"
+ptext-parts plan 12 cut -c 1- log >plan
+rm -rf parts result
+mkdir parts
+run "ulimit -f 100; ptext-parts run plan 1 parts"
+[ "$status" != 0 ] && [ -z "$(ls -A parts)" ] || failed "a part that has no room is there"
+run "ptext-parts run plan 1 >/dev/full"
+[ "$status" != 0 ] || failed "status 0, though a part was not written"
+(seq 12 | xargs -P 4 -I {} ptext-parts run plan {} parts)
+run "ulimit -f 9000; ptext-parts whole plan parts result"
+[ "$status" != 0 ] && [ "$(ls -A | grep -c result)" = 0 ] || failed "a whole that has no room is there"
+rm "$(ls parts/00007.*)"
+run "ptext-parts whole plan parts result"
+grep -q 'no output of part 7$' messages && [ "$status" != 0 ] && [ ! -e result ] || failed "a part is missing"
+# A part that is killed leaves nothing under its name, and a second run does it.
+mkfifo fifo
+printf '#!/bin/sh\ncat fifo\n' >bin/slow
+chmod +x bin/slow
+PTEXT_PROGRAM=slow ptext-parts run plan 7 parts 2>messages &
+sleep 1
+kill -9 $!
+wait $! 2>/dev/null
+: >fifo
+run "ptext-parts whole plan parts result"
+[ "$status" != 0 ] || failed "a part that was killed is there"
+run "ptext-parts run plan 7 parts && ptext-parts whole plan parts result"
+ptext cut -c 1- log >want
+cmp -s result want || failed "a part was killed, and run again"
 
 # As Hadoop streaming and Spark do: splits that end after lines go to mappers, or partitions to `pipe`. The results in
 # the order of the splits are the result of the whole.
@@ -263,11 +226,6 @@ run 'for n in 0 1 2; do ptext comm -12 reducers/left.$n reducers/right.$n; done 
 ptext comm -12 left.part right.part | sort >want
 cmp -s out want || failed "comm of two inputs that were distributed alike"
 
-# Without -s `tr` may be cut anywhere.
-run "parallel --pipepart -k --block 3M --recend '' -a log 'ptext tr -d a-z'"
-ptext tr -d a-z <log >want
-cmp -s out want || failed "tr -d, cut inside lines"
-
 # hosts: makes host1 and host2, an sshd in a network namespace each; fails if that cannot be done here
 hosts() {
     sshd=$(PATH=$PATH:/usr/sbin:/sbin command -v sshd) && [ "$(id -u)" = 0 ] || return 1
@@ -285,7 +243,7 @@ hosts() {
         ip -n "$space" addr add "$net.2/30" dev eth0 && ip -n "$space" link set eth0 up || return 1
         printf '%s\n' "ListenAddress $net.2" "HostKey $room/hostkey" "AuthorizedKeysFile $room/key.pub" "PidFile none" \
             "StrictModes no" "PermitRootLogin yes" "MaxStartups 100" "MaxSessions 100" \
-            "SetEnv PATH=$room/bin:/usr/bin:/bin" >"sshd.$n"
+            "SetEnv PATH=$room/bin:$(dirname "$(command -v python3)"):/usr/bin:/bin" >"sshd.$n"
         ip netns exec "$space" "$sshd" -D -f "$room/sshd.$n" 2>"sshd.$n.said" &
         servers="$servers $!"
         printf '%s\n' "Host host$n" "HostName $net.2" "User root" "IdentityFile $room/key" "IdentitiesOnly yes" \
@@ -305,10 +263,10 @@ hosts() {
 
 over="parallel -S host1,host2"
 there="$over --pipepart -k --halt now,fail=1 --block 20M -a log 'ptext cut -d \" \" -f 1,3' | cat"
-shared="mkdir shared && cut_at_keys.sh 5 1 shared left right &&"
+shared="seq 12 | parallel -S host1,host2 --workdir \"\$PWD\" -k --halt soon,fail=1 ptext-parts run plan {} | cat"
 if hosts; then
     both "$there" "ptext cut -d ' ' -f 1,3 log" 20M
-    both "$shared" "ptext join left right" one
+    each "$shared" out
     run "seq 40 | $over -k --halt now,fail=1 'echo \$SSH_CONNECTION {} | cut -d \" \" -f 3' | sort | uniq -c | wc -l"
     [ "$(cat out)" = 2 ] || failed "the parts did not go to both hosts: $(cat out)"
     # A host that is gone is a part that fails.

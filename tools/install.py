@@ -1,8 +1,8 @@
 #!/usr/bin/env python3
-"""Installs the built program, its pages, its completion and cut_at_keys.sh, or the library for C, and removes exactly
-what was installed.
+"""Installs the built program, ptext-parts, their pages and completion, or the library for C, and removes exactly what
+was installed.
 
-  python3 tools/install.py install PREFIX [DESTDIR] [NAME=VALUE..]     the program, its pages, completion and script
+  python3 tools/install.py install PREFIX [DESTDIR] [NAME=VALUE..]     the programs, their pages and completion
   python3 tools/install.py tools PREFIX [DESTDIR] [NAME=VALUE..]       each tool by its own name, page and completion
   python3 tools/install.py library PREFIX [DESTDIR] [NAME=VALUE..]     the library for C, its header and its page
   python3 tools/install.py uninstall PREFIX [DESTDIR] [NAME=VALUE..]   all of it, and the folders that were made for it
@@ -34,9 +34,11 @@ import manual
 from names import NAMES
 from project import TOP, Failed, read_version, run_script
 
+# The program that runs parts, which needs Python, and is the module of the library too.
+PARTS = "python/ptext/parts.py"
 # Each file below datadir, its mode, and its source.
 OTHERS = [
-    ("ptext/cut_at_keys.sh", 0o755, "tools/cut_at_keys.sh"),
+    ("ptext/ptext-slurm.sh", 0o755, "tools/ptext-slurm.sh"),
     ("bash-completion/completions/ptext", 0o644, "completion/ptext"),
     ("zsh/site-functions/_ptext", 0o644, "completion/_ptext"),
     ("fish/vendor_completions.d/ptext.fish", 0o644, "completion/ptext.fish"),
@@ -245,6 +247,7 @@ def list_files(where, commit=None, program=DYNAMIC):
     pages = list_pages()
     return [
         (f"{where['bindir']}/ptext", 0o755, strip_program(program)),
+        (f"{where['bindir']}/ptext-parts", 0o755, read_bytes(f"{TOP}/{PARTS}")),
         *((f"{where['mandir']}/man{name[-1]}/{name}", 0o644, make_page(name, commit)) for name in pages),
         *((f"{where['datadir']}/{name}", mode, read_bytes(f"{TOP}/{source}")) for name, mode, source in OTHERS),
     ]
@@ -321,8 +324,8 @@ def install(place):
     license_at = f", with the license of its C library in {datadir}/ptext/NOTICES" if place.program == STATIC else ""
     print(
         f"installed in {place.root}: {describe_folder(place, 'bindir')}/ptext "
-        f"(of {os.path.relpath(place.program, TOP)}{license_at}), {len(list_pages())} pages in "
-        f"{describe_folder(place, 'mandir')}, completion for bash, zsh and fish, {datadir}/ptext/cut_at_keys.sh"
+        f"(of {os.path.relpath(place.program, TOP)}{license_at}) and ptext-parts, {len(list_pages())} pages in "
+        f"{describe_folder(place, 'mandir')}, completion for bash, zsh and fish, {datadir}/ptext/ptext-slurm.sh"
     )
 
 
