@@ -77,9 +77,8 @@ each 2 "a\tb:a\tc:$long\n" paste -s -d : -
 each 4 "a\t1\na\t2\nb\t3\n" comm -12 second second
 each 6 "a b 1\na b 2\na c 1\na c 2\n" join - second
 
-# The most bytes that a run has at a time, over short lines, over one line of a megabyte, and over a thousand lines of
-# one key. (No contract bounds the capacity of a buffer.)
-# most BYTES INPUT WORDS..: the run needs no more
+# The most bytes that a run has at a time. No contract bounds the capacity of a buffer.
+# most BYTES FILE WORDS..: with this file as standard input, the run needs no more
 most() {
     limit=$1 from=$2
     shift 2
@@ -88,27 +87,54 @@ most() {
     [ "$(cat peak)" -le "$limit" ] || wrong "$* <$from: $(cat peak) bytes at a time, wanted at most $limit"
 }
 
-seq -f '%07.0f abcd' 8000 >short
-{ head -c 1000000 /dev/zero | tr '\0' x; echo; } >long
+# keeps LINES INPUTS FILE WORDS..: the run needs no more than it may for so many lines of `size` bytes. A buffer has
+# room for at most twice its line, and while the last one is moved, its old room is still there. Each input has a block
+# of 8 KiB. The rest is for words, lists and empty slots.
+keeps() {
+    limit=$((($1 * 2 + ($1 > 0)) * size + $2 * 9000 + 3000))
+    shift 2
+    most "$limit" "$@"
+}
+
+# lines KEYS: a line of `size` bytes for each of these keys
+lines() {
+    text=$(head -c $((size - 2)) /dev/zero | tr '\0' x)
+    for key; do
+        echo "$key $text"
+    done
+}
+
+# So many lines are the bound of the bytes in the store that the definitions name. For the longest ones a buffer that
+# doubles has the most to spare, since 530,000 is a little more than 64 times 8 KiB.
+for size in 12 100 2000 8000 20000 530000; do
+    lines a b c d e f >once
+    lines a a b b c c d d e e f f >twice
+    keeps 0 1 twice cut -b 2-
+    keeps 0 1 twice tr x y
+    keeps 0 1 twice tr -ds ' ' x
+    keeps 0 1 twice paste -s -
+    keeps 0 2 twice paste -s - once
+    keeps 1 1 twice cut -d ' ' -f 2
+    keeps 2 1 twice uniq -c
+    keeps 2 1 twice paste - -
+    keeps 2 2 twice paste - once
+    keeps 4 2 once comm - twice
+    keeps 4 2 once join -v 1 - twice
+    keeps 6 2 once join - twice
+done
+# As many short lines as one likes.
+size=12
+seq -f '%07.0f abcd' 20000 >short
+keeps 1 1 short cut -d 0 -f 2
+keeps 2 1 short uniq -c -f 1
+keeps 2 1 short paste - -
+keeps 2 2 short paste - short
+keeps 4 2 short comm - short
+keeps 6 2 short join -a 1 - short
+# The lines of one key: each has a buffer of 128 bytes, and its place in the list of slots.
 yes 'k some words' | head -n 1000 >keys
-most 16000 short cut -b 1-3
-most 16000 short cut -d 0 -f 2
-most 16000 short tr -s 0-9 a-j
-most 16000 short uniq -c -f 1
-most 20000 short paste - -
-most 20000 short paste -s -
-most 48000 short comm - short
-most 48000 short join -a 1 - short
-most 40000 long cut -b 2-
-most 2000000 long cut -f 1
-most 16000 long tr x y
-most 2000000 long uniq -c
-most 2000000 long paste -
-most 40000 long paste -s -
-most 3500000 long comm - long
-most 3500000 long join - long
 most 300000 keys join - keys
-most 40000 keys uniq -c
+keeps 2 1 keys uniq -c
 
 [ "$bad" = 0 ] || exit 1
 echo "$count runs: each request for memory was refused in turn, and answered as wanted; no run needs too much of it"

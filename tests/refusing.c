@@ -26,6 +26,9 @@ static void *counted(void *made) {
     return made;
 }
 
+// (A block that is mapped would count as whole pages.)
+__attribute__((constructor)) static void prepare(void) { mallopt(M_MMAP_THRESHOLD, 1 << 25); }
+
 __attribute__((destructor)) static void report(void) {
     const char *name = getenv("COUNTED");
     FILE *file = name ? fopen(name, "w") : NULL;
