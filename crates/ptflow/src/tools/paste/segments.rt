@@ -48,14 +48,16 @@ fn has_ended<S: Source, R: Source>(reader: &LineReader<S, R>) -> bool
     reader.at_eof() && reader.buffered().is_empty()
 }
 
-// Checks whether the input of a column has ended.
+// Checks whether the input of one of the first 64 columns has ended. (In a row of hundreds, looking at all of them would
+// take longer than copying a few of them at once saves.)
 pub(crate) fn has_ended_column<S: Source, R: Source>(
     row: RowFormat,
     readers: &[LineReader<S, R>],
 ) -> bool
     requires { BufferedRowsPre (shape_of row) readers.now }
 {
-    for input in row.cells {
+    let first = &row.cells[..row.cells.len().min(64)];
+    for input in first {
         if has_ended(&readers[*input]) {
             return true;
         }
