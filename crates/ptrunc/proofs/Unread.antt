@@ -140,7 +140,7 @@ nothing_is_read words false standard inputs count content are some none =
 
 status_of_tool : (word : List ℕ) (tool : ToolInRun) (names : List (List ℕ)) (at : List ℕ) (w : InputBytes)
     → (spec_of_tool word tool names at).status w ≡ 4 → ⊥
-status_of_tool word (OneByOne t law) names at w is = if_unopened _ is
+status_of_tool word (OneByOne t) names at w is = if_unopened _ is
   where
     if_unopened : (unopened : Bool) → ◌≡◌ {A = ℕ} (if unopened then 1 else 0) 4 → ⊥
     if_unopened true is = absurd (omega (arith, is))
