@@ -37,7 +37,8 @@ SECTIONS = [
     ("Lists", "", "", ["ptlangs.Numbers", "ptlangs.CutLists", "ptlangs.DelimLists", "ptlangs.OutLists"], ""),
     ("Jobs", "A job is the options of a tool as plain values.", "", ["ptlangs.Jobs"], ""),
     ("cut", "", "ptflow.Cuts.cut", ["ptflow.ToolSpec", "ptflow.Cuts"], "ptflow.Cuts.cut_tool"),
-    ("paste", "", "ptflow.Laws.Outputs.paste_output ptflow.PasteText.paste ptflow.PasteText.paste_serial",
+    ("paste", "`paste_output` is no part of the promise. `paste_of_different` proves that it is `paste`, without `-s`.",
+     "ptflow.Laws.Outputs.paste_output ptflow.PasteText.paste ptflow.PasteText.paste_serial",
      ["ptflow.PasteText", "ptflow.PasteCall"],
      "ptflow.PasteCall.paste_engine ptflow.PasteText.paste_serial_tool"),
     ("uniq", "", "ptflow.Uniqs.uniq", ["ptflow.Uniqs"], "ptflow.Uniqs.uniq_tool"),
@@ -73,10 +74,10 @@ much of that it has to write. Of an incomplete line `cut` has to write nothing, 
 adjacent lines with equal **keys**. `comm` and `join` merge two inputs key by key, and write an **entry** a line; the
 **group** of a key is the second input's lines with it. A **disorder** is the first line of an input whose key comes before
 that of the previous line; if both inputs have one, that with the lesser previous key is reported, or the first input's, and
-no entry of a key after that one is written. The **store** keeps lines in numbered **slots**. A tool of one input is five
-things (`ToolSpec`): output, decided output, bounds on the bytes in its slots and on their number, and terminator. Inputs
-have **positions**: 0 is standard input, i + 1 is file i. Operands are read **one after another** (`cut`, `tr`, `paste -s`),
-or **together** (the others). A file that could not be opened is **unopened**.
+no entry of a key after that one is written. The **store** keeps lines in numbered **slots**. A tool of one input is six
+things (`ToolSpec`): output, decided output, bounds on the bytes in its slots and on their number, terminator, and whether
+it has none (`tr`). Inputs have **positions**: 0 is standard input, i + 1 is file i. Operands are read **one after another**
+(`cut`, `tr`, `paste -s`), or **together** (the others). A file that could not be opened is **unopened**.
 
 `make definitions` has the prover compute them on random commands, and compares the results with the tools of the system
 (where POSIX decides) and with a model in Python. The table counts lines without comments: those of a part, and those of

@@ -114,7 +114,7 @@ abbrev pub MayFail : {S R : Type 0} → (S → SourceState) → (R → SourceSta
 MayFail {S} {R} s r = ((x : S) × ((s x).failed ≡ true)) ⊎ ((x : R) × ((r x).failed ≡ true))
 
 -- The files that the words name were opened, in their order, each once, and the command was run over what these calls
--- returned. No other file was opened; none if the words are not valid. `Failing` says that a source may have failed.
+-- returned. No other file was opened; none if the words are not valid. `Failing` says that sources can fail (`MayFail`).
 pub record HasRun (words : List (List ℕ)) (b : Before) (a : After) (Unused Failing : Type 0) : Type 0 where
   pub inputs : List Input
   pub are_new : All IsNewInput inputs
@@ -124,7 +124,7 @@ pub record HasRun (words : List (List ℕ)) (b : Before) (a : After) (Unused Fai
   pub new : List Reader
   pub ran : HasRunOver words (new_readers b.standard inputs) new
       (record b { files = with_opened b.files (input_names (command_to_run words a.out_of_memory)) inputs }) a Unused
-  -- a read has failed only if its source says so
+  -- a read has failed only if sources can fail
   pub failures : (position : ℕ) → HasReadFailed (new_readers b.standard inputs) new position → Failing
 
 -- The main theorem over names: if the bytes of standard input and of the files are known, no read and no write fails,

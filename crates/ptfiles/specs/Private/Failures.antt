@@ -1,9 +1,9 @@
--- What it means that a reader has failed.
+-- When a reader has failed.
 use Rattle.std.specs.Prelude.{◌≡◌, ◌⊎◌, false}
 use Rattle.ptlines.specs.Sources.{SourceState}
 use Rattle.ptlines.specs.Readers.{Reader}
 
--- An opened reader has failed exactly if its source, standard input or a file, says so.
+-- An opened reader has failed exactly if some source says so, of the type of standard input or of that of the files.
 abbrev pub FailedAsSource : {S R : Type 0} → (S → SourceState) → (R → SourceState) → Reader → Type 0
 FailedAsSource {S} {R} s r reader =
     reader.refused ≡ false
