@@ -412,7 +412,7 @@ def make_plan(words: list[str], parts: int, stdin: str | None = None) -> Plan:
     check_words(command)
     names = [stdin if name == "-" else name for name in command.inputs.values()]
     if None in names:
-        raise PartsError(f"{command.tool} reads standard input here: name its file by -i", 2)
+        raise PartsError(f"{command.tool} reads standard input: the file for it has to be given (-i, or stdin)", 2)
     files = [File(os.path.abspath(name), command.terminator) for name in names if name is not None]
     try:
         offsets = cut_files(command, files, parts)
