@@ -188,7 +188,7 @@ def check_failures():
     wrong += fails("comm: wrong number of operands", "plan", "5", "comm", "sorted")
     wrong += fails("parts_of_paste", "plan", "5", "paste", "-s", "sorted")
     wrong += fails("parts_of_tr", "plan", "5", "-i", "sorted", "tr", "-s", "\\n")
-    wrong += fails("name its file by -i", "plan", "5", "uniq")
+    wrong += fails("the file for it has to be given", "plan", "5", "uniq")
     wrong += fails("not a number", "plan", "0", "cut", "-c", "1", "sorted")
     wrong += fails("none: No such file", "plan", "5", "cut", "-c", "1", "none")
     wrong += fails("empty: not a regular file", "plan", "5", "cut", "-c", "1", "empty")
