@@ -16,6 +16,7 @@ use Rattle.ptflow.specs.TrOutput.{tr}
 use Rattle.ptflow.specs.Uniqs.{uniq}
 use Rattle.ptmerge.specs.Calls.Comm.{comm_tool}
 use Rattle.ptmerge.specs.Comm.{comm_output}
+use Rattle.ptmerge.specs.Join.{join_output}
 use Rattle.ptmerge.specs.Calls.Join.{join_tool}
 use Rattle.ptmerge.specs.MergeSpec.{Lines}
 use Rattle.ptmerge.specs.Calls.MergeSpec.{merged_entries}
@@ -127,6 +128,10 @@ swapped_with_tab = refl
 -- Of lines out of order not each distinct line is written.
 sorted_only : comm_output default_comm (codes "b\na\n") (codes "a\n") ≡ codes "\ta\nb\n"
 sorted_only = refl
+
+-- Of lines out of order not each pair is written.
+sorted_pairs_only : join_output default_join (codes "b 1\na 2\n") (codes "a 3\n") ≡ []
+sorted_pairs_only = refl
 
 abbrev joined : Join → Lines → Lines → ℕ
 joined job a b = length (merged_entries (join_tool job) (both a b))
