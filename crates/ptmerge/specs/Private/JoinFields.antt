@@ -48,7 +48,7 @@ pub record IsCanonical (separator : Option ℕ) (number : ℕ) (line : List ℕ)
   pub first : number - 1 ≡ 0
   pub is : with_prefix (output_separator separator) (join_fields separator line) ≡ output_separator separator ∷ line
 
--- The fields of this line of a file are written as they stand in it: there is no output list, and the line is canonical.
+-- The fields of this line of a file are written as they are in it: there is no output list, and the line is canonical.
 pub record IsUnchanged (job : Join) (side : Side) (line : List ℕ) : Type 0 where
   pub list : job.list ≡ None
   pub canonical : IsCanonical job.separator (both job.field1 job.field2 side) line

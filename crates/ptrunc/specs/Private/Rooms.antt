@@ -20,7 +20,7 @@ pub record IsNewKept {A : Type 0} (s : Kept A) : Type 0 where
 abbrev pub filling_bytes : {A : Type 0} → Filling A → List ℕ
 filling_bytes s = take s.room.written s.room.bytes.now ++ s.rest.bytes.items
 
--- The state as a sink. Before the bytes stands the ghost name of the room, a number that no other room has. So a run
+-- The state as a sink. The ghost name of the room, a number that no other room has, comes before the bytes. So a run
 -- that returns a sink to which it has added bytes has returned the one that fills this room.
 abbrev pub filling_state : {A : Type 0} → Filling A → SinkState
 filling_state s = record {

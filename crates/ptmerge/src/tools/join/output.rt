@@ -267,7 +267,7 @@ fn is_canonical(separator: Option<u8>, number: u64, line: &[u8]) -> bool
     number <= 1 && SplitLine::new(separator, line).is_single_spaced()
 }
 
-// Checks whether the fields of a line are written as they stand in it, the join field first: the output lines of a line
+// Checks whether the fields of a line are written as they are in it, the join field first: the output lines of a line
 // of the first input begin with it then. That is the same for all of its pairs.
 #[inline(always)]
 pub(crate) fn is_unchanged<A: Allocator>(job: &JoinJob<A>, side: Side, line: &[u8]) -> bool
