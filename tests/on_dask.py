@@ -173,7 +173,7 @@ def check_failures(client):
     expect_failure("disorder: line 200 is out of order\npart 4 of 5", lambda: list(dask.read(client, words, parts=5)))
     expect_failure("parts_of_paste", lambda: dask.run(client, ["paste", "-s", "log"], "result"))
     expect_failure("cut: unknown option in -q", lambda: dask.run(client, ["cut", "-q", "log"], "result"))
-    expect_failure("name its file", lambda: dask.run(client, ["uniq"], "result"))
+    expect_failure("has to be given", lambda: dask.run(client, ["uniq"], "result"))
     # (A limit on the size of files is like a full disk.)
     client.run(limit_files, 1 << 20)
     expect_failure("cut was ended by signal", lambda: dask.run(client, ["cut", "-c", "1-", "log"], "result"))
