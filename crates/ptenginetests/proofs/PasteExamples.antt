@@ -15,6 +15,7 @@ use Rattle.ptlangs.specs.Jobs.{Paste}
 use Rattle.ptflow.specs.Private.PasteCall.{update_at}
 use Rattle.ptflow.specs.PasteText.{columns, known_rows, rows_text, paste, paste_serial, paste_decided}
 use Rattle.ptflow.specs.PasteText.{paste_serial_decided, paste_size}
+use Rattle.ptlines.specs.declared.sizes.TheConstants.{BLOCK}
 
 abbrev job : List (Option ℕ) → Paste
 job delimiters = record { serial = false; delimiters = delimiters; terminator = 10 }
@@ -88,11 +89,11 @@ letters_free (suc n) = (λ same. absurd (omega (arith, same)), letters_free n)
 
 -- If a first line is empty and the second one is longer than two blocks, the first line was received two blocks
 -- earlier.
-line_received : (n : ℕ) → 16384 ≤ n → (came : Received) → came.bytes ≡ 10 ∷ replicate n 120 → came.eof ≡ false
+line_received : (n : ℕ) → 2 * BLOCK ≤ n → (came : Received) → came.bytes ≡ 10 ∷ replicate n 120 → came.eof ≡ false
     → (b : LaggedInput came) → (b.earlier.eof ≡ false) × (known_lines 10 b.earlier ≡ [] ∷ [])
 line_received n long came is going b = by_end b.earlier.eof refl
   where
-    by_bytes : (bytes last : List ℕ) → 10 ∷ replicate n 120 ≡ bytes ++ last → length last ≤ 16384
+    by_bytes : (bytes last : List ℕ) → 10 ∷ replicate n 120 ≡ bytes ++ last → length last ≤ 2 * BLOCK
         → complete_lines 10 bytes ≡ [] ∷ []
     by_bytes [] last split short = absurd (omega (arith, ap length split, length-replicate {A = ℕ} n 120, long, short))
     by_bytes (x ∷ bytes) last split short =

@@ -6,7 +6,7 @@ use ptfakes::{ChunkedSource, VecSink};
 use ptflow::{FlowFault, cut, paste_serial, tr, uniq};
 use ptlangs::CharPlan;
 use ptlangs::jobs::{CutJob, PasteJob, UniqJob};
-use ptlines::{LineReader, Out, Store};
+use ptlines::{BLOCK, LineReader, Out, Store};
 use std::alloc::Global;
 use std::process::Abort;
 
@@ -72,4 +72,4 @@ pub fn check_run(
 pub const SHORT: &[usize] = &[0, 1, 15, 16, 17, 31, 32, 33, 63, 64, 65];
 
 /// Lengths around that of a block.
-pub const LONG: &[usize] = &[8190, 8191, 8192, 8193];
+pub const LONG: &[usize] = &[BLOCK - 2, BLOCK - 1, BLOCK, BLOCK + 1];

@@ -5,6 +5,7 @@ use crate::asserts::assert_for;
 use crate::one_input::{Case, Job, LONG, NO_FAILURE, SHORT, check_run};
 use ptflow::{FlowFault, translate};
 use ptlangs::{CharPlan, Form, Shifts};
+use ptlines::BLOCK;
 use std::alloc::{AllocError, Global};
 use std::process::Abort;
 
@@ -150,7 +151,7 @@ fn check_images(rt: &impl Abort, plan: &CharPlan, shifts: &Shifts, from: &[u8], 
 fn check_shifts(rt: &impl Abort, alloc: Global, (first, second): (&[u8], &[u8])) {
     let plan = plan_of(rt, (Form::Translate, false, first, Some(second)));
     let shifts = plan.shifts().expect(rt, "at most four stretches");
-    for count in [0, 1, 31, 32, 33, 8191, 8192, 8193] {
+    for count in [0, 1, 31, 32, 33, BLOCK - 1, BLOCK, BLOCK + 1] {
         let from = each_value(alloc, count).expect(rt, "a text");
         let mut to = each_value(alloc, count).expect(rt, "a text");
         check_images(rt, &plan, &shifts, &from, &mut to);

@@ -17,6 +17,7 @@ pub use BufferedRows.*
 use Rattle.ptflow.specs.Calls.PasteCall.{PastePre, PastePost, IsReadable, paste_end}
 use Rattle.ptflow.specs.PasteCall.{paste_engine}
 use Rattle.ptlines.specs.Calls.Engines.{CallPost, CallEnd, AreAllConsistent, inputs_at}
+use Rattle.ptlines.specs.declared.sizes.TheConstants.{BLOCK}
 
 -- Output that was determined two blocks of an input earlier is pushed: without these blocks that input has fewer lines
 -- than one more row takes, so only rows that were already pushed are determined.
@@ -28,7 +29,7 @@ record EarlierPart (end most : ℕ) (came : Received) : Type 0 where
   front : List ℕ
   last : List ℕ
   split : came.bytes ≡ front ++ last
-  short : length last ≤ 16384
+  short : length last ≤ 2 * BLOCK
   few : length (complete_lines end front) < most
 
 complete_few : {end : ℕ} {now new : Reader} {given piece : List ℕ} {ls : Lines} → AreReceivedLines end now given ls
@@ -47,10 +48,10 @@ no_lines end [] none = refl
 no_lines end (b ∷ bytes) none = grind arith
 
 -- Up to a block of the given bytes is left out, and so the end of their last line.
-earlier_lines : {end most : ℕ} (reader : Reader) (given : List ℕ) → length reader.buffered ≤ 8192 → 0 < most
+earlier_lines : {end most : ℕ} (reader : Reader) (given : List ℕ) → length reader.buffered ≤ BLOCK → 0 < most
     → length (lines end given) ≤ most → EarlierPart end most (received_with given reader)
 earlier_lines {end} reader given buffered some few =
-    let k = length given - 8192 in
+    let k = length given - BLOCK in
     let front = take k given in
     let last = drop k given in
     let rest = (line_split end front).piece ++ last in
@@ -320,7 +321,7 @@ module _ {job : Paste} {cells : List ℕ} {old set now : List Reader} {was is : 
     same_end = λ p some. (so_far p).reads.terminator ∙ r.same_end p some;
   }
 
-  now_buffered : (p : ℕ) → 0 < uses_of cells p → length (reader_at now p).buffered ≤ 8192
+  now_buffered : (p : ℕ) → 0 < uses_of cells p → length (reader_at now p).buffered ≤ BLOCK
   now_buffered p some = grind arith
 
   pub invariant_slots : length cells ≤ length store.lines

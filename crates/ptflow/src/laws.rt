@@ -55,7 +55,7 @@ pub fn parts_of_paste()
 {}
 
 /// If no input is named twice, each row that `paste` writes without `-s` has the line of each input with its number.
-/// This function does nothing at run time. Its contract states the theorem.
+/// This function does nothing at run time. Its contract states the law.
 pub fn paste_of_different()
     ensures { PasteOfDifferent }
 {}

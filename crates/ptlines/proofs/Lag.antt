@@ -4,6 +4,7 @@ use proofs.Common.{◌≡◌, ℕ, ◌+◌, ◌≤◌, false, List, ◌++◌, Op
 use proofs.Common.{length-append, append_known, Received, IsPrefix, Output, IsKnownPrefix, PushEffect, rules, usual}
 use Rattle.ptlines.specs.Calls.Lag.{ProcessLag, BufferLag, BoundedLag}
 use proofs.Push.{known_prefix_refl}
+use Rattle.ptlines.specs.declared.sizes.TheConstants.{BLOCK}
 
 unfoldable pub known_length : Option (List ℕ) → ℕ
 known_length None = 0
@@ -12,9 +13,9 @@ known_length (Some bytes) = length bytes
 -- what was written to the sink since `was`, and how much is missing
 buffer_lag_bytes : (was mid is : Option (List ℕ)) (buffered waits bytes : List ℕ) → IsKnownPrefix was mid
     → IsKnownPrefix mid is → append_known mid waits ≡ append_known (append_known was buffered) bytes
-    → length waits ≤ max 8192 (length buffered)
+    → length waits ≤ max BLOCK (length buffered)
     → (written_out : List ℕ) × (is ≡ append_known was written_out)
-    × (length buffered + length bytes ≤ length written_out + max 8192 (length buffered))
+    × (length buffered + length bytes ≤ length written_out + max BLOCK (length buffered))
 unfolding known_length
 buffer_lag_bytes None mid is buffered waits bytes first second all few = (
   buffered ++ bytes,

@@ -7,21 +7,22 @@ use proofs.Common.{ReaderAdvance, rules}
 use Rattle.std.proofs.lemmas.Slice.{between_from_start}
 use Rattle.ptlines.specs.Private.Readers.{RefillPre, RefillPost}
 use Rattle.ptlines.specs.Readers.{reader_of}
+use Rattle.ptlines.specs.declared.sizes.TheConstants.{BLOCK}
 
 module _ {old : Reader} {was : SourceState} (is : SourceState) (block : List ℕ) {buffered : List ℕ} {p : ℕ} (n : ℕ)
     {q : Bool} (q' : Bool) {fault : Option LineFault} {end : ℕ}
     (view : reader_of was buffered p fault q end ≡ old) (pre : RefillPre old) (kept : q' ≡ q) where
-  front : n ≤ 8192 → slice_range block 0 n ≡ take n (take 8192 block)
+  front : n ≤ BLOCK → slice_range block 0 n ≡ take n (take BLOCK block)
   front small = search (rules, between_from_start, take-take)
 
-  pub filled : (new_fault : Option LineFault) → PullOk was is (take 8192 block) n → n ≤ 8192
+  pub filled : (new_fault : Option LineFault) → PullOk was is (take BLOCK block) n → n ≤ BLOCK
       → ReaderAdvance old (reader_of is (slice_range block 0 n) (p + n) new_fault q' end) []
   filled = search (rules, front)
 
-  pub refill_more : PullOk was is (take 8192 block) n → n ≤ 8192 → 0 < n → p + n < 2 ^ 63
+  pub refill_more : PullOk was is (take BLOCK block) n → n ≤ BLOCK → 0 < n → p + n < 2 ^ 63
       → RefillPost old (reader_of is (slice_range block 0 n) (p + n) fault q' end) (Ok true)
   refill_more = grind (arith, filled, front, length-take-le)
 
-  pub refill_long : PullOk was is (take 8192 block) n → n ≤ 8192 → 2 ^ 63 ≤ p + n
+  pub refill_long : PullOk was is (take BLOCK block) n → n ≤ BLOCK → 2 ^ 63 ≤ p + n
       → RefillPost old (reader_of is (slice_range block 0 n) (p + n) (Some Read) q' end) (Err Read)
   refill_long gives small long = (search (rules, filled), inr (long, cc), refl)

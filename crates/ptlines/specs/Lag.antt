@@ -2,11 +2,12 @@
 -- run ends early. `I` identifies the inputs: one input, a side of a merge, or an index.
 use Rattle.std.specs.Prelude.{◌≡◌, ◌≤◌, ℕ, true, List, ◌++◌, length}
 use Rattle.ptlines.specs.Received.{Received}
+use Rattle.ptlines.specs.declared.sizes.TheConstants.{BLOCK}
 
 -- a prefix of what was received of an input, which lacks at most two blocks (16,384 bytes)
 pub record LaggedInput (came : Received) : Type 0 where
   pub earlier : Received
   pub last : List ℕ
   pub split : came.bytes ≡ earlier.bytes ++ last
-  pub short : length last ≤ 16384
+  pub short : length last ≤ 2 * BLOCK
   pub eof : earlier.eof ≡ true → came.eof ≡ true

@@ -11,6 +11,7 @@ fn copy_chunk<const N: usize>(bytes: &[u8], from: usize, into: &mut [u8], at: us
     requires { CopyChunkPre N from bytes.now at into.old }
     ensures long { length into.new ≡ length into.old }
     ensures copied { take (at + N) into.new ≡ take at into.old ++ take N (drop from bytes.now) }
+    ensures rest { drop (at + N) into.new ≡ drop (at + N) into.old }
 {
     Simd::<u8, N>::from_slice(&bytes[from..]).copy_to_slice(&mut into[at..]);
 }
@@ -22,6 +23,7 @@ fn copy_overlapping<const N: usize>(bytes: &[u8], into: &mut [u8], at: usize)
     requires room { at + length bytes.now ≤ length into.old }
     ensures long { length into.new ≡ length into.old }
     ensures copied { take (at + length bytes.now) into.new ≡ take at into.old ++ bytes.now }
+    ensures rest { drop (at + length bytes.now) into.new ≡ drop (at + length bytes.now) into.old }
 {
     let last = bytes.len() - N;
     copy_chunk::<N>(bytes, 0, into, at);
@@ -34,6 +36,7 @@ pub fn copy_all(bytes: &[u8], into: &mut [u8], at: usize)
     requires { at + length bytes.now ≤ length into.old }
     ensures long { length into.new ≡ length into.old }
     ensures copied { take (at + length bytes.now) into.new ≡ take at into.old ++ bytes.now }
+    ensures rest { drop (at + length bytes.now) into.new ≡ drop (at + length bytes.now) into.old }
 {
     match bytes.len() {
         0 => {}
@@ -53,6 +56,7 @@ fn copy_long(bytes: &[u8], into: &mut [u8], at: usize)
     requires { at + length bytes.now ≤ length into.old }
     ensures long { length into.new ≡ length into.old }
     ensures copied { take (at + length bytes.now) into.new ≡ take at into.old ++ bytes.now }
+    ensures rest { drop (at + length bytes.now) into.new ≡ drop (at + length bytes.now) into.old }
 {
     into[at..at + bytes.len()].copy_from_slice(bytes);
 }

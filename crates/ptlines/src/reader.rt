@@ -22,6 +22,7 @@ ghost use Rattle.ptlines.specs.contracts.reader.LineReader.{the_row};
 use crate::find::{Padded64, ShortLine, find_byte, find_in_64};
 use crate::out::{Out, WriteFault};
 use crate::sink::{Failed, Sink};
+use crate::sizes::{BLOCK, PADDED, PaddedBlock};
 use crate::source::{InputSource, Source};
 use crate::store::{LineFault, Store};
 use std::alloc::Allocator;
@@ -43,7 +44,7 @@ pub struct LineReader<S: Source, R: Source> {
     input: InputSource<S, R>,
     // Only `block[start..end]` is input. The 64 bytes after the first 8,192 allow a vector of up to 64 bytes to be
     // loaded from any index of the block.
-    block: [u8; 8256],
+    block: PaddedBlock,
     start: usize,
     end: usize,
     pulled: u64,
@@ -73,14 +74,14 @@ impl<S: Source, R: Source> Model for LineReader<S, R> {
 // Reads into the first 8,192 bytes of a block, and not into the 64 after them. A file that could not be opened fails.
 fn read_block<S: Source, R: Source>(
     input: &mut InputSource<S, R>,
-    block: &mut [u8; 8256],
+    block: &mut PaddedBlock,
 ) -> Result<usize, Failed>
     ensures pulled { PullPost (input_state S.state R.state input.old) (input_state S.state R.state input.new)
-        (take 8192 block.new) result }
+        (take BLOCK block.new) result }
     ensures refused { is_unopened_source input.new ≡ is_unopened_source input.old }
-    ensures few { IfOk result (λ count. count ≤ 8192) }
+    ensures few { IfOk result (λ count. count ≤ BLOCK) }
 {
-    let front = &mut block[..8192];
+    let front = &mut block[..BLOCK];
     match input {
         InputSource::Standard(source) => source.pull(front),
         InputSource::File(source) => source.pull(front),
@@ -95,7 +96,7 @@ impl<S: Source, R: Source> LineReader<S, R> {
     {
         LineReader {
             input,
-            block: [0; 8256],
+            block: [0; PADDED],
             start: 0,
             end: 0,
             pulled: 0,
@@ -396,7 +397,7 @@ impl<S: Source, R: Source> LineReader<S, R> {
         ensures eof { self.now.eof ≡ true → out.new ≡ out.old }
         ensures sound { IsSound self.now }
     {
-        if self.end == 8192 || self.at_eof() {
+        if self.end == BLOCK || self.at_eof() {
             return Ok(());
         }
         self.write_out_unless_line(out)

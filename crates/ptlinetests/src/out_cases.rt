@@ -3,7 +3,7 @@
 use crate::asserts::{holds_of, same, same_of};
 use ptfakes::texts::{is_line, text_of};
 use ptfakes::{ArraySink, VecSink};
-use ptlines::{Out, WriteFault, write_out};
+use ptlines::{BLOCK, Out, WriteFault, write_out};
 use std::alloc::{AllocError, Global};
 use std::process::Abort;
 use std::test::Fail;
@@ -16,15 +16,15 @@ const PUSHES: &[(&[usize], usize, u64)] = &[
     (&[0], 0, 1),
     (&[1], 0, 2),
     (&[3, 0, 4], 0, 2),
-    (&[8191], 0, 2),
-    (&[8192], 0, 2),
-    (&[8193], 8193, 2),
+    (&[BLOCK - 1], 0, 2),
+    (&[BLOCK], 0, 2),
+    (&[BLOCK + 1], BLOCK + 1, 2),
     (&[20000], 20000, 2),
-    (&[8191, 1], 0, 2),
-    (&[8192, 1], 8192, 3),
-    (&[8191, 2], 8191, 3),
-    (&[1, 8192], 8193, 3),
-    (&[4000, 4192, 1], 8192, 3),
+    (&[BLOCK - 1, 1], 0, 2),
+    (&[BLOCK, 1], BLOCK, 3),
+    (&[BLOCK - 1, 2], BLOCK - 1, 3),
+    (&[1, BLOCK], BLOCK + 1, 3),
+    (&[4000, BLOCK - 4000, 1], BLOCK, 3),
     (&[5, 20000, 0, 5], 20005, 4),
     (&[5, 20000, 5], 20005, 4),
     (&[3000, 3000, 3000, 3000, 3000, 3000], 12000, 4),
@@ -98,7 +98,7 @@ fn is_written_at_end(
     text: &[u8],
     (lengths, before, calls): (&[usize], usize, u64),
 ) {
-    for size in [1, 7, 8192, usize::MAX] {
+    for size in [1, 7, BLOCK, usize::MAX] {
         let limits = (size, usize::MAX, u64::MAX);
         let (writes_all, made, flushes, accepted) = written(rt, alloc, text, lengths, limits, true);
         let left = (writes_all, flushes, accepted);
@@ -111,7 +111,7 @@ fn is_written_at_end(
     let (writes_all, _, flushes, accepted) = written(rt, alloc, text, lengths, limits, false);
     let left = (writes_all, flushes, accepted);
     same_of(rt, &lengths, &left, &(true, 0, before));
-    for room in [0, 1, 8191, 8192, 8193, 19999] {
+    for room in [0, 1, BLOCK - 1, BLOCK, BLOCK + 1, 19999] {
         let limits = (3000, room, u64::MAX);
         let (writes_all, _, _, accepted) = written(rt, alloc, text, lengths, limits, true);
         let wanted = (text.len() <= room, text.len().min(room));

@@ -3,7 +3,7 @@
 use crate::asserts::{holds_of, same};
 use ptfakes::VecSink;
 use ptfakes::texts::byte_at;
-use ptlines::{Out, WriteFault};
+use ptlines::{BLOCK, Out, WriteFault};
 use std::alloc::{AllocError, Global};
 use std::process::Abort;
 use std::test::Fail;
@@ -14,11 +14,11 @@ const LENGTHS: [usize; 20] = [
     0, 1, 2, 3, 4, 5, 7, 8, 9, 15, 16, 17, 31, 32, 33, 63, 64, 65, 100, 9000,
 ];
 
-const FRONTS: [usize; 9] = [0, 5, 8100, 8127, 8128, 8180, 8190, 8191, 8192];
+const FRONTS: [usize; 9] = [0, 5, 8100, 8127, 8128, 8180, BLOCK - 2, BLOCK - 1, BLOCK];
 
 // 8,192 bytes and then a line of this length, surrounded by bytes that are not part of it.
 fn text_of(alloc: Global, length: usize) -> Result<Vec<u8>, AllocError> {
-    let mut bytes = vec![in alloc; b'.'; 8192]?;
+    let mut bytes = vec![in alloc; b'.'; BLOCK]?;
     bytes.extend_from_slice(b"\n\t")?;
     for place in 0..length {
         bytes.push(byte_at(place))?;
@@ -85,7 +85,7 @@ fn written_out(rt: &impl Abort, alloc: Global, front: usize) -> Result<usize, Al
 fn a_line_is_buffered_or_not_pushed(rt: HostRuntime) {
     same(&rt, &written_out(&rt, rt.alloc(), 8186), &Ok(0));
     // The tab and the line are buffered before the terminator, which does not fit, is pushed.
-    same(&rt, &written_out(&rt, rt.alloc(), 8187), &Ok(8192));
+    same(&rt, &written_out(&rt, rt.alloc(), 8187), &Ok(BLOCK));
     // After a failed write nothing is pushed.
     let mut out = Out::new(VecSink::limited(rt.alloc(), 3, 4, u64::MAX));
     let fault = Err(WriteFault::Write);

@@ -4,7 +4,7 @@ use crate::asserts::{holds_of, same, same_of};
 use crate::reader_steps::{Input, Reader, SIZES, current, ends, next, reader_of, shows};
 use ptfakes::texts::{is_line, line_lengths, text_of};
 use ptfakes::{FailingAlloc, RepeatedByte};
-use ptlines::{LineFault, LineReader, Store};
+use ptlines::{BLOCK, LineFault, LineReader, Store};
 use std::alloc::{AllocError, Global};
 use std::cell::Cell;
 use std::process::Abort;
@@ -14,18 +14,18 @@ const LENGTHS: &[&[usize]] = &[
     &[],
     &[0],
     &[1],
-    &[8191],
-    &[8192],
-    &[8193],
+    &[BLOCK - 1],
+    &[BLOCK],
+    &[BLOCK + 1],
     &[20000],
     &[0, 0, 0],
-    &[0, 1, 8191, 8192, 8193, 20000],
-    &[20000, 8193, 8192, 8191, 1, 0],
+    &[0, 1, BLOCK - 1, BLOCK, BLOCK + 1, 20000],
+    &[20000, BLOCK + 1, BLOCK, BLOCK - 1, 1, 0],
 ];
 
 // The number of reads of a text in chunks of this size: one for each chunk, and one for the end of input.
 fn pulls_of(text: &[u8], size: usize) -> u64 {
-    (text.len().div_ceil(size.clamp(1, 8192)) as u64).saturating_add(1)
+    (text.len().div_ceil(size.clamp(1, BLOCK)) as u64).saturating_add(1)
 }
 
 // Reads the lines of a text in chunks of this size, and then twice the end of input.
@@ -112,7 +112,7 @@ fn pass_all(
         if count == 0 {
             break;
         }
-        assert!(rt; length <= 8192 && count <= left.len());
+        assert!(rt; length <= BLOCK && count <= left.len());
         left = &left[count..];
     }
     assert!(rt; left.is_empty());
@@ -148,7 +148,7 @@ fn shows_line(rt: &impl Abort, alloc: Global, length: usize) -> Result<(), Alloc
 
 #[test]
 fn blocks_in_pieces(rt: HostRuntime) -> Result<(), Fail> {
-    for length in [0, 1, 8191, 8192, 8193, 20000] {
+    for length in [0, 1, BLOCK - 1, BLOCK, BLOCK + 1, 20000] {
         shows_line(&rt, rt.alloc(), length)?;
     }
     Ok(())

@@ -22,6 +22,7 @@ use specs.Files.{opened_inputs, opened_values}
 use specs.Operands.{maximum}
 use Rattle.std.proofs.Math.ListN.{get_or-map as get_or-map_any}
 use specs.Lag.{BoundedLagAs, HasBoundedLag, IsWrittenUpToBlock, LagOfAny, LagOfLast}
+use Rattle.ptlines.specs.declared.sizes.TheConstants.{BLOCK}
 
 pub some_same : {X : Type 0} {a b : X} → Some a ≡ Some b → a ≡ b
 some_same same = cc
@@ -368,11 +369,11 @@ module _ (bytes : List ℕ) (was is is' : Output) (pushed front rest : List ℕ)
     (empty : was.buffered ≡ []) (split : pushed ≡ front ++ rest)
     (accepted : is'.accepted ≡ append_known was.accepted front) (kept : IsKnownPrefix is.accepted is'.accepted)
     (unknown : was.accepted ≡ None → rest ≡ []) where
-  few : length (drop (length front) bytes) ≤ 8192
+  few : length (drop (length front) bytes) ≤ BLOCK
   unfolding known_length
   few = by_known was.accepted refl
     where
-      by_known : (known : Option (List ℕ)) → was.accepted ≡ known → length (drop (length front) bytes) ≤ 8192
+      by_known : (known : Option (List ℕ)) → was.accepted ≡ known → length (drop (length front) bytes) ≤ BLOCK
       by_known None none =
           grind (
             usual,

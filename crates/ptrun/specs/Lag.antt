@@ -9,6 +9,7 @@ use Rattle.ptlines.specs.Received.{IsPrefix, Received, empty_input}
 use Rattle.ptrun.specs.CommandSpec.{CommandSpec}
 use Rattle.ptrun.specs.Files.{ReceivedInputs, at, opened_inputs}
 use Rattle.ptrun.specs.Operands.{decided_in_order}
+use Rattle.ptlines.specs.declared.sizes.TheConstants.{BLOCK}
 
 -- `bytes` were written: all of them, or after a failed write all except at most one block (8,192 bytes).
 pub record IsWrittenUpToBlock (bytes written : List ℕ) (failed : Bool) : Type 0 where
@@ -16,7 +17,7 @@ pub record IsWrittenUpToBlock (bytes written : List ℕ) (failed : Bool) : Type 
   pub lost : List ℕ
   pub split : bytes ≡ front ++ lost
   pub begins : IsPrefix front written
-  pub few : length lost ≤ 8192
+  pub few : length lost ≤ BLOCK
   pub none : failed ≡ false → lost ≡ []
 
 -- The received parts of the first `n` operands and of the next one, in order.

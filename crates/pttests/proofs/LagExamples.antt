@@ -12,6 +12,7 @@ use Rattle.ptrun.specs.Operands.{up_to_unended}
 use Rattle.ptrun.specs.Lag.{IsWrittenUpToBlock, LagOfLast, HasBoundedLag}
 use Rattle.ptrun.specs.Joint.{one_input_tool, joint_spec}
 use Rattle.ptrun.specs.SpecOfArgs.{spec_of_args}
+use Rattle.ptlines.specs.declared.sizes.TheConstants.{BLOCK}
 
 abbrev complete : List ℕ → Received
 complete bytes = record { bytes = bytes; eof = true }
@@ -26,7 +27,7 @@ first_complete bytes = Some nothing ∷ Some (complete bytes) ∷ Some nothing �
 -- within the bound, the first part of the decided output is at most a block longer than the written output, and no
 -- longer if no write failed
 first_written : (first later written : List ℕ) (failed : Bool) → IsWrittenUpToBlock (first ++ later) written failed
-    → (length first ≤ length written + 8192) × (failed ≡ false → length first ≤ length written)
+    → (length first ≤ length written + BLOCK) × (failed ≡ false → length first ≤ length written)
 first_written first later written failed k =
     let all : length first + length later ≡ length k.front + length k.lost =
     omega (arith, ap length k.split, length-append first later, length-append k.front k.lost) in
@@ -36,7 +37,7 @@ first_written first later written failed k =
 
 written_of_the_first : (t : ToolSpec) (bytes written : List ℕ) (failed : Bool)
     → LagOfLast t (complete bytes ∷ nothing ∷ []) (λ decided. IsWrittenUpToBlock decided written failed)
-    → (length (t.decided (complete bytes)) ≤ length written + 8192)
+    → (length (t.decided (complete bytes)) ≤ length written + BLOCK)
     × (failed ≡ false → length (t.decided (complete bytes)) ≤ length written)
 written_of_the_first t bytes written failed k =
     let kept = k (complete bytes ∷ []) nothing refl in
@@ -63,7 +64,7 @@ nothing_of_a_small_file k =
 
 -- A write failed, and more than a block is missing of the output that the first file decided.
 more_than_a_block_is_lost : (t : ToolSpec) (bytes written : List ℕ)
-    → length written + 8192 < length (t.decided (complete bytes))
+    → length written + BLOCK < length (t.decided (complete bytes))
     → LagOfLast t (complete bytes ∷ nothing ∷ []) (λ decided. IsWrittenUpToBlock decided written true) → ⊥
 more_than_a_block_is_lost t bytes written too_much k =
     omega (arith, (written_of_the_first t bytes written true k).0, too_much)

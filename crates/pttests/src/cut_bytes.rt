@@ -7,6 +7,7 @@ use crate::harness::{
     expect_long, expect_write_failures,
 };
 use ptfakes::texts::{byte_at, text_of, text_with};
+use ptlines::BLOCK;
 use std::alloc::{AllocError, Global};
 use std::process::Abort;
 use std::test::Fail;
@@ -104,7 +105,7 @@ fn an_unopened_file_is_reported_in_order(rt: HostRuntime) -> Result<(), Fail> {
 // terminator.
 const TERMINATORS: &[(u8, u8, [&str; 2])] = &[(b'\n', 0, ["-c", "-b"]), (0, b'\n', ["-zc", "-zb"])];
 
-const LENGTHS: &[usize] = &[0, 1, 8191, 8192, 8193, 20000];
+const LENGTHS: &[usize] = &[0, 1, BLOCK - 1, BLOCK, BLOCK + 1, 20000];
 
 // Three lines, the last without a terminator: `cut` adds it, unless the line is empty.
 fn cut_across_blocks(
@@ -114,7 +115,7 @@ fn cut_across_blocks(
     (terminator, other, [option, _]): (u8, u8, [&str; 2]),
 ) -> Result<(), Fail> {
     let text = text_with(alloc, &[length, 3, length], terminator, false, other)?;
-    let short = length.min(8192);
+    let short = length.min(BLOCK);
     let cut = text_with(alloc, &[short, 3, short], terminator, length > 0, other)?;
     let words = ["cut", option, "1-8000,8000-8192"];
     expect_long(rt, alloc, &words, (length, &text), &cut, 0)

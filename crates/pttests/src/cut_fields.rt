@@ -5,6 +5,7 @@ use crate::harness::{
     Case, DEFAULT, Example, GrowthFailures, PIECE_SIZES, WriteFailures, expect_examples,
     expect_growth_failures, expect_long, expect_write_failures,
 };
+use ptlines::BLOCK;
 use std::alloc::Global;
 use std::process::Abort;
 use std::test::Fail;
@@ -149,7 +150,18 @@ fn cut_across_blocks(
 // The terminator, the other byte as data, and the option that asks for this terminator.
 const TERMINATORS: &[(u8, u8, &str)] = &[(b'\n', 0, "-f"), (0, b'\n', "-zf")];
 
-const LENGTHS: &[usize] = &[0, 1, 8188, 8189, 8190, 8191, 8192, 8193, 19998, 20000];
+const LENGTHS: &[usize] = &[
+    0,
+    1,
+    BLOCK - 4,
+    BLOCK - 3,
+    BLOCK - 2,
+    BLOCK - 1,
+    BLOCK,
+    BLOCK + 1,
+    19998,
+    20000,
+];
 
 #[test]
 fn fields_across_blocks(rt: HostRuntime) -> Result<(), Fail> {

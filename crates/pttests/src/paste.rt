@@ -7,6 +7,7 @@ use crate::harness::{
     expect_unopened, expect_write_failures,
 };
 use ptfakes::texts::text_of;
+use ptlines::BLOCK;
 use std::alloc::Global;
 use std::process::Abort;
 use std::test::Fail;
@@ -110,7 +111,7 @@ const LONG: &[(&[&str], u8, u128)] = &[
     (&["paste", "-sz", "-"], 0, 0),
 ];
 
-const LENGTHS: &[usize] = &[0, 1, 8190, 8191, 8192, 8193, 20000];
+const LENGTHS: &[usize] = &[0, 1, BLOCK - 2, BLOCK - 1, BLOCK, BLOCK + 1, 20000];
 
 // Two lines of this length in one row.
 fn expect_across(

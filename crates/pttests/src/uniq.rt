@@ -6,6 +6,7 @@ use crate::harness::{
     WriteFailures, expect_cases, expect_examples, expect_growth_failures, expect_long,
     expect_write_failures,
 };
+use ptlines::BLOCK;
 use std::alloc::Global;
 use std::process::Abort;
 use std::test::Fail;
@@ -268,7 +269,7 @@ fn two_equal_lines(alloc: Global, length: usize) -> Result<Vec<u8>, Fail> {
     Ok(text)
 }
 
-const LENGTHS: &[usize] = &[0, 1, 8190, 8191, 8192, 8193, 20000];
+const LENGTHS: &[usize] = &[0, 1, BLOCK - 2, BLOCK - 1, BLOCK, BLOCK + 1, 20000];
 
 // At most two lines are held.
 fn expect_one(rt: &impl Abort, alloc: Global, length: usize) -> Result<(), Fail> {

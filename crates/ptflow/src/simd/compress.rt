@@ -6,11 +6,9 @@ ghost use Rattle.std.specs.Prelude.{◌≡◌, ◌≤◌, ◌+◌, ◌++◌, ℕ
 ghost use Rattle.std.specs.Simd.Lanes.{mask_l, chunk};
 ghost use Rattle.ptflow.specs.Private.Vectors.Compress.{ChunkPre, IsCompressTable, IsCompressRow, select_by};
 
+use ptlines::PaddedBlock;
 use std::array;
 use std::simd::prelude::*;
-
-/// Room for the selected bytes of a block, even if a whole vector is stored after the last of them.
-pub(crate) type OutBuf = [u8; 8224];
 
 // For each mask of eight flags, the indices of those that are set, in order.
 #[derive(Clone, Copy)]
@@ -44,8 +42,8 @@ impl CompressTable {
     // Appends to the first `at` bytes of `into` the bytes of those of the first eight lanes of `v` whose bit in `keep`
     // is set. Returns the new count.
     #[inline(always)]
-    fn compress8(&self, v: u8x16, keep: u8, into: &mut OutBuf, at: usize) -> usize
-        requires { at ≤ 8208 }
+    fn compress8(&self, v: u8x16, keep: u8, into: &mut PaddedBlock, at: usize) -> usize
+        requires { at + 16 ≤ PADDED }
         ensures packed { (flags : List Bool) → length flags ≡ 8 → keep ≡ mask_l flags
             → take result into.new ≡ take at into.old ++ select_by flags v }
         ensures end { (at ≤ result) × (result ≤ at + 8) }
@@ -59,7 +57,7 @@ impl CompressTable {
     // Appends to the first `at` bytes of `into` the bytes of those lanes of `v` whose bit in `keep` is set. Returns the
     // new count. The bytes of `into` after these may change.
     #[inline(always)]
-    pub(crate) fn compress16(&self, v: u8x16, keep: u64, into: &mut OutBuf, at: usize) -> usize
+    pub(crate) fn compress16(&self, v: u8x16, keep: u64, into: &mut PaddedBlock, at: usize) -> usize
         requires { at ≤ 8200 }
         ensures packed { (flags : List Bool) → length flags ≡ 16 → keep ≡ mask_l flags
             → take result into.new ≡ take at into.old ++ select_by flags v }
@@ -73,7 +71,7 @@ impl CompressTable {
 
 // Appends the 64 bytes at index `at` to the first `count` bytes of `into`. Returns the new count.
 #[inline(always)]
-pub(crate) fn copy_chunk(from: &[u8], at: usize, into: &mut OutBuf, count: usize) -> usize
+pub(crate) fn copy_chunk(from: &[u8], at: usize, into: &mut PaddedBlock, count: usize) -> usize
     requires { ChunkPre from.now at count }
     ensures copied { take result into.new ≡ take count into.old ++ chunk at 64 from.now }
     ensures end { result ≡ count + 64 }

@@ -7,7 +7,8 @@ ghost use Rattle.ptflow.specs.Private.Vectors.Compress.{ChunkPre};
 ghost use Rattle.ptflow.specs.Private.Tr.TrFrom.{squeeze_from};
 
 use crate::simd::byte_set::ByteSet;
-use crate::simd::compress::{CompressTable, OutBuf, copy_chunk};
+use crate::simd::compress::{CompressTable, copy_chunk};
+use ptlines::{BLOCK, PaddedBlock};
 use std::simd::prelude::*;
 
 /// The set of the bytes that may be removed, and the table for compression.
@@ -54,7 +55,7 @@ impl Pairs<'_> {
 // Appends those of the 64 bytes at index `at` that are kept. Returns the new count. If no byte is equal to the one that
 // it is compared with, which is tested first for the sake of squeezing, or all are kept, the chunk is copied whole.
 #[inline(always)]
-fn filter64(by: Filter, pairs: Pairs, at: usize, into: &mut OutBuf, count: usize) -> usize
+fn filter64(by: Filter, pairs: Pairs, at: usize, into: &mut PaddedBlock, count: usize) -> usize
     requires { ChunkPre pairs.bytes.now at count }
     ensures kept { take result into.new
         ≡ take count into.old
@@ -84,7 +85,13 @@ fn filter64(by: Filter, pairs: Pairs, at: usize, into: &mut OutBuf, count: usize
 }
 
 // Appends the bytes from index `start` on that are kept, one by one. Returns the new count.
-fn filter_tail(by: Filter, pairs: Pairs, start: usize, into: &mut OutBuf, count: usize) -> usize
+fn filter_tail(
+    by: Filter,
+    pairs: Pairs,
+    start: usize,
+    into: &mut PaddedBlock,
+    count: usize,
+) -> usize
     requires { FilterPre pairs.bytes.now start count }
     ensures kept { take result into.new
         ≡ take count into.old
@@ -104,7 +111,7 @@ fn filter_tail(by: Filter, pairs: Pairs, start: usize, into: &mut OutBuf, count:
 // Appends the bytes that are kept, 64 at a time. Returns the new count. (It is inlined, since bytes that are compared
 // with themselves need no comparison.)
 #[inline(always)]
-fn filter_pairs(by: Filter, pairs: Pairs, into: &mut OutBuf, count: usize) -> usize
+fn filter_pairs(by: Filter, pairs: Pairs, into: &mut PaddedBlock, count: usize) -> usize
     requires { FilterPre pairs.bytes.now 0 count }
     ensures kept { take result into.new
         ≡ take count into.old ++ kept_bytes (set_has by.entry.set) pairs.entry.before.now pairs.entry.bytes.now }
@@ -120,8 +127,8 @@ fn filter_pairs(by: Filter, pairs: Pairs, into: &mut OutBuf, count: usize) -> us
 }
 
 /// Copies the bytes that are not in the set to the front of `into`, and returns them.
-pub(crate) fn remove<'b>(by: Filter, from: &[u8], into: &'b mut OutBuf) -> &'b [u8]
-    requires { length from.now ≤ 8192 }
+pub(crate) fn remove<'b>(by: Filter, from: &[u8], into: &'b mut PaddedBlock) -> &'b [u8]
+    requires { length from.now ≤ BLOCK }
     ensures kept { result.now ≡ filter (λ b. not (set_has by.entry.set b)) from.now }
     ensures within { length result.now ≤ length from.now }
 {
@@ -139,9 +146,9 @@ pub(crate) fn squeeze<'b>(
     by: Filter,
     last: Option<u8>,
     from: &'b [u8],
-    into: &'b mut OutBuf,
+    into: &'b mut PaddedBlock,
 ) -> &'b [u8]
-    requires { length from.now ≤ 8192 }
+    requires { length from.now ≤ BLOCK }
     ensures { result.now ≡ squeeze_from (set_has by.entry.set) last from.now }
 {
     if from.is_empty() {

@@ -188,16 +188,13 @@ pub(crate) fn find_by_mask(byte: u8, bytes: &[u8]) -> Option<usize>
     ByteMatches::new(byte, bytes).first()
 }
 
-// Finds a byte that is not among the first 16, if there are 64 or more. Out of line, so that a near match is found
-// without a call.
+// Finds a byte that is not among the first 16. Out of line, so that a near match is found without a call.
 #[inline(never)]
 fn find_far(byte: u8, bytes: &[u8]) -> Option<usize>
-    requires { 64 ≤ length bytes.now → Nowhere (Passes (is_byte byte) bytes.now) 0 16 }
+    requires none { Nowhere (Passes (is_byte byte) bytes.now) 0 16 }
+    requires long { 64 ≤ length bytes.now }
     ensures { IsFirstByte (is_byte byte) bytes.now result }
 {
-    if bytes.len() < 64 {
-        return find_byte(byte, bytes);
-    }
     if let Some(at) = find_in_chunk::<32>(byte, bytes, 16) {
         return Some(at);
     }
@@ -214,9 +211,10 @@ fn find_far(byte: u8, bytes: &[u8]) -> Option<usize>
 pub(crate) fn find_line_end(byte: u8, bytes: &[u8]) -> Option<usize>
     ensures { IsFirstByte (is_byte byte) bytes.now result }
 {
-    if bytes.len() >= 64
-        && let Some(at) = find_in_chunk::<16>(byte, bytes, 0)
-    {
+    if bytes.len() < 64 {
+        return find_byte(byte, bytes);
+    }
+    if let Some(at) = find_in_chunk::<16>(byte, bytes, 0) {
         return Some(at);
     }
     find_far(byte, bytes)

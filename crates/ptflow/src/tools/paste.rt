@@ -20,10 +20,10 @@ mod shared_input;
 use crate::faults::FlowFault;
 use crate::slots::ensure_slots;
 use crate::tools::paste::buffered_rows::{copy_columns, copy_rows, copy_slot, move_to_front};
-use crate::tools::paste::row::{BegunRow, OutBuf, RowFormat};
+use crate::tools::paste::row::{BegunRow, RowFormat};
 use crate::tools::paste::shared_input::{shared_cycle, write_shared_rows};
 use ptlangs::jobs::PasteJob;
-use ptlines::{LineFault, LineReader, Out, Sink, Source, Store, WriteFault};
+use ptlines::{LineFault, LineReader, Out, PADDED, PaddedBlock, Sink, Source, Store, WriteFault};
 use std::alloc::Allocator;
 
 // The rows of a job, whose columns read the inputs with these indices.
@@ -82,7 +82,7 @@ fn fill_row<A: Allocator + Copy, S: Source, R: Source, W: Sink>(
     row: RowFormat,
     begun: BegunRow,
     readers: &mut [LineReader<S, R>],
-    into: &mut OutBuf,
+    into: &mut PaddedBlock,
     store: &mut Store<A>,
     out: &mut Out<W>,
 ) -> Result<BegunRow, FlowFault>
@@ -135,7 +135,7 @@ fn write_slot<A: Allocator + Copy, W: Sink>(
 fn write_row<A: Allocator + Copy, W: Sink>(
     row: RowFormat,
     begun: BegunRow,
-    into: &OutBuf,
+    into: &PaddedBlock,
     store: &Store<A>,
     out: &mut Out<W>,
 ) -> Result<(), WriteFault>
@@ -202,7 +202,7 @@ pub fn paste<A: Allocator + Copy, B: Allocator + Copy, S: Source, R: Source, W: 
     ensure_slots(store, cells.len())?;
     let row = row_format(job, cells);
     let cycle = shared_cycle(row);
-    let mut buffer = [0; 8208];
+    let mut buffer = [0; PADDED];
     'rows: loop {
         write_shared_rows(&cycle, row, readers, &mut buffer, out)?;
         let copied = copy_rows(row, readers, &mut buffer);

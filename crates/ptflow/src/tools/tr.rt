@@ -14,12 +14,12 @@ mod map_kind;
 use crate::block_loop::{BlockFilter, run_blocks};
 use crate::faults::FlowFault;
 use crate::simd::byte_set::ByteSet;
-use crate::simd::compress::{CompressTable, OutBuf};
+use crate::simd::compress::CompressTable;
 use crate::simd::filter::{Filter, remove, squeeze};
 use crate::simd::shift::{map_bytes, translate};
 use crate::tools::tr::map_kind::MapKind;
 use ptlangs::CharPlan;
-use ptlines::{LineReader, Out, Sink, Source, WriteFault};
+use ptlines::{BLOCK, LineReader, Out, PADDED, PaddedBlock, Sink, Source, WriteFault};
 
 /// A plan, with the tables of its passes: the deleted set, the byte map, the squeezed set, and the table for
 /// compression. A pass that would change nothing is left out.
@@ -60,8 +60,8 @@ impl<'a> Translation<'a> {
 
     // The bytes of `block` that are not deleted, in `into`.
     #[tactic(auto, using(crate::proofs::Vectors::Lanes::filter_same, crate::proofs::Vectors::Lanes::bytes_fit))]
-    fn kept<'b>(&self, block: &'b [u8], into: &'b mut OutBuf) -> &'b [u8]
-        requires { length block.now ≤ 8192 }
+    fn kept<'b>(&self, block: &'b [u8], into: &'b mut PaddedBlock) -> &'b [u8]
+        requires { length block.now ≤ BLOCK }
         ensures kept { result.now ≡ filter (λ b. not (deletes self.now.plan.now b)) block.now }
         ensures within { length result.now ≤ length block.now }
     {
@@ -73,8 +73,8 @@ impl<'a> Translation<'a> {
     }
 
     // The images of `bytes`, which are stored in `into` if any byte changes.
-    fn mapped<'b>(&self, bytes: &'b [u8], into: &'b mut OutBuf) -> &'b [u8]
-        requires { length bytes.now ≤ 8192 }
+    fn mapped<'b>(&self, bytes: &'b [u8], into: &'b mut PaddedBlock) -> &'b [u8]
+        requires { length bytes.now ≤ BLOCK }
         ensures { result.now ≡ map (image self.now.plan.now) bytes.now }
     {
         let to = &mut into[..bytes.len()];
@@ -89,8 +89,8 @@ impl<'a> Translation<'a> {
 
     // The bytes that are left after squeezing, in `into`. `last` is the byte before `bytes`, if there is one.
     #[tactic(auto, using(crate::proofs::TrLemmas::TrFrom::same_from, crate::proofs::TrLemmas::TrFrom::from_all))]
-    fn squeezed<'b>(&self, last: Option<u8>, bytes: &'b [u8], into: &'b mut OutBuf) -> &'b [u8]
-        requires { length bytes.now ≤ 8192 }
+    fn squeezed<'b>(&self, last: Option<u8>, bytes: &'b [u8], into: &'b mut PaddedBlock) -> &'b [u8]
+        requires { length bytes.now ≤ BLOCK }
         ensures { result.now ≡ squeeze_from (squeezes self.now.plan.now) last bytes.now }
     {
         let table = &self.table;
@@ -106,9 +106,9 @@ impl<'a> Translation<'a> {
 struct Translator<'a> {
     by: Translation<'a>,
     last: Option<u8>,
-    kept: OutBuf,
-    mapped: OutBuf,
-    squeezed: OutBuf,
+    kept: PaddedBlock,
+    mapped: PaddedBlock,
+    squeezed: PaddedBlock,
 }
 
 impl<'a> BlockFilter for Translator<'a> {
@@ -160,9 +160,9 @@ pub fn tr<S: Source, R: Source, W: Sink>(
     let mut tool = Translator {
         by: Translation::new(plan),
         last: None,
-        kept: [0; 8224],
-        mapped: [0; 8224],
-        squeezed: [0; 8224],
+        kept: [0; PADDED],
+        mapped: [0; PADDED],
+        squeezed: [0; PADDED],
     };
     run_blocks(&mut tool, reader, out)
 }

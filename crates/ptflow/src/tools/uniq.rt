@@ -20,7 +20,7 @@ use crate::tools::uniq::block_runs::{LastRun, RunWriter};
 use crate::tools::uniq::line_key::key;
 use arrayvec::ArrayVec;
 use ptlangs::jobs::UniqJob;
-use ptlines::{LineReader, Out, Sink, Source, Store, WriteFault};
+use ptlines::{BLOCK, LineReader, Out, Sink, Source, Store, WriteFault};
 use std::alloc::Allocator;
 
 // The current run: how many lines it has, and its first line if that was copied from a block. Otherwise the first slot
@@ -29,14 +29,14 @@ use std::alloc::Allocator;
 pub(crate) struct CurrentRun {
     pub count: u64,
     pub is_copied: bool,
-    pub bytes: ArrayVec<u8, 8192>,
+    pub bytes: ArrayVec<u8, BLOCK>,
 }
 
 impl CurrentRun {
     // Becomes the last run of the lines of a block, and copies its first line if that is in the block.
     fn set_to_last(&mut self, last: LastRun, block: &[u8])
         requires span { IfSome last.line (λ line. (line.from < line.to) × (line.to ≤ length block.now)) }
-        requires few { length block.now ≤ 8192 }
+        requires few { length block.now ≤ BLOCK }
         ensures { (store : Slots) → current_run_of self.new store
             ≡ run_of (first_of (first_line self.old store) block.now last.line) last.count }
     {

@@ -5,6 +5,7 @@ use Rattle.std.specs.Io.KnownBytes.{append_known}
 use Rattle.ptlines.specs.Calls.Outputs.{Output}
 use Rattle.ptlines.specs.Lag.{LaggedInput}
 use Rattle.ptlines.specs.Received.{IsPrefix, Received}
+use Rattle.ptlines.specs.declared.sizes.TheConstants.{BLOCK}
 
 -- At least the output that was decided by such prefixes was pushed.
 pub record ProcessLag {I : Type 0} (decided : (I → Received) → List ℕ) (came : I → Received)
@@ -17,7 +18,7 @@ pub record ProcessLag {I : Type 0} (decided : (I → Received) → List ℕ) (ca
 pub record BufferLag (was is : Output) (bytes : List ℕ) : Type 0 where
   pub written_out : List ℕ
   pub accepted : is.accepted ≡ append_known was.accepted written_out
-  pub most : length was.buffered + length bytes ≤ length written_out + max 8192 (length was.buffered)
+  pub most : length was.buffered + length bytes ≤ length written_out + max BLOCK (length was.buffered)
 
 -- The output decided by such prefixes was pushed, and written to the sink but for at most one block.
 pub record BoundedLag {I : Type 0} (decided : (I → Received) → List ℕ) (came : I → Received) (was is : Output)

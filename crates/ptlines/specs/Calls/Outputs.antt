@@ -3,6 +3,7 @@ use Rattle.std.specs.Prelude.{◌≡◌, ◌⊎◌, ℕ, ◌+◌, ◌≤◌, Boo
 use Rattle.std.specs.Prelude.{length, max}
 use Rattle.std.specs.Io.KnownBytes.{append_known}
 use Rattle.ptlines.specs.Sinks.{unflushed_after}
+use Rattle.ptlines.specs.declared.sizes.TheConstants.{BLOCK}
 
 -- the bytes that the sink has accepted (`None` if unknown), the bytes buffered in the block, whether a write or a flush
 -- has failed, whether the sink has accepted bytes that were not flushed yet, and how many flushes of it succeeded
@@ -48,7 +49,7 @@ pub record PushEffect (old new : Output) (bytes : List ℕ) : Type 0 where
   pub beginning : IsKnownPrefix (output_bytes new) (append_known (output_bytes old) bytes)
   pub whole : new.write_failed ≡ false → output_bytes new ≡ append_known (output_bytes old) bytes
   pub stays : old.write_failed ≡ true → new ≡ old
-  pub buffered : length new.buffered ≤ max 8192 (length old.buffered)
+  pub buffered : length new.buffered ≤ max BLOCK (length old.buffered)
   pub flushes : new.flushes ≡ old.flushes
 
 -- the effect of `push` with its result, which is an error exactly if a write has failed
@@ -60,4 +61,4 @@ pub record PushPost {E : Type 0} (old new : Output) (bytes : List ℕ) (result :
 -- if the bytes fit into the block of 8,192 bytes, they are only buffered: nothing is written to the sink
 abbrev pub BuffersIfRoom : Output → Output → List ℕ → Type 0
 BuffersIfRoom old new bytes =
-    old.write_failed ≡ false → length old.buffered + length bytes ≤ 8192 → new ≡ with_buffered old bytes
+    old.write_failed ≡ false → length old.buffered + length bytes ≤ BLOCK → new ≡ with_buffered old bytes

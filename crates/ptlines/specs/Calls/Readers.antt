@@ -5,10 +5,11 @@ use Rattle.std.specs.Io.KnownBytes.{prepend_known, IsAtEnd}
 use Rattle.ptlines.specs.Calls.Text.{IsLine}
 use Rattle.ptlines.specs.Readers.{Reader, remaining_bytes}
 use Rattle.ptlines.specs.declared.store.LineFault.{LineFault}
+use Rattle.ptlines.specs.declared.sizes.TheConstants.{BLOCK}
 
 -- the invariant of every reader
 pub record IsSound (r : Reader) : Type 0 where
-  pub buffered : length r.buffered ≤ 8192
+  pub buffered : length r.buffered ≤ BLOCK
   pub count : length r.buffered ≤ r.pulled
   pub end : r.eof ≡ true → IsAtEnd r.left
   pub long : r.fault ≡ None → r.pulled < 2 ^ 63

@@ -5,11 +5,12 @@ use Rattle.ptlines.specs.Calls.Readers.{AdvanceErr, AdvanceOk, HasReadCause, IsS
 use Rattle.ptlines.specs.Readers.{IsDone, Reader}
 use Rattle.ptlines.specs.declared.store.LineFault.{LineFault}
 use Rattle.ptlines.specs.declared.store.LineFault.TheVariants.{Read}
+use Rattle.ptlines.specs.declared.sizes.TheConstants.{BLOCK}
 
 -- The invariant of `LineReader`: its bounds lie in the block, and its model is sound.
 pub record IsValidReader (start end : ℕ) (at_eof : Bool) (r : Reader) : Type 0 where
   pub order : start ≤ end
-  pub within : end ≤ 8192
+  pub within : end ≤ BLOCK
   pub eof : at_eof ≡ r.eof
   pub sound : IsSound r
 

@@ -25,6 +25,7 @@ pub use Invariant.*
 pub use SlotLines.*
 pub use specs.Calls.MergeCall.{both_sides, merge_end}
 pub use specs.Calls.MergeSpec.{merge_engine}
+use Rattle.ptlines.specs.declared.sizes.TheConstants.{BLOCK}
 
 -- ---- bounded lag: lines in order
 
@@ -84,7 +85,7 @@ abbrev pub ProcessedNearly : Lines → Lines → List ℕ → Type 0
 ProcessedNearly ls p piece = (ls ≡ p) ⊎ ((x : List ℕ) × (ls ≡ p ++ x ∷ []) × (piece ≡ []))
 
 module _ (end : ℕ) (given piece : List ℕ) (ls p : Lines) (now new : Reader) (far : IsReadAs end given ls now)
-    (free : IsLine end piece) (few : length new.buffered ≤ 8192) where
+    (free : IsLine end piece) (few : length new.buffered ≤ BLOCK) where
   abbrev Point : Type 0
   Point = LagPoint end (received_with (given ++ piece) new) p
 

@@ -18,6 +18,7 @@ use Rattle.ptmerge.specs.declared.faults.MergeFault.{MergeFault}
 use Rattle.ptmerge.specs.declared.key_order.Side.{Side}
 use Rattle.ptmerge.specs.declared.key_order.Side.TheVariants.{First, Second}
 use Rattle.ptmerge.specs.declared.faults.MergeFault.TheVariants as faults
+use Rattle.ptlines.specs.declared.sizes.TheConstants.{BLOCK}
 
 -- The readers, the output and the store of a call.
 abbrev pub MergeState : Type 0
@@ -71,7 +72,7 @@ pub record IsFirstLineAndBlock (end : ℕ) (given : Received) : Type 0 where
   pub rest : List ℕ
   pub split : given.bytes ≡ first ++ rest
   pub one_line : length (lines end first) ≤ 1
-  pub block : length rest ≤ 8192
+  pub block : length rest ≤ BLOCK
 
 -- The first line of the first input is read, then that of the second input. Until the second has given a line or its
 -- end, no more than a block after the first input's first line is read.

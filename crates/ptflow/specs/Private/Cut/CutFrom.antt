@@ -10,6 +10,7 @@ use Rattle.ptlangs.specs.Jobs.{Cut}
 use Rattle.ptlangs.specs.declared.ranges.Interval.{Interval}
 use Rattle.ptflow.specs.Cuts.{select_from, cut_lines}
 use Rattle.ptflow.specs.declared.tools.cut.bytes.Line.{Line}
+use Rattle.ptlines.specs.declared.sizes.TheConstants.{BLOCK}
 
 -- ---- bytes: the state is how many bytes of the unfinished line were read
 
@@ -52,7 +53,7 @@ selected_bytes list block line count =
 -- `mask` is the match mask of the terminators among the 64 bytes at index `from`; 16 bytes follow them.
 pub record IsTerminatorMask (end : ℕ) (block : List ℕ) (from mask : ℕ) : Type 0 where
   pub within : from + 80 ≤ length block
-  pub most : length block ≤ 8192
+  pub most : length block ≤ BLOCK
   pub is : mask ≡ mask_l (map (is_byte end) (chunk from 64 block))
 
 -- This index is in the line. The output so far is not longer than the lines before.

@@ -8,11 +8,12 @@ use Rattle.ptflow.specs.Calls.Passes.{StorelessPost}
 use Rattle.ptflow.specs.Passes.{pass_engine}
 use Rattle.ptflow.specs.ToolSpec.{ToolSpec}
 use Rattle.ptflow.specs.declared.faults.FlowFault.{FlowFault}
+use Rattle.ptlines.specs.declared.sizes.TheConstants.{BLOCK}
 
 -- there is room for `more` bytes in a counter, and in the output of a block
 pub record HasRoom (counted written more : ℕ) : Type 0 where
   pub short : counted + more < 2 ^ 63
-  pub small : written + more ≤ 8192
+  pub small : written + more ≤ BLOCK
 
 -- the condition of a pass: no byte was counted; the reader can be read, and no write has failed
 pub record RunBlocksPre (counted : ℕ) (reader : Reader) (out : Output) : Type 0 where

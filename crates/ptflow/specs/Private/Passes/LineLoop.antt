@@ -10,6 +10,7 @@ use Rattle.ptlines.specs.Calls.Slots.{with_line}
 use Rattle.ptlines.specs.Text.{unlines, lines, complete_lines, max_line_length}
 use Rattle.ptflow.specs.ToolSpec.{ToolSpec}
 use Rattle.ptflow.specs.Calls.Passes.{PassPre}
+use Rattle.ptlines.specs.declared.sizes.TheConstants.{BLOCK}
 
 -- the condition of a pass over lines: the reader and the store are ready, and no write has failed
 pub record RunLinesPre (end : ℕ) (reader : Reader) (out : Output) (store : Slots) : Type 0 where
@@ -23,7 +24,7 @@ pub record RunLinesPre (end : ℕ) (reader : Reader) (out : Output) (store : Slo
 pub record ProcessLinesPre (buffered : ℕ) (block : List ℕ) : Type 0 where
   pub few : buffered ≤ 2 ^ 63
   pub waits : 0 < buffered
-  pub short : length block ≤ 8192
+  pub short : length block ≤ BLOCK
 
 -- The lines were processed. The written items, and then those of the rest, are the items, for every continuation. At
 -- most the processed lines were added to those with no output yet.

@@ -13,6 +13,7 @@ use Rattle.ptflow.specs.Private.Paste.RowCells.{RowShape, BegunText, CellsFilled
 use Rattle.ptflow.specs.declared.tools.paste.row.BegunRow.{BegunRow}
 use Rattle.ptflow.specs.declared.faults.FlowFault.{FlowFault}
 use Rattle.ptflow.specs.declared.faults.FlowFault.TheVariants.{Read, Write, Memory}
+use Rattle.ptlines.specs.declared.sizes.TheConstants.{BLOCK}
 
 -- The terminator of a reader was set, if it is used by a column (`named` columns use it); else it is unchanged.
 pub record SetTerminatorPost (end named : ℕ) (old new : Reader) : Type 0 where
@@ -64,8 +65,8 @@ pub record RowFailed (CellFailed : Reader → Reader → Slots → Slots → ℕ
       (reader_at new (slice_index_or row.cells column 0)) buffered store column
   pub others : (input : ℕ) → input ≢ slice_index_or row.cells column 0
       → reader_at new input ≡ reader_at begun.readers input
-  pub few : length (reader_at old (slice_index_or row.cells column 0)).buffered ≤ 8192
-      → length (reader_at new (slice_index_or row.cells column 0)).buffered ≤ 8192
+  pub few : length (reader_at old (slice_index_or row.cells column 0)).buffered ≤ BLOCK
+      → length (reader_at new (slice_index_or row.cells column 0)).buffered ≤ BLOCK
 
 -- The reader of the column was not read, and it has not ended.
 abbrev pub NotRead : Reader → Reader → Slots → Slots → ℕ → Type 0

@@ -7,6 +7,7 @@ use Rattle.ptflow.specs.PasteText.{delimiter, join_with_cycle}
 use Rattle.ptflow.specs.Private.Paste.Replaced.{with_replacements}
 use Rattle.ptflow.specs.declared.tools.paste.serial.ColumnPos.{ColumnPos}
 use Rattle.ptflow.specs.declared.tools.paste.serial.SerialFormat.{SerialFormat}
+use Rattle.ptlines.specs.declared.sizes.TheConstants.{BLOCK}
 
 -- The rest of the row, from column `number` on, if its bytes follow.
 abbrev pub row_rest : ℕ → List (Option ℕ) → ℕ → List ℕ → List ℕ
@@ -20,7 +21,7 @@ serial_rest format cell rest =
 -- The delimiter with this index exists, and there is room for the bytes.
 pub record CopyCellsPre (format : SerialFormat) (index : ℕ) (bytes : List ℕ) (at : ℕ) : Type 0 where
   pub low : index < length format.delims.now
-  pub room : at + length bytes ≤ 8192
+  pub room : at + length bytes ≤ BLOCK
 
 -- The bytes were appended to `before`, with the terminators replaced from the delimiter `index` on. The next one has
 -- the index `next`.

@@ -4,6 +4,7 @@ use Rattle.ptlines.specs.Text.{unlines, lines}
 use Rattle.ptlines.specs.Laws.Text.{AreLines}
 use Rattle.ptlines.specs.Readers.{Reader, IsDone}
 use Rattle.ptlines.specs.Calls.Readers.{ReaderAdvance}
+use Rattle.ptlines.specs.declared.sizes.TheConstants.{BLOCK}
 
 -- `ls` are the lines of the bytes `given` that a reader gave: all of them complete, or the last one without terminator
 -- at the end of the input.
@@ -17,7 +18,7 @@ pub record LinesTaken (end : ℕ) (old new : Reader) (most : ℕ) (input_lines :
   pub failed : new.failed ≡ old.failed
   pub fault : new.fault ≡ old.fault
   pub short : old.pulled < 2 ^ 63 → new.pulled < 2 ^ 63
-  pub buffered : length old.buffered ≤ 8192 → length new.buffered ≤ 8192
+  pub buffered : length old.buffered ≤ BLOCK → length new.buffered ≤ BLOCK
   pub none : most ≡ 0 → new ≡ old
   pub came : AreReceivedLines end new bytes input_lines
   pub enough : (length input_lines ≡ most) ⊎ (IsDone new × (length input_lines ≤ most))

@@ -5,6 +5,7 @@ use Rattle.std.specs.Int.{bit_at}
 use Rattle.std.specs.Simd.Lanes.{zip2}
 use Rattle.ptflow.specs.TrOutput.{is_not_repeat}
 use Rattle.ptflow.specs.declared.simd.byte_set.ByteSet.{ByteSet}
+use Rattle.ptlines.specs.declared.sizes.TheConstants.{BLOCK}
 
 -- A table of 128 bytes: the low nibble of a byte selects the entry, and the high nibble the bit that is set.
 abbrev pub table_has : List ℕ → ℕ → Bool
@@ -33,4 +34,4 @@ kept_bytes test before bytes = map (λ (pair : ℕ × ℕ). pair.1) (filter (is_
 -- index `at` is in the bytes, and the buffer has room for those from there on after the `count` bytes kept before
 pub record FilterPre (bytes : List ℕ) (at count : ℕ) : Type 0 where
   pub within : at ≤ length bytes
-  pub room : count + length bytes ≤ 8192 + at
+  pub room : count + length bytes ≤ BLOCK + at

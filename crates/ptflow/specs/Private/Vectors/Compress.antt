@@ -3,6 +3,7 @@ use Rattle.std.specs.Prelude.{◌≡◌, ◌<◌, ◌≤◌, ◌+◌, ℕ, List,
 use Rattle.std.specs.Prelude.{if◌then◌else◌}
 use Rattle.std.specs.List.{range_with_len}
 use Rattle.std.specs.Simd.Lanes.{mask_l}
+use Rattle.ptlines.specs.declared.sizes.TheConstants.{BLOCK}
 
 -- the items whose flag is set, in order
 abbrev pub select_by : {X : Type 0} → List Bool → List X → List X
@@ -23,7 +24,7 @@ pub record IsCompressRow (flags : List Bool) (row : List ℕ) : Type 0 where
 -- a chunk of 64 bytes begins at index `at`, and the buffer has room for it after the `count` bytes kept before
 pub record ChunkPre (bytes : List ℕ) (at count : ℕ) : Type 0 where
   pub lanes : at + 64 ≤ length bytes
-  pub room : count + 64 ≤ 8192
+  pub room : count + 64 ≤ BLOCK
 
 -- the table has the row of each mask of eight flags
 abbrev pub IsCompressTable : List (List ℕ) → Type 0

@@ -14,13 +14,9 @@ use crate::simd::find_nth::match_mask;
 use crate::tools::cut::shuffle::LineShuffles;
 use ptlangs::jobs::CutJob;
 use ptlangs::ranges::Interval;
-use ptlines::{Out, Sink, WriteFault, copy_short, find_byte};
+use ptlines::{Out, PADDED, PaddedBlock, Sink, WriteFault, copy_short, find_byte};
 use std::alloc::Allocator;
 use std::simd::prelude::*;
-
-// The output of a block, which is at most as long as the block, with room for the bytes that a copy may change after
-// it.
-type OutBuf = [u8; 8208];
 
 /// The selected intervals, the shuffles that select them in a line that is not long, and the terminator.
 #[derive(Clone, Copy)]
@@ -45,7 +41,7 @@ impl Selection<'_> {
     // Copies the selected bytes among the first `count` bytes of a line. Returns the index after the copied bytes. Out
     // of line, to keep registers free in the copy of most lines.
     #[inline(never)]
-    fn copy_selected(&self, block: &[u8], line: Line, count: usize, into: &mut OutBuf) -> usize
+    fn copy_selected(&self, block: &[u8], line: Line, count: usize, into: &mut PaddedBlock) -> usize
         requires within { line.start + count ≤ length block.now }
         requires room { HasRoom line.line_offset line.at count }
         ensures copied { take result into.new
@@ -72,10 +68,17 @@ impl Selection<'_> {
     // Copies the selected bytes of piece `index` of a line by one shuffle. The piece is the first `count` of 16 bytes.
     // Returns the index after the copied bytes.
     #[inline(always)]
-    fn copy16(&self, index: usize, line: &[u8], count: usize, into: &mut OutBuf, at: usize) -> usize
+    fn copy16(
+        &self,
+        index: usize,
+        line: &[u8],
+        count: usize,
+        into: &mut PaddedBlock,
+        at: usize,
+    ) -> usize
         requires piece { (index < 8) × (count ≤ 16) }
         requires within { 16 * index + 16 ≤ length line.now }
-        requires room { at + 16 ≤ 8208 }
+        requires room { at + 16 ≤ PADDED }
         ensures copied { (was : List ℕ)
             → take at into.old ≡ was ++ select_from (is_selected self.now.selected.now) 1 (take (16 * index) line.now)
             → take result into.new
@@ -93,7 +96,7 @@ impl Selection<'_> {
     // Copies the selected bytes of a line, which is the first `count` bytes, piece by piece. Returns the index after
     // the copied bytes. Out of line, to keep registers free in the copy of short lines.
     #[inline(never)]
-    fn copy_pieces(&self, line: &[u8], count: usize, into: &mut OutBuf, at: usize) -> usize
+    fn copy_pieces(&self, line: &[u8], count: usize, into: &mut PaddedBlock, at: usize) -> usize
         requires few { count ≤ self.now.shuffles.max_len }
         requires within { count + 16 ≤ length line.now }
         requires room { HasRoom 0 at (count + 1) }
@@ -116,7 +119,7 @@ impl Selection<'_> {
     // bytes. The caller guarantees 16 readable bytes after the line, so no other bound is checked if the line has at
     // most 16 bytes, which are one piece.
     #[inline(always)]
-    fn copy_line(&self, block: &[u8], line: Line, count: usize, into: &mut OutBuf) -> usize
+    fn copy_line(&self, block: &[u8], line: Line, count: usize, into: &mut PaddedBlock) -> usize
         requires within { line.start + count + 16 ≤ length block.now }
         requires room { HasRoom line.line_offset line.at (count + 1) }
         ensures copied { take result into.new ≡ take line.at into.old
@@ -140,7 +143,14 @@ impl Selection<'_> {
     // is the match mask of their terminators. Returns the first line after them. Out of line, to keep the loop's values
     // in registers.
     #[inline(never)]
-    fn cut_chunk(&self, block: &[u8], from: usize, mask: u64, line: Line, into: &mut OutBuf) -> Line
+    fn cut_chunk(
+        &self,
+        block: &[u8],
+        from: usize,
+        mask: u64,
+        line: Line,
+        into: &mut PaddedBlock,
+    ) -> Line
         requires ends { IsTerminatorMask self.now.terminator block.now from mask }
         requires line { IsLineAt self.now.terminator block.now from line }
         ensures on { CutPost self.now.terminator self.now.selected.now block.now line (take line.at into.old) result
@@ -169,7 +179,7 @@ impl Selection<'_> {
 
     // Copies the output of the last bytes of a block, from the start of a line on. Returns the index after the output,
     // and how many bytes of the unfinished last line were read.
-    fn cut_tail(&self, block: &[u8], line: Line, into: &mut OutBuf) -> (usize, u64)
+    fn cut_tail(&self, block: &[u8], line: Line, into: &mut PaddedBlock) -> (usize, u64)
         requires start { (line.at ≤ line.start) × (line.start ≤ length block.now) }
         requires room { HasRoom line.line_offset 0 (length block.now) }
         ensures cut { ExtendsCut self.now.terminator self.now.selected.now line.line_offset (drop line.start block.now)
@@ -193,7 +203,7 @@ impl Selection<'_> {
     // Copies the output of a block. The first line begins `line_offset` bytes before it. Returns the index after the
     // output, and how many bytes of the unfinished last line were read.
     #[inline(never)]
-    fn cut_block(&self, line_offset: u64, block: &[u8], into: &mut OutBuf) -> (usize, u64)
+    fn cut_block(&self, line_offset: u64, block: &[u8], into: &mut PaddedBlock) -> (usize, u64)
         requires { HasRoom line_offset 0 (length block.now) }
         ensures cut { IsCutPart self.now.terminator self.now.selected.now line_offset block.now result.1 []
             (take result.0 into.new) }
@@ -222,7 +232,7 @@ impl Selection<'_> {
 pub(crate) struct ByteCut<'a> {
     by: Selection<'a>,
     line_offset: u64,
-    buffer: OutBuf,
+    buffer: PaddedBlock,
 }
 
 impl<'a> ByteCut<'a> {
@@ -239,7 +249,7 @@ impl<'a> ByteCut<'a> {
                 terminator,
             },
             line_offset: 0,
-            buffer: [0; 8208],
+            buffer: [0; PADDED],
         }
     }
 }

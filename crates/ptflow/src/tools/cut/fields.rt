@@ -15,11 +15,8 @@ use crate::simd::find_nth::ByteMatches;
 use memchr::memrchr;
 use ptlangs::jobs::CutJob;
 use ptlangs::ranges::Interval;
-use ptlines::{Out, Sink, Store, WriteFault, copy_short};
+use ptlines::{Out, PADDED, PaddedBlock, Sink, Store, WriteFault, copy_short};
 use std::alloc::Allocator;
-
-// The output of the lines of a block, and 16 bytes more, which a short copy may change.
-type OutBuf = [u8; 8192 + 16];
 
 // The index at which a field of a line starts, which is the first `to` bytes: the field after `count` others from the
 // one at index `from` on. If there is no such field, the index after the end of the line.
@@ -123,7 +120,7 @@ struct FieldSelection<'a, A: Allocator> {
 #[derive(Drop)]
 pub(crate) struct FieldCut<'a, A: Allocator> {
     by: FieldSelection<'a, A>,
-    buffer: OutBuf,
+    buffer: PaddedBlock,
 }
 
 impl<'a, A: Allocator> FieldCut<'a, A> {
@@ -135,7 +132,7 @@ impl<'a, A: Allocator> FieldCut<'a, A> {
     {
         FieldCut {
             by: FieldSelection { job, terminator },
-            buffer: [0; 8192 + 16],
+            buffer: [0; PADDED],
         }
     }
 }

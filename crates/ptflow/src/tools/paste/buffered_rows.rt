@@ -12,9 +12,9 @@ ghost use Rattle.ptflow.specs.Private.Paste.BufferedRows.{LineCopied};
 ghost use Rattle.ptflow.specs.Private.Paste.Segments.{AreSegments};
 
 use crate::simd::find_nth::find_by_mask;
-use crate::tools::paste::row::{BegunRow, CopiedRows, OutBuf, RowFormat, copy_option, next_index};
+use crate::tools::paste::row::{BegunRow, CopiedRows, RowFormat, copy_option, next_index};
 use crate::tools::paste::segments::{Segment, has_ended_column, segments};
-use ptlines::{LineReader, Source, copy_short, find_in_chunk};
+use ptlines::{BLOCK, LineReader, PaddedBlock, Source, copy_short, find_in_chunk};
 use std::simd::prelude::*;
 
 // Copies the next line of a reader to `at` and consumes it, if it ends within the next `N` bytes: the vector that is
@@ -24,19 +24,19 @@ use std::simd::prelude::*;
 fn copy_line_in<const N: usize, S: Source, R: Source>(
     terminator: u8,
     reader: &mut LineReader<S, R>,
-    into: &mut OutBuf,
+    into: &mut PaddedBlock,
     at: usize,
 ) -> Option<usize>
     requires { N ≤ 64 }
     ensures line { IfSome result
         (λ end. LineCopied terminator reader.old reader.new (take at into.old) (take end into.new)) }
-    ensures size_bound { IfSome result (λ end. (at ≤ end) × (end < 8192)) }
+    ensures size_bound { IfSome result (λ end. (at ≤ end) × (end < BLOCK)) }
     ensures none { IfNone result ((reader.new ≡ reader.old) × (into.new ≡ into.old)) }
     ensures prefix_kept { take at into.new ≡ take at into.old }
     ensures was_sound { IsSound reader.old }
 {
     let bytes = reader.buffered();
-    if bytes.len() < N || at >= 8192 - N {
+    if bytes.len() < N || at >= BLOCK - N {
         return None;
     }
     let first = Simd::<u8, N>::from_slice(bytes);
@@ -52,12 +52,12 @@ fn copy_line_in<const N: usize, S: Source, R: Source>(
 fn copy_line_long<S: Source, R: Source>(
     terminator: u8,
     reader: &mut LineReader<S, R>,
-    into: &mut OutBuf,
+    into: &mut PaddedBlock,
     at: usize,
 ) -> Option<usize>
     ensures line { IfSome result
         (λ end. LineCopied terminator reader.old reader.new (take at into.old) (take end into.new)) }
-    ensures size_bound { IfSome result (λ end. (at ≤ end) × (end < 8192)) }
+    ensures size_bound { IfSome result (λ end. (at ≤ end) × (end < BLOCK)) }
     ensures none { IfNone result ((reader.new ≡ reader.old) × (into.new ≡ into.old)) }
     ensures prefix_kept { take at into.new ≡ take at into.old }
     ensures was_sound { IsSound reader.old }
@@ -70,7 +70,7 @@ fn copy_line_long<S: Source, R: Source>(
     }
     let bytes = reader.buffered();
     let count = find_by_mask(terminator, bytes)?;
-    if at.saturating_add(count) >= 8192 {
+    if at.saturating_add(count) >= BLOCK {
         return None;
     }
     copy_short(bytes, 0, count, into, at);
@@ -85,11 +85,11 @@ fn copy_line_long<S: Source, R: Source>(
 fn copy_cell<S: Source, R: Source>(
     terminator: u8,
     reader: &mut LineReader<S, R>,
-    into: &mut OutBuf,
+    into: &mut PaddedBlock,
     at: usize,
 ) -> Option<(usize, bool)>
     ensures cell { IfSome result (CopyCellPost terminator reader.old reader.new (take at into.old) into.new) }
-    ensures size_bound { IfSome result (λ field. (at ≤ field.0) × (field.0 < 8192)) }
+    ensures size_bound { IfSome result (λ field. (at ≤ field.0) × (field.0 < BLOCK)) }
     ensures none { IfNone result (reader.new ≡ reader.old) }
     ensures prefix_kept { take at into.new ≡ take at into.old }
     ensures was_sound { IsSound reader.old }
@@ -97,7 +97,7 @@ fn copy_cell<S: Source, R: Source>(
     if let Some(end) = copy_line_in::<16, S, R>(terminator, reader, into, at) {
         return Some((end, true));
     }
-    if reader.buffered().is_empty() && reader.at_eof() && at < 8192 {
+    if reader.buffered().is_empty() && reader.at_eof() && at < BLOCK {
         return Some((at, false));
     }
     Some((copy_line_long(terminator, reader, into, at)?, true))
@@ -109,7 +109,7 @@ fn copy_cell<S: Source, R: Source>(
 pub(crate) fn copy_columns<S: Source, R: Source>(
     row: RowFormat,
     readers: &mut [LineReader<S, R>],
-    into: &mut OutBuf,
+    into: &mut PaddedBlock,
     begun: BegunRow,
 ) -> BegunRow
     requires readable { BufferedRowsPre (shape_of row) readers.old }
@@ -145,7 +145,7 @@ fn copy_segments<S: Source, R: Source>(
     row: RowFormat,
     segments: &[Segment],
     readers: &mut [LineReader<S, R>],
-    into: &mut OutBuf,
+    into: &mut PaddedBlock,
     begun: BegunRow,
 ) -> BegunRow
     requires readable { BufferedRowsPre (shape_of row) readers.old }
@@ -163,7 +163,7 @@ fn copy_segments<S: Source, R: Source>(
             return begun;
         };
         let any_line = begun.any_line | is_line;
-        if end > 8176 {
+        if end > BLOCK - 16 {
             return BegunRow {
                 count: begun.count + 1,
                 end: copy_option(row.byte_after(begun.count), into, end),
@@ -186,7 +186,7 @@ fn copy_row<S: Source, R: Source>(
     row: RowFormat,
     segments: &[Segment],
     readers: &mut [LineReader<S, R>],
-    into: &mut OutBuf,
+    into: &mut PaddedBlock,
     start: BegunRow,
 ) -> BegunRow
     requires readable { BufferedRowsPre (shape_of row) readers.old }
@@ -208,7 +208,7 @@ fn copy_row<S: Source, R: Source>(
 fn copy_rows_by_columns<S: Source, R: Source>(
     row: RowFormat,
     readers: &mut [LineReader<S, R>],
-    into: &mut OutBuf,
+    into: &mut PaddedBlock,
 ) -> CopiedRows
     requires { BufferedRowsPre (shape_of row) readers.old }
     ensures rows { CopyRowsPost (shape_of row.entry) readers.old (take result.end into.new)
@@ -236,7 +236,7 @@ fn copy_rows_by_segments<S: Source, R: Source>(
     row: RowFormat,
     segments: &[Segment],
     readers: &mut [LineReader<S, R>],
-    into: &mut OutBuf,
+    into: &mut PaddedBlock,
 ) -> CopiedRows
     requires readable { BufferedRowsPre (shape_of row) readers.old }
     requires segments { AreSegments (shape_of row) readers.old 0 segments.now }
@@ -265,7 +265,7 @@ fn copy_rows_by_segments<S: Source, R: Source>(
 pub(crate) fn copy_rows<S: Source, R: Source>(
     row: RowFormat,
     readers: &mut [LineReader<S, R>],
-    into: &mut OutBuf,
+    into: &mut PaddedBlock,
 ) -> CopiedRows
     requires { BufferedRowsPre (shape_of row) readers.old }
     ensures rows { CopyRowsPost (shape_of row.entry) readers.old (take result.end into.new)
@@ -279,7 +279,7 @@ pub(crate) fn copy_rows<S: Source, R: Source>(
 }
 
 // Moves the begun row to the start of the buffer.
-pub(crate) fn move_to_front(copied: CopiedRows, into: &mut OutBuf) -> BegunRow
+pub(crate) fn move_to_front(copied: CopiedRows, into: &mut PaddedBlock) -> BegunRow
     ensures { (readers : List Reader) → begun_in readers result into.new ≡ begun_after readers copied into.old }
 {
     let mut begun = copied.begun;
@@ -294,7 +294,7 @@ pub(crate) fn copy_slot(
     row: RowFormat,
     column: usize,
     line: &[u8],
-    into: &mut OutBuf,
+    into: &mut PaddedBlock,
     begun: BegunRow,
 ) -> Option<BegunRow>
     requires { column < length row.cells.now }
@@ -304,7 +304,7 @@ pub(crate) fn copy_slot(
         (λ next. (begun.count ≡ column) × (next.count ≡ column + 1) × (next.any_line ≡ begun.any_line)) }
     ensures none { IfNone result (into.new ≡ into.old) }
 {
-    if begun.count != column || line.len() >= 8192 - begun.end {
+    if begun.count != column || line.len() >= BLOCK - begun.end {
         return None;
     }
     copy_short(line, 0, line.len(), into, begun.end);

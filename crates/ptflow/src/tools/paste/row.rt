@@ -4,6 +4,7 @@ ghost use Rattle.std.specs.Prelude.{◌≡◌, ◌<◌, ◌≤◌, ◌+◌, ◌%
 ghost use Rattle.ptflow.specs.Private.Paste.Unrolled.{AreDelimiterBytes};
 
 use arrayvec::ArrayVec;
+use ptlines::BLOCK;
 
 // The columns of a row: the index of the reader of each, the list of delimiters, and the terminator of lines and rows.
 #[derive(Clone, Copy)]
@@ -42,7 +43,7 @@ pub(crate) struct BegunRow {
     pub count: usize,
     pub end: usize,
     pub any_line: bool,
-    ghost size_bound: { end ≤ 8192 },
+    ghost size_bound: { end ≤ BLOCK },
 }
 
 // Rows that were copied up to `end`, and a begun row after them.
@@ -52,9 +53,6 @@ pub(crate) struct CopiedRows {
     pub begun: BegunRow,
     ghost order: { end ≤ begun.end },
 }
-
-// The output of one block, and 16 bytes more that a copy may overwrite.
-pub(crate) type OutBuf = [u8; 8208];
 
 // Copies a byte, if there is one, to `at`. Returns the offset after it.
 #[inline(always)]

@@ -7,9 +7,9 @@ ghost use Rattle.ptflow.specs.Private.Paste.BufferedRows.{BufferedRowsPre};
 ghost use Rattle.ptflow.specs.Private.Paste.RowCells.{shape_of};
 ghost use Rattle.ptflow.specs.Private.Paste.Segments.{AreSegments, IsEnded, IsSegment};
 
-use crate::tools::paste::row::{OutBuf, RowFormat, copy_option};
+use crate::tools::paste::row::{RowFormat, copy_option};
 use arrayvec::ArrayVec;
-use ptlines::{LineReader, Source};
+use ptlines::{BLOCK, LineReader, PaddedBlock, Source};
 use std::simd::prelude::*;
 
 // The columns of a segment: how many there are, the index of the reader of the first one, and the `len` bytes after all
@@ -28,9 +28,9 @@ pub(crate) type Segments = ArrayVec<Segment, 64>;
 impl Segment {
     // Copies the bytes after the fields to `at`. Returns the offset after them.
     #[inline(always)]
-    pub(crate) fn copy_bytes(&self, into: &mut OutBuf, at: usize) -> usize
+    pub(crate) fn copy_bytes(&self, into: &mut PaddedBlock, at: usize) -> usize
         requires few { self.now.len ≤ 16 }
-        requires room { at ≤ 8176 }
+        requires room { at + 16 ≤ BLOCK }
         ensures copied { take result into.new ≡ take at into.old ++ take self.now.len self.now.bytes }
         ensures end { result ≡ at + self.now.len }
     {

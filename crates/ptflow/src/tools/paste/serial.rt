@@ -11,9 +11,12 @@ ghost use Rattle.ptflow.specs.Private.Paste.Replaced.{IsDelimiterCycle};
 use crate::block_loop::{BlockFilter, run_blocks};
 use crate::faults::FlowFault;
 use crate::simd::replace::Cycle;
-use crate::tools::paste::row::{OutBuf, copy_option, delimiter_bytes, next_index};
+use crate::tools::paste::row::{copy_option, delimiter_bytes, next_index};
 use ptlangs::jobs::PasteJob;
-use ptlines::{LineReader, Out, Sink, Source, Store, WriteFault, copy_short, find_byte};
+use ptlines::{
+    BLOCK, LineReader, Out, PADDED, PaddedBlock, Sink, Source, Store, WriteFault, copy_short,
+    find_byte,
+};
 use std::alloc::Allocator;
 
 // The delimiters of a row, the terminator, and the cycle of the delimiters if there is one.
@@ -52,7 +55,7 @@ impl<'a> SerialFormat<'a> {
         &self,
         index: usize,
         bytes: &[u8],
-        into: &mut OutBuf,
+        into: &mut PaddedBlock,
         at: usize,
     ) -> (usize, usize)
         requires { CopyCellsPre self.now index bytes.now at }
@@ -74,7 +77,13 @@ impl<'a> SerialFormat<'a> {
 
     // Like `copy_cells_slow`, but many bytes at a time if the delimiters are a cycle of bytes.
     #[inline(always)]
-    fn copy_cells(&self, index: usize, bytes: &[u8], into: &mut OutBuf, at: usize) -> (usize, usize)
+    fn copy_cells(
+        &self,
+        index: usize,
+        bytes: &[u8],
+        into: &mut PaddedBlock,
+        at: usize,
+    ) -> (usize, usize)
         requires { CopyCellsPre self.now index bytes.now at }
         ensures copied { CopyCellsPost self.now index bytes.now (take at into.old) result.1 (take result.0 into.new) }
         ensures size_bound { result.0 ≤ at + length bytes.now }
@@ -88,9 +97,14 @@ impl<'a> SerialFormat<'a> {
 
     // Copies a block that begins at a position. If it ends with a terminator, the delimiter for it is left to the next
     // block, as the line may be the last one. Returns the length of the copy, and the position of the next block.
-    fn copy_block(&self, cell: ColumnPos, block: &[u8], into: &mut OutBuf) -> (usize, ColumnPos)
+    fn copy_block(
+        &self,
+        cell: ColumnPos,
+        block: &[u8],
+        into: &mut PaddedBlock,
+    ) -> (usize, ColumnPos)
         requires index { cell.index < length self.now.delims.now }
-        requires some { (0 < length block.now) × (length block.now ≤ 8192) }
+        requires some { (0 < length block.now) × (length block.now ≤ BLOCK) }
         ensures copied { (more : List ℕ) → serial_rest self.now cell (block.now ++ more)
             ≡ take result.0 into.new ++ serial_rest self.now result.1 more }
         ensures size_bound { result.0 ≤ 8200 }
@@ -113,7 +127,7 @@ impl<'a> SerialFormat<'a> {
 struct SerialPaste<'a> {
     format: SerialFormat<'a>,
     cell: ColumnPos,
-    buffer: OutBuf,
+    buffer: PaddedBlock,
     ghost index: { cell.index < length format.delims.now },
 }
 
@@ -176,7 +190,7 @@ pub fn paste_serial<A: Allocator + Copy, B: Allocator + Copy, S: Source, R: Sour
             index: 0,
             complete: false,
         },
-        buffer: [0; 8208],
+        buffer: [0; PADDED],
     };
     run_blocks(&mut tool, reader, out)
 }

@@ -7,11 +7,14 @@ ghost use Rattle.ptmerge.specs.Private.Write.{AddPost};
 use ptlines::{Out, Sink, WriteFault, copy_all};
 use std::marker::Model;
 
+// How many bytes of an output line are collected before they are pushed.
+const ROW: usize = 96;
+
 // The bytes of an output line that were not pushed yet.
 #[derive(Drop)]
 pub(crate) struct Row {
     // The first `end` bytes are the row.
-    bytes: [u8; 96],
+    bytes: [u8; ROW],
     end: usize,
 }
 
@@ -22,7 +25,7 @@ impl Model for Row {
 
     ghost view = { λ r. take r.end r.bytes };
 
-    ghost invariant = { λ r. (r.end ≤ 96) × (length r.bytes ≡ 96) };
+    ghost invariant = { λ r. (r.end ≤ ROW) × (length r.bytes ≡ ROW) };
 }
 
 impl Row {
@@ -32,7 +35,7 @@ impl Row {
         ensures { result ≡ [] }
     {
         Row {
-            bytes: [0; 96],
+            bytes: [0; ROW],
             end: 0,
         }
     }
@@ -48,7 +51,7 @@ impl Row {
     ) -> Result<(), WriteFault>
         ensures { AddPost self.old self.new (prefix.now ++ field.now) out.old out.new result }
     {
-        if prefix.len() + field.len() > 96 - self.end {
+        if prefix.len() + field.len() > ROW - self.end {
             return self.push_with(prefix, field, out);
         }
         let from = self.end + prefix.len();

@@ -9,7 +9,7 @@ none_among_64 : (c : In_default-find_in_chunk) → Nowhere (Passes (is_byte c.ar
 none_among_64 c =
     let passes = Passes (is_byte c.args.byte) c.args.bytes.now in
     nowhere_trans passes 0 48 64
-    (nowhere_trans passes 0 16 48 (c.requires c.if-bytes-lt64.false) c.in_default.ensures)
+    (nowhere_trans passes 0 16 48 c.requires.none c.in_default.ensures)
     c.in_default-find_in_chunk.ensures
 
 pub returns-in_err-at : goal.returns-in_err-at

@@ -4,6 +4,7 @@ use proofs.Common.{◌≡◌, ◌+◌, ◌-◌, Some, subst, ◌<◌, ◌≤◌,
 use proofs.Common.{is_byte, usual}
 use proofs.ReadLine.{fill_short_line}
 use proofs.reader.LineReader.fill_short.Goals as goal
+use Rattle.ptlines.specs.declared.sizes.TheConstants.{PADDED}
 
 pub returns-clause-line : goal.returns-clause-line
 returns-clause-line g c given =
@@ -12,7 +13,7 @@ returns-clause-line g c given =
     let fits : r.end ≤ length r.block = omega arith in
     let high : r.start + c.in-Some.size < r.end = omega arith in
     let short : c.args.self.now.pulled < 2 ^ 63 = grind arith in
-    let front = take (8256 - r.start) (drop r.start r.block) in
+    let front = take (PADDED - r.start) (drop r.start r.block) in
     let is_front : take (r.end - r.start) front ≡ c.args.self.now.buffered = grind (arith, take-take) in
     let first = subst (λ b. IsFirst (Passes (is_byte b) front) 0 64 (Some c.in-Some.size))
     (grind arith) c.in-Some.ensures in

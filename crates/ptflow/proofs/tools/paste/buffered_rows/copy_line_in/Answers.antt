@@ -3,6 +3,7 @@ use proofs.Common.{◌-◌, arith, rules, usual, take-append-add, take_more_put_
 use Rattle.ptlines.proofs.CopyFacts.{copied_prefix}
 use proofs.tools.paste.buffered_rows.copy_line_in.Goals as goal
 use borrow.Rule.Slice.PartMut.{mid_of}
+use Rattle.ptlines.specs.declared.sizes.TheConstants.{PADDED}
 
 pub returns-clause-line : goal.returns-clause-line
 returns-clause-line g c =
@@ -11,7 +12,7 @@ returns-clause-line g c =
     let was = c.args.into.now in
     let bytes = c.buffered-bytes.result.now in
     let first = c.in_ok-count.ensures in
-    let mid = mid_of at (8208 - at) was in
+    let mid = mid_of at (PADDED - at) was in
     record {
       at = c.in_ok-count.count;
       found = search rules;

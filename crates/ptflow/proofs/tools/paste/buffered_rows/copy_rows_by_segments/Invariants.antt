@@ -2,13 +2,14 @@
 use Rattle.ptflow.proofs
 use proofs.Common.{◌≡◌, ◌≤◌, length, take, sum_by, budget, AreConsumed, RowsTaken, shape_of}
 use proofs.tools.paste.buffered_rows.copy_rows_by_segments.Given as goal
+use Rattle.ptlines.specs.declared.sizes.TheConstants.{BLOCK, PADDED}
 
 abbrev pub invariant-rows : goal.invariant-rows
 invariant-rows g l = record {
   rows : RowsTaken (shape_of l.row) l.fn.readers l.readers (take l.end l.into);
   consumed : AreConsumed l.fn.readers l.readers;
-  size_bound : l.end ≤ 8192;
-  buffer_size : length l.into ≡ 8208;
+  size_bound : l.end ≤ BLOCK;
+  buffer_size : length l.into ≡ PADDED;
 }
 
 abbrev pub decreases-rows : goal.decreases-rows

@@ -3,6 +3,7 @@ use Rattle.ptflow.proofs
 use proofs.Common.{◌≡◌, ◌≤◌, length, take, CopyColumnsPost, begun_in, shape_of}
 use Rattle.ptflow.specs.Private.Paste.Segments.{AreSegments}
 use proofs.tools.paste.buffered_rows.copy_segments.Given as goal
+use Rattle.ptlines.specs.declared.sizes.TheConstants.{BLOCK, PADDED}
 
 abbrev pub invariant-segments : goal.invariant-segments
 invariant-segments g l = let (count, (end, (any_line, _))) = l.begun in record {
@@ -11,8 +12,8 @@ invariant-segments g l = let (count, (end, (any_line, _))) = l.begun in record {
   are : AreSegments (shape_of l.row) l.fn.readers count l.rest;
   within : count ≤ length l.row.cells.now;
   grows : l.fn.begun.end ≤ end;
-  size_bound : end ≤ 8192;
-  buffer_size : length l.into ≡ 8208;
+  size_bound : end ≤ BLOCK;
+  buffer_size : length l.into ≡ PADDED;
 }
 
 abbrev pub decreases-segments : goal.decreases-segments

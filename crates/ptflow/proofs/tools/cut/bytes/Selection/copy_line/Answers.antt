@@ -6,6 +6,7 @@ use proofs.tools.cut.bytes.Selection.copy_line
 use copy_line.Goals as goal
 use copy_line.Goals.{then-line-gt0, else-line-gt0+then-not-is_short, else-line-gt0+else-not-is_short, then-count-self}
 use copy_line.Goals.{else-count-self+then-is_short, else-count-self+else-is_short}
+use Rattle.ptlines.specs.declared.sizes.TheConstants.{PADDED}
 
 pub returns-clause-copied : goal.returns-clause-copied
 returns-clause-copied c =
@@ -24,7 +25,7 @@ returns-clause-copied c =
     ] in
     ap (λ n. select_from (is_selected list) (n + 1) bytes) (sym zero) in
     let end = c.if-count-self.end in
-    let (near, copied) : (end < 8208) × (take end c.if-count-self.into ≡ was ++ selected)
+    let (near, copied) : (end < PADDED) × (take end c.if-count-self.into ≡ was ++ selected)
     = elim c.if-count-self.branch [
       | then-count-self w ↦
           (omega arith, (λ i. take (w.end-is i) (w.into-is i)) ∙ w.copy_selected-end.ensures.copied)

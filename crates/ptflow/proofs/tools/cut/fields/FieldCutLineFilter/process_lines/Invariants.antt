@@ -3,6 +3,7 @@ use Rattle.ptflow.proofs
 use proofs.Common.{◌≡◌, ◌+◌, ◌≤◌, ◌++◌, ℕ, List, length, take, complete_lines, cut_job, cut_lines}
 use proofs.Passes.Exits.{TakenLines}
 use proofs.tools.cut.fields.FieldCutLineFilter.process_lines.Given as goal
+use Rattle.ptlines.specs.declared.sizes.TheConstants.{PADDED}
 
 abbrev pub invariant-lines : goal.invariant-lines
 invariant-lines g l =
@@ -12,7 +13,7 @@ invariant-lines g l =
           ≡ take l.end l.self.buffer ++ cut_lines job (complete_lines job.terminator l.rest ++ more);
       space : l.end + length l.rest ≤ length l.block;
       same_by : l.self.by ≡ l.fn.self.by;
-      long : length l.self.buffer ≡ 8208;
+      long : length l.self.buffer ≡ PADDED;
     }
 
 abbrev pub decreases-lines : goal.decreases-lines

@@ -3,6 +3,7 @@ use Rattle.ptflow.proofs
 use proofs.Common.{◌≡◌, ◌<◌, ◌≤◌, ◌+◌, ℕ, List, length, take}
 use Rattle.ptflow.specs.Private.Paste.SerialRest.{CopyCellsPost}
 use proofs.tools.paste.serial.SerialFormat.copy_cells_slow.Given as goal
+use Rattle.ptlines.specs.declared.sizes.TheConstants.{PADDED}
 
 abbrev pub invariant-pieces : goal.invariant-pieces
 invariant-pieces l = record {
@@ -10,7 +11,7 @@ invariant-pieces l = record {
       → CopyCellsPost l.self l.fn.index l.bytes (take l.fn.at l.fn.into) next after;
   low : l.index < length l.self.delims.now;
   size_bound : l.at + length l.rest ≤ l.fn.at + length l.bytes;
-  buffer_size : length l.into ≡ 8208;
+  buffer_size : length l.into ≡ PADDED;
 }
 
 abbrev pub decreases-pieces : goal.decreases-pieces
