@@ -16,6 +16,7 @@ use Rattle.ptflow.specs.Private.PasteCall.{update_at}
 use Rattle.ptflow.specs.PasteText.{columns, known_rows, rows_text, paste, paste_serial, paste_decided}
 use Rattle.ptflow.specs.PasteText.{paste_serial_decided, paste_size}
 use Rattle.ptlines.specs.declared.sizes.TheConstants.{BLOCK}
+use Rattle.std.specs.Prelude.{◌*◌}
 
 abbrev job : List (Option ℕ) → Paste
 job delimiters = record { serial = false; delimiters = delimiters; terminator = 10 }

@@ -1,6 +1,6 @@
 -- Bounded lag: output follows input with a delay of at most two blocks of input and one block of output, also if the
 -- run ends early. `I` identifies the inputs: one input, a side of a merge, or an index.
-use Rattle.std.specs.Prelude.{◌≡◌, ◌≤◌, ℕ, true, List, ◌++◌, length}
+use Rattle.std.specs.Prelude.{◌≡◌, ◌≤◌, ◌*◌, ℕ, true, List, ◌++◌, length}
 use Rattle.ptlines.specs.Received.{Received}
 use Rattle.ptlines.specs.declared.sizes.TheConstants.{BLOCK}
 
