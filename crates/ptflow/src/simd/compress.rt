@@ -6,7 +6,7 @@ ghost use Rattle.std.specs.Prelude.{◌≡◌, ◌≤◌, ◌+◌, ◌++◌, ℕ
 ghost use Rattle.std.specs.Simd.Lanes.{mask_l, chunk};
 ghost use Rattle.ptflow.specs.Private.Vectors.Compress.{ChunkPre, IsCompressTable, IsCompressRow, select_by};
 
-use ptlines::PaddedBlock;
+use ptlines::{PADDED, PaddedBlock};
 use std::array;
 use std::simd::prelude::*;
 

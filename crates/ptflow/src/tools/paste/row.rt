@@ -2,9 +2,9 @@
 
 ghost use Rattle.std.specs.Prelude.{◌≡◌, ◌<◌, ◌≤◌, ◌+◌, ◌%◌, ◌++◌, IfSome, length, option_to_list, take};
 ghost use Rattle.ptflow.specs.Private.Paste.Unrolled.{AreDelimiterBytes};
+ghost use Rattle.ptlines.specs.declared.sizes.TheConstants.{BLOCK};
 
 use arrayvec::ArrayVec;
-use ptlines::BLOCK;
 
 // The columns of a row: the index of the reader of each, the list of delimiters, and the terminator of lines and rows.
 #[derive(Clone, Copy)]

@@ -13,9 +13,9 @@ ghost use Rattle.ptflow.specs.Private.Paste.SharedInput.{IsSharedCycle, IsWholeR
 
 use crate::simd::find_nth::nth_index;
 use crate::simd::replace::Cycle;
-use crate::tools::paste::row::{OutBuf, RowFormat, delimiter_bytes};
+use crate::tools::paste::row::{RowFormat, delimiter_bytes};
 use memchr::memrchr;
-use ptlines::{LineReader, Out, Sink, Source, WriteFault};
+use ptlines::{LineReader, Out, PaddedBlock, Sink, Source, WriteFault};
 
 // The replacements of the terminators of a row: after each column but the last its delimiter, and at the end the
 // terminator of the row. `None` unless there are at most 128 columns, all with the same reader, and every delimiter
@@ -59,7 +59,7 @@ fn rows_end(terminator: u8, bytes: &[u8], extra: usize) -> usize
 fn copy_shared_rows<S: Source, R: Source>(
     cycle: &Cycle,
     reader: &LineReader<S, R>,
-    into: &mut OutBuf,
+    into: &mut PaddedBlock,
 ) -> usize
     ensures within { result ≤ length reader.now.buffered }
     ensures rows { IsWholeRows cycle.now.terminator cycle.now.len (take result reader.now.buffered) }
@@ -82,7 +82,7 @@ pub(crate) fn write_shared_rows<S: Source, R: Source, W: Sink>(
     cycle: &Option<Cycle>,
     row: RowFormat,
     readers: &mut [LineReader<S, R>],
-    into: &mut OutBuf,
+    into: &mut PaddedBlock,
     out: &mut Out<W>,
 ) -> Result<(), WriteFault>
     requires is_cycle { IfSome cycle.now (IsSharedCycle (shape_of row)) }

@@ -20,6 +20,7 @@ pub(crate) struct Row {
 
 impl Model for Row {
     ghost use Rattle.std.specs.Prelude.{◌≡◌, ◌≤◌, ℕ, List, length, take};
+    ghost use Rattle.ptmerge.specs.declared.tools.join.row.TheConstants.{ROW};
 
     ghost Value = { List ℕ };
 
