@@ -5,8 +5,8 @@ use proofs.tools.paste.buffered_rows.copy_cell.Goals as goal
 pub returns : goal.returns
 returns = grind arith
 
-pub returns-then-at-lt8192 : goal.returns-then-at-lt8192
-returns-then-at-lt8192 = grind usual
+pub returns-then-at-lt-BLOCK : goal.returns-then-at-lt-BLOCK
+returns-then-at-lt-BLOCK = grind usual
 
 pub returns-in_err-copy_line_long : goal.returns-in_err-copy_line_long
 returns-in_err-copy_line_long = grind arith
