@@ -1,4 +1,0 @@
-use Rattle.ptlangs.proofs.ranges.ListFaultFromAllocError.from.Goals as goal
-
-pub returns : goal.returns
-returns c = cc

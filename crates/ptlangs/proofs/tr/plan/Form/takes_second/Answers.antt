@@ -1,5 +1,0 @@
-use Rattle.ptlangs.proofs.tr.plan.Form.takes_second.Goals as goal
-use Rattle.std.proofs.Common.{rules}
-
-pub returns : goal.returns
-returns c = search rules
