@@ -1,4 +1,0 @@
-use Rattle.ptopts.proofs.fault.UseFaultFromAllocFailed.from.Goals as goal
-
-pub returns : goal.returns
-returns g c = cc
