@@ -1,8 +1,0 @@
-use Rattle.ptrun.proofs.Common.{rules}
-use Rattle.ptrun.proofs.driver.finish.Goals as goal
-
-pub returns-in-Ok : goal.returns-in-Ok
-returns-in-Ok g c = search rules
-
-pub returns-in-Err : goal.returns-in-Err
-returns-in-Err g c = search rules
