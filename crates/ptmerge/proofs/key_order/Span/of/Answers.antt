@@ -1,4 +1,0 @@
-use Rattle.ptmerge.proofs.key_order.Span.of.Goals as goal
-
-pub returns : goal.returns
-returns = search
