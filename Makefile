@@ -18,7 +18,8 @@
 #                           toybox, uutils, 9base, all, or a path, compares with others (docs/POSIX.md)
 # make definitions N=500    has the prover compute the definitions on random words and inputs, and compares the results
 #                           with a model in Python, the system's tools, and the built program if there is one
-# make docs                 writes docs/PROMISE.md, the page of the definitions, from crates/*/specs
+# make docs                 writes docs/PROMISE.md, the page of the definitions, from crates/*/specs, and the table of
+#                           docs/ARCHITECTURE.md that shows the files of each tool
 # make install PREFIX=..    installs the program, its pages and completion into PREFIX (/usr/local), below DESTDIR
 #                           (build/ptext-static if `make static` made it of build/ptext as it is, unless STATIC=no)
 # make install-tools        adds PREFIX/libexec/ptext/bin with each tool by its own name, a folder to put into PATH
@@ -140,6 +141,7 @@ definitions:
 
 docs:
 	python3 tools/promise.py
+	python3 tools/layers.py
 
 # As root no proof begins on the way: the program has to be there, and newer than its source.
 install: $(if $(filter 0,$(shell id -u)),is-built,build/ptext)

@@ -6,6 +6,7 @@
 A shell that is not installed is left out, with a line that says so.
 """
 import contextlib
+import multiprocessing
 import os
 import pty
 import re
@@ -169,48 +170,55 @@ def find_wrong_rows(shell, room, rows, first="", path=""):
     return found
 
 
-def find_all_wrong_rows(shell, room):
-    """The rows that a shell does not complete as wanted in one of three surroundings, and how many rows there were."""
-    found, count = find_wrong_rows(shell, room, ROWS), len(ROWS)
+def list_parts(shell, room):
+    """What `find_wrong_rows` is called with for a shell: its rows in up to three surroundings."""
+    parts = [(shell, room, ROWS)]
     if shell == "bash" and not os.path.exists(SYSTEMS):
         print("left out: the tools by their own names in bash (there is no bash-completion)")
-        return found, count
-    found += find_wrong_rows(shell, room, ROWS_BY_NAME, BY_NAME[shell], f"{room}/ptext/bin")
-    count += len(ROWS_BY_NAME)
+        return parts
+    parts.append((shell, room, ROWS_BY_NAME, BY_NAME[shell], f"{room}/ptext/bin"))
     said = subprocess.run(["cut", "--help"], check=False, capture_output=True, text=True).stdout
     if "--complement" in said:
-        found += find_wrong_rows(shell, room, ROWS_OF_THE_SYSTEM, BY_NAME[shell])
-        count += len(ROWS_OF_THE_SYSTEM)
-    return found, count
+        parts.append((shell, room, ROWS_OF_THE_SYSTEM, BY_NAME[shell]))
+    return parts
+
+
+def make_room(room):
+    """Puts into a folder the files that the rows complete, and the tools by their own names."""
+    for folder in ("bin", "ptext/bin"):
+        os.makedirs(f"{room}/{folder}")
+    with open(f"{room}/lonely", "w", encoding="ascii"):
+        pass
+    for name in NAMES:
+        with open(f"{room}/ptext/bin/{name}", "w", encoding="ascii") as file:
+            file.write("#!/bin/sh\n")
+        os.chmod(f"{room}/ptext/bin/{name}", 0o755)
+        shutil.copy(f"{TOP}/completion/ptext-tools.fish", f"{room}/{name}.fish")
 
 
 def main():
     # (A test that is ended ends the shells that it runs.)
     signal.signal(signal.SIGTERM, lambda *_: sys.exit(143))
-    wrong, count = [], 0
+    wrong, count = 0, 0
     with tempfile.TemporaryDirectory(ignore_cleanup_errors=True) as room:
-        for folder in ("bin", "ptext/bin"):
-            os.makedirs(f"{room}/{folder}")
-        with open(f"{room}/lonely", "w", encoding="ascii"):
-            pass
-        for name in NAMES:
-            with open(f"{room}/ptext/bin/{name}", "w", encoding="ascii") as file:
-                file.write("#!/bin/sh\n")
-            os.chmod(f"{room}/ptext/bin/{name}", 0o755)
-            shutil.copy(f"{TOP}/completion/ptext-tools.fish", f"{room}/{name}.fish")
-        for shell in SHELLS:
-            if not shutil.which(shell):
-                print(f"left out: completion in {shell} (there is no {shell})")
-                continue
-            try:
-                found, of = find_all_wrong_rows(shell, room)
-            except OSError as why:
-                print(f"left out: completion in {shell} (no terminal: {why})")
-                continue
-            print("".join(found), end="")
-            print(f"{shell}: {of - len(found)} of {of} words are completed as wanted", flush=True)
-            wrong, count = wrong + found, count + of
-    print(f"{count - len(wrong)} of {count} words are completed as wanted")
+        make_room(room)
+        for shell in [shell for shell in SHELLS if not shutil.which(shell)]:
+            print(f"left out: completion in {shell} (there is no {shell})")
+        parts = {shell: list_parts(shell, room) for shell in SHELLS if shutil.which(shell)}
+        # A terminal is mostly waited for, so all are typed into at once.
+        with multiprocessing.get_context("fork").Pool(sum(map(len, parts.values()))) as pool:
+            results = {shell: pool.starmap_async(find_wrong_rows, parts[shell], 1) for shell in parts}
+            for shell, result in results.items():
+                try:
+                    lacking = [row for rows in result.get() for row in rows]
+                except OSError as why:
+                    print(f"left out: completion in {shell} (no terminal: {why})")
+                    continue
+                total = sum(len(part[2]) for part in parts[shell])
+                print("".join(lacking), end="")
+                print(f"{shell}: {total - len(lacking)} of {total} words are completed as wanted", flush=True)
+                wrong, count = wrong + len(lacking), count + total
+    print(f"{count - wrong} of {count} words are completed as wanted")
     return 1 if wrong else 0
 
 

@@ -1,5 +1,6 @@
 #!/bin/sh
-# Tests the README, the manual pages and the documents: their examples, and whether they are as the program is.
+# Tests the README, the manual pages and the documents: their examples, and whether they are as the program and the files
+# are.
 # usage: tests/documents.sh PROGRAM
 set -u
 program=$(realpath "${1:?which program?}")
@@ -8,4 +9,5 @@ status=0
 for test in examples pages replacing references; do
     python3 "$test.py" "$program" || status=1
 done
+python3 ../tools/layers.py --check || status=1
 exit "$status"
