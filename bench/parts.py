@@ -2,12 +2,13 @@
 """Wall time and processor time of each tool over its whole input in one process, over parts of it by `xargs` on all
 processors, and by Dask; of cutting the files; and of `sort`.
 
-  bench/parts.py PTEXT [MEGABYTES]
+  bench/parts.py PTEXT [MEGABYTES [PARTS]]
 
-Each input has MEGABYTES, 512 by default. It was written just before, so that it is read from memory. The best of three
-runs counts, and the output is thrown away, except that Dask writes it to a file. Wall time depends on other work on the
-machine, so its load at the start is printed; processor time (in brackets: user and system, of all processes) hardly
-does. The column of Dask is empty if it is not installed, or if the library is not built.
+Each input has MEGABYTES, 512 by default. It was written just before, so that it is read from memory. There are four
+PARTS for each processor, unless their number is given. The best of three runs counts, and the output is thrown away,
+except that Dask writes it to a file (in memory, if TMPDIR is there). Wall time depends on other work on the machine, so
+its load at the start is printed; processor time (in brackets: user and system, of all processes) hardly does. The
+column of Dask is empty if it is not installed, or if the library is not built. (tests/slurm.sh has the times of Slurm.)
 """
 
 import importlib
@@ -21,14 +22,15 @@ import time
 
 TOP = os.path.dirname(os.path.dirname(os.path.realpath(__file__)))
 RUNS = 3
-# For each tool its words, and the file that it reads as standard input.
+# For each tool its words, the file that it reads as standard input, and slower work on the output.
 CASES = [
-    ("cut -d ' ' -f 1,3 log", None),
-    ("tr a-z A-Z", "log"),
-    ("uniq -c left", None),
-    ("paste left left", None),
-    ("comm left right", None),
-    ("join left right", None),
+    ("cut -d ' ' -f 1,3 log", None, ""),
+    ("tr a-z A-Z", "log", ""),
+    ("uniq -c left", None, ""),
+    ("paste left left", None, ""),
+    ("comm left right", None, ""),
+    ("join left right", None, ""),
+    ("cut -d ' ' -f 1,3 log", None, "gzip -1"),
 ]
 
 
@@ -91,7 +93,8 @@ def measure_dask(client, words, stdin, parts):
 
 def main():
     cores = len(os.sched_getaffinity(0))
-    ptext, size = os.path.abspath(sys.argv[1]), int(sys.argv[2] if len(sys.argv) > 2 else 512) << 20
+    ptext, given = os.path.abspath(sys.argv[1]), [int(word) for word in sys.argv[2:]]
+    size, parts = (given[0] if given else 512) << 20, given[1] if len(given) > 1 else 4 * cores
     with tempfile.TemporaryDirectory() as folder:
         os.chdir(folder)
         os.mkdir("bin")
@@ -103,18 +106,21 @@ def main():
         write_lines("right", size, lambda number: f"{number * 3:010} first__________ second_________\n")
         print(f"load at the start: {os.getloadavg()[0]:.1f} of {cores} processors")
         print(f"`sort log`: {format_times(measure('sort -S 1G --parallel=4 -T . log'))}")
-        print("| tool | one process | cutting | in parts, four at once | by Dask |\n|---|---|---|---|---|")
+        print(f"| tool | one process | cutting | in {parts} parts, {cores} at once | by Dask |\n|---|---|---|---|---|")
         client = start_dask(cores)
-        for words, stdin in CASES:
-            given = f"-i {stdin} " if stdin else ""
-            whole = measure_best(f"ptext {words} <{stdin or '/dev/null'}")
-            cutting = measure_best(f"ptext-parts plan {4 * cores} {given}{words} >plan")
-            parts = measure_best(f"seq {4 * cores} | xargs -P {cores} -I @ ptext-parts run plan @")
-            by_dask = (
-                f"{min(measure_dask(client, words, stdin, 4 * cores) for _ in range(RUNS)):.2f} s" if client else ""
-            )
-            times = " | ".join(map(format_times, (whole, cutting, parts)))
-            print(f"| `{words.split()[0]}` | {times} | {by_dask} |", flush=True)
+        for words, stdin, after in CASES:
+            text = f"-i {stdin} " if stdin else ""
+            pipe = f" | {after}" if after else ""
+            run = f"sh -c 'ptext-parts run plan @{pipe}'" if after else "ptext-parts run plan @"
+            whole = measure_best(f"ptext {words} <{stdin or '/dev/null'}{pipe}")
+            cutting = measure_best(f"ptext-parts plan {parts} {text}{words} >plan")
+            in_parts = measure_best(f"seq {parts} | xargs -P {cores} -I @ {run}")
+            by_dask = ""
+            if client and not after:
+                by_dask = f"{min(measure_dask(client, words, stdin, parts) for _ in range(RUNS)):.2f} s"
+            times = " | ".join(map(format_times, (whole, cutting, in_parts)))
+            name = f"`{words.split()[0]}`" + (f", then `{after}`" if after else "")
+            print(f"| {name} | {times} | {by_dask} |", flush=True)
 
 
 if __name__ == "__main__":
