@@ -125,6 +125,7 @@ WORKS = [
     Work("`comm` of lists of words", make_word_lists, ["comm", FILE, OTHER]),
     Work("`comm -12` of lists of words", make_word_lists, ["comm", "-12", FILE, OTHER], COMMON_IN_AWK),
     Work("`uniq -c` of the sorted words of a text", make_words_of_a_text, ["uniq", "-c", FILE], COUNT_IN_AWK),
+    Work("`uniq -f 3` of a log", LOG, ["uniq", "-f", "3", FILE]),
     Work("`cut -c 1,3,5,..,69`, lines of 70 bytes", SEVENTIES, ["cut", "-c", ODD, FILE]),
     Work("`cut -c 2-4`, lines of 10 bytes", TENS, ["cut", "-c", "2-4", FILE], ["{ print substr($0, 2, 3) }", FILE]),
     Work(

@@ -41,7 +41,7 @@ pub use Rattle.std.specs.Option.{is_some, option_map_or, option_or}
 pub use Rattle.std.specs.Prelude.{All, bytes_eq, filter, fold, if◌then◌else◌, nat_eq, nat_le, nat_lt, option_map}
 pub use Rattle.std.specs.Prelude.{option_to_list, slice_get, slice_range, sum_by, unwrap_or}
 pub use Rattle.std.specs.Simd.Lanes.{Each1, chunk, mask_l, pick_l, put_chunk, sel_l, top, zip2}
-pub use Rattle.memchr.specs.Find.{IsFirstByte, NoneBefore, Nowhere, Passes, is_byte, is_byte2}
+pub use Rattle.memchr.specs.Find.{IsFirstByte, NoneBefore, Nowhere, Passes, is_byte}
 pub use Rattle.ptlangs.specs.Calls.CutLists.{AreSeparated}
 pub use Rattle.ptlangs.specs.CutLists.{is_selected}
 pub use Rattle.ptlangs.specs.Jobs.{Cut, Paste, Uniq, cut_job, terminator, paste_job, uniq_job}
@@ -103,6 +103,5 @@ pub use specs.Private.Tr.TrFrom.{squeeze_from, tr_from}
 pub use specs.Private.Uniq.BlockRuns.{RunsWritten, span_of}
 pub use specs.Private.Uniq.FirstLine.{first_line, current_run_of}
 pub use specs.Private.Uniq.RunsFrom.{run_of}
-pub use specs.Private.Uniq.Blanks.{after_nonblanks}
 pub use specs.declared.faults.FlowFault.{FlowFault}
 pub use specs.declared.faults.FlowFault.TheVariants.{Memory, Read, Write}

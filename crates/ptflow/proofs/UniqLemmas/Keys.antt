@@ -1,10 +1,15 @@
 -- The key of a line, in one pass: skipping n fields, each of them blanks and then other bytes, leads to the byte after
--- the n-th field end.
+-- the n-th field end. In a window of bytes these ends are the bits of one mask: a byte that is not a blank, before one
+-- that is. If the n-th one is the last byte of the line or after it, the key is empty.
 use Rattle.ptflow.proofs
-use proofs.Common.{◌≡◌, ℕ, zero, suc, ◌+◌, ◌<◌, ◌≤◌, Bool, true, false, cond, min, List, [], ◌∷◌, None, Some, length}
-use proofs.Common.{drop, get_or, refl, sym, ◌∙◌, arith, usual, slice_get, option_map_or, drop-drop, IsFirstByte}
-use proofs.Common.{Nowhere, Passes, is_byte, is_byte2, is_blank, ends_word, word_ends, after_fields, after_nonblanks}
-use proofs.Common.{Option, unwrap_or, drop_all, rules, ◌==◌}
+use proofs.Common.{◌≡◌, ℕ, zero, suc, ◌+◌, ◌-◌, ◌/◌, ◌%◌, ◌^◌, ◌<◌, ◌≤◌, Bool, true, false, cond, min, not, List, [], ◌∷◌}
+use proofs.Common.{length, map, take, drop, refl, sym, ◌∙◌, ap, arith, usual, slice_get, option_map_or, drop-drop}
+use proofs.Common.{is_blank, ends_word, word_ends, after_fields, ◌==◌, IsNth, count_by, from_bool, mask_l, chunk, get_or, count_ones, ones-mask_l, sum_by-cons}
+use proofs.Common.{bit_and, bit_or, eqb, mask_l-lt, mask_l-mod, length-map, length-chunk, zip2, zip2_of_maps}
+use proofs.Common.{zip2_splat, map-map, top, replicate, rules, cases_lt, ⊎_elim, drop_all, ◌||◌}
+use proofs.CutLemmas.CutBytes.{rest_of}
+use Rattle.ptflow.specs.Private.Uniq.FieldEnds.{field_ends}
+use lib.Bits.{and_step, and_zero_r}
 
 -- the rest of these bytes after n more field ends
 abbrev pub suffix_at : ℕ → List ℕ → List ℕ
@@ -43,67 +48,198 @@ pub suffix_is : (n : ℕ) (line : List ℕ) → suffix_at n line ≡ after_field
 unfolding from_end
 suffix_is = grind (arith, suffix_zero, from_end_is)
 
--- ---- field by field
+-- ---- byte by byte
 
-suffix_add : (n : ℕ) (bytes : List ℕ) → suffix_at (suc n) bytes ≡ suffix_at n (suffix_at 1 bytes)
-suffix_add n [] = sym (suffix_none n)
-suffix_add n (b ∷ bytes) = grind (arith, suffix_add n bytes)
+pub next_byte : (rest : List ℕ) (left : ℕ) → 0 < left → 0 < length rest
+    → suffix_at left rest ≡ cond (ends_word (get_or rest 0 0) (drop 1 rest)) (suffix_at (left - 1) (drop 1 rest))
+    (suffix_at left (drop 1 rest))
+next_byte [] left some more = absurd (omega arith)
+next_byte (b ∷ bytes) zero some more = absurd (omega arith)
+next_byte (b ∷ bytes) (suc n) some more = grind arith
 
-suffix_other : (b : ℕ) (bytes : List ℕ) → is_blank b ≡ false → suffix_at 1 (b ∷ bytes) ≡ after_nonblanks bytes
-suffix_other b [] other = rw other refl
-suffix_other b (c ∷ bytes) other = search (rules, suffix_other c bytes)
+-- ---- the ends of fields in a window of bytes
 
-pub after_one : (line : List ℕ) → after_fields 1 line ≡ suffix_at 1 line
-after_one line = sym (suffix_is 1 line)
+abbrev numbers : List Bool → List ℕ
+numbers flags = map from_bool flags
 
-pub suffix_step : (n m : ℕ) (rest : List ℕ) → n ≡ m + 1 → suffix_at n rest ≡ suffix_at m (after_fields 1 rest)
-suffix_step n m rest is =
-    let more : n ≡ suc m = omega arith in
-    cc (suffix_add m _, after_one _)
+-- the test of a number
+abbrev pub is_set : ℕ → Bool
+is_set b = b == 1
 
--- An empty rest has no more fields.
-pub at_end : (n m : ℕ) (rest line : List ℕ) → rest ≡ [] → suffix_at n rest ≡ suffix_at m line
-    → rest ≡ after_fields m line
-at_end n m rest line none same = cc (suffix_none n, suffix_is m line)
+-- the ends of fields among the first n bytes, as numbers
+abbrev pub ends_in : ℕ → List ℕ → List ℕ
+ends_in n bytes = numbers (field_ends n bytes)
 
-pub other_first : (rest : List ℕ) → 0 < length rest → is_blank (get_or rest 0 0) ≡ false
-    → suffix_at 1 rest ≡ after_nonblanks rest
-other_first = grind (usual, suffix_other)
+pub as_flags : (n : ℕ) (bytes : List ℕ) → map is_set (ends_in n bytes) ≡ field_ends n bytes
+as_flags n bytes = decoded (field_ends n bytes)
+  where
+    decoded : (flags : List Bool) → map is_set (numbers flags) ≡ flags
+    decoded [] = refl
+    decoded (true ∷ flags) = ap (◌∷◌ true) (decoded flags)
+    decoded (false ∷ flags) = ap (◌∷◌ false) (decoded flags)
 
-after_at : (line : List ℕ) (at : ℕ) → at < length line → ((k : ℕ) → k < at → is_blank (get_or line k 0) ≡ true → ⊥)
-    → is_blank (get_or line at 0) ≡ true → after_nonblanks line ≡ drop at line
-after_at [] at high none blank = absurd (omega arith)
-after_at (b ∷ bytes) zero high none blank = cc
-after_at (b ∷ bytes) (suc at) high none blank = grind (arith, b, (none 0 (omega arith)))
-    ∙ after_at _ at (omega arith) (λ k lt. none (suc k) (omega arith)) blank
+pub length-ends_in : (n : ℕ) (bytes : List ℕ) → length (ends_in n bytes) ≤ n
+length-ends_in zero bytes = omega arith
+length-ends_in (suc n) [] = omega arith
+length-ends_in (suc n) (b ∷ bytes) = grind (arith, length-ends_in n bytes)
 
-after_none : (line : List ℕ) → ((k : ℕ) → k < length line → is_blank (get_or line k 0) ≡ true → ⊥)
-    → after_nonblanks line ≡ []
-after_none [] none = refl
-after_none (b ∷ bytes) none = grind (arith, b, (none 0 (omega arith)))
-    ∙ after_none bytes (λ k lt. none (suc k) (omega arith))
+counted_one : (t : Bool) (xs : List ℕ) → count_by is_set (from_bool t ∷ xs) ≡ cond t 1 0 + count_by is_set xs
+counted_one true xs = sum_by-cons (λ b. cond (is_set b) 1 0) 1 xs
+counted_one false xs = sum_by-cons (λ b. cond (is_set b) 1 0) 0 xs
 
-pub after_first : (line : List ℕ) (r : Option ℕ) → IsFirstByte (is_byte2 32 9) line r
-    → after_nonblanks line ≡ drop (unwrap_or r (length line)) line
-after_first line None none = grind (arith, after_none, drop_all)
-after_first line (Some at) first = grind (arith, after_at)
+-- one byte of a line before another one
+step : (n m : ℕ) (rest : List ℕ) (t : Bool) → n ≡ cond t 1 0 + m
+    → cond t (suffix_at n rest) (suffix_at (suc n) rest) ≡ suffix_at (suc m) rest
+step n m rest true is = ap (λ i. suffix_at i rest) (omega arith)
+step n m rest false is = ap (λ i. suffix_at (suc i) rest) (omega arith)
 
-pub blanks_later : (line : List ℕ) (at : ℕ) → at ≤ length line
-    → ((k : ℕ) → k < at → is_blank (get_or line k 0) ≡ true → ⊥) → after_nonblanks line ≡ after_nonblanks (drop at line)
-blanks_later line zero high none = refl
-blanks_later [] (suc at) high none = refl
-blanks_later (b ∷ bytes) (suc at) high none = grind (arith, b, (none 0 (omega arith)))
-    ∙ blanks_later _ at (omega arith) (λ k lt. none (suc k) (omega arith))
+nth_end : (j m n k : ℕ) (bytes : List ℕ) → IsNth is_set 0 n (ends_in j bytes) k
+    → suffix_at (suc n) (take m bytes) ≡ drop (suc k) (take m bytes)
+nth_end zero m n k bytes (within, _, _) = absurd (omega arith)
+nth_end (suc j) m n k [] (within, _, _) = absurd (omega arith)
+nth_end (suc j) zero n k (b ∷ bytes) h = refl
+nth_end (suc j) (suc zero) n k (b ∷ bytes) h = grind (arith, suffix_none)
+nth_end (suc j) (suc (suc m)) n k (b ∷ []) h = grind (arith, suffix_none)
+nth_end (suc j) (suc (suc m)) n zero (b ∷ c ∷ bytes) (within, passes, counted) = grind arith
+nth_end (suc j) (suc (suc m)) n (suc k) (b ∷ c ∷ bytes) (within, passes, counted) =
+    let m' = count_by is_set (take k (ends_in j (c ∷ bytes))) in
+    step n m' (c ∷ take m bytes) (ends_word b (c ∷ bytes)) (sym counted ∙ counted_one _ (take k (ends_in j (c ∷ bytes))))
+    ∙ nth_end j (suc m) m' k (c ∷ bytes) (omega arith, passes, refl)
 
-is_space : (b : ℕ) → (b == 32) ≡ true → is_blank b ≡ true
-is_space b e = cc
+none_after : (t : Bool) (n : ℕ) → cond t (suffix_at n []) (suffix_at (suc n) []) ≡ []
+none_after true n = suffix_none n
+none_after false n = refl
 
--- by a search for a space and one for a tab
-module _ (line : List ℕ) (a b : ℕ) (no_space : Nowhere (Passes (is_byte 32) line) 0 a)
-    (no_tab : Nowhere (Passes (is_byte 9) line) 0 b) where
-  pub both_later : min a b ≤ length line → after_nonblanks line ≡ after_nonblanks (drop (min a b) line)
-  both_later high = blanks_later _ _ high (λ k lt. grind arith)
+skip_ends : (j m n : ℕ) (bytes : List ℕ) → count_by is_set (ends_in j bytes) ≤ n
+    → suffix_at (suc n) (take m bytes) ≡ suffix_at (suc (n - count_by is_set (ends_in j bytes))) (drop j (take m bytes))
+skip_ends zero m n bytes few = grind arith
+skip_ends (suc j) zero n bytes few = refl
+skip_ends (suc j) (suc m) n [] few = refl
+skip_ends (suc j) (suc zero) n (b ∷ bytes) few = none_after (ends_word b []) n
+    ∙ sym (ap (suffix_at (suc (n - count_by is_set (ends_in (suc j) (b ∷ bytes))))) (drop_all j [] (omega arith)))
+skip_ends (suc j) (suc (suc m)) n (b ∷ []) few = none_after (ends_word b []) n
+    ∙ sym (ap (suffix_at (suc (n - count_by is_set (ends_in (suc j) (b ∷ []))))) (drop_all j [] (omega arith)))
+skip_ends (suc j) (suc (suc m)) n (b ∷ c ∷ bytes) few =
+    let t = ends_word b (c ∷ bytes) in
+    let rest = count_by is_set (ends_in j (c ∷ bytes)) in
+    let counted : count_by is_set (ends_in (suc j) (b ∷ c ∷ bytes)) ≡ cond t 1 0 + rest =
+    counted_one t (ends_in j (c ∷ bytes)) in
+    let enough : cond t 1 0 + rest ≤ n = omega (arith, counted) in
+    let same : n - cond t 1 0 - rest ≡ n - count_by is_set (ends_in (suc j) (b ∷ c ∷ bytes)) = omega arith in
+    step n (n - cond t 1 0) (c ∷ take m bytes) t (omega arith)
+    ∙ skip_ends j (suc m) (n - cond t 1 0) (c ∷ bytes) (omega arith)
+    ∙ ap (λ i. suffix_at (suc i) (drop j (c ∷ take m bytes))) same
 
-  pub both_near : {n : ℕ} → (a < n → Passes (is_byte 32) line a) → (b < n → Passes (is_byte 9) line b) → n ≤ length line
-      → min a b < n → after_nonblanks line ≡ drop (min a b) line
-  both_near = grind (arith, after_at, is_space)
+-- the range from an index that may be after its end
+pub range_from : (bytes : List ℕ) (at to : ℕ) → take (to - min at to) (drop (min at to) bytes)
+    ≡ take (to - at) (drop at bytes)
+range_from bytes at to = ⊎_elim
+    (λ less. let same : min at to ≡ at = omega arith in ap (λ i. take (to - i) (drop i bytes)) same)
+    (λ more.
+    let same : min at to ≡ to = omega arith in
+    let none : to - to ≡ 0 = omega arith in
+    let none_left : to - at ≡ 0 = omega arith in
+    ap (λ i. take (to - i) (drop i bytes)) same ∙ ap (λ i. take i (drop to bytes)) none
+    ∙ sym (ap (λ i. take i (drop at bytes)) none_left)) (cases_lt at to)
+
+-- ---- by the mask of a window
+
+module _ (bytes : List ℕ) {ends : ℕ} (is : ends ≡ mask_l (field_ends 15 bytes)) where
+  as_numbers : ends ≡ mask_l (map is_set (ends_in 15 bytes))
+  as_numbers = is ∙ ap mask_l (sym (as_flags 15 bytes))
+
+  pub ends_counted : {count : ℕ} → count ≡ count_ones ends → count ≡ count_by is_set (ends_in 15 bytes)
+  ends_counted count_is = count_is ∙ ap count_ones as_numbers ∙ ones-mask_l is_set (ends_in 15 bytes)
+
+  pub nth_in_window : {count left k : ℕ} → count ≡ count_ones ends → 0 < left → left ≤ count
+      → ((test : ℕ → Bool) (xs : List ℕ) → length xs ≤ 64 → ends ≡ mask_l (map test xs) → left - 1 < count_by test xs
+      → IsNth test 0 (left - 1) xs k)
+      → IsNth is_set 0 (left - 1) (ends_in 15 bytes) k
+  nth_in_window count_is some enough found =
+      found is_set (ends_in 15 bytes) (omega (arith, length-ends_in 15 bytes)) as_numbers
+      (omega (arith, ends_counted count_is))
+
+  pub near : {n k : ℕ} → IsNth is_set 0 n (ends_in 15 bytes) k → k < 15
+  near (within, _, _) = omega (arith, length-ends_in 15 bytes)
+
+module _ (bytes : List ℕ) (at to : ℕ) {left : ℕ} (some : 0 < left) where
+  pub key_in_window : {k from : ℕ} → IsNth is_set 0 (left - 1) (ends_in 15 (drop at bytes)) k
+      → from ≡ min (at + k + 1) to
+      → suffix_at left (take (to - at) (drop at bytes)) ≡ take (to - from) (drop from bytes)
+  key_in_window {k} {from} h is =
+      let n : left ≡ suc (left - 1) = omega arith in
+      let size : to - at - suc k ≡ to - (at + suc k) = omega arith in
+      let start : min (at + suc k) to ≡ from = omega arith in
+      ap (λ i. suffix_at i (take (to - at) (drop at bytes))) n
+      ∙ nth_end 15 (to - at) (left - 1) k (drop at bytes) h
+      ∙ rest_of (suc k) (to - at) (drop at bytes)
+      ∙ ap (take (to - at - suc k)) (drop-drop (suc k) at bytes)
+      ∙ ap (λ i. take i (drop (at + suc k) bytes)) size
+      ∙ sym (range_from bytes (at + suc k) to)
+      ∙ ap (λ i. take (to - i) (drop i bytes)) start
+
+  pub key_after_window : count_by is_set (ends_in 15 (drop at bytes)) < left
+      → suffix_at (left - count_by is_set (ends_in 15 (drop at bytes))) (take (to - (at + 15)) (drop (at + 15) bytes))
+      ≡ suffix_at left (take (to - at) (drop at bytes))
+  key_after_window few =
+      let count = count_by is_set (ends_in 15 (drop at bytes)) in
+      let n : left ≡ suc (left - 1) = omega arith in
+      let next : suc (left - 1 - count) ≡ left - count = omega arith in
+      let size : to - at - 15 ≡ to - (at + 15) = omega arith in
+      let rest = rest_of 15 (to - at) (drop at bytes) ∙ ap (take (to - at - 15)) (drop-drop 15 at bytes)
+      ∙ ap (λ i. take i (drop (at + 15) bytes)) size in
+      sym (ap (λ i. suffix_at i (take (to - at) (drop at bytes))) n
+      ∙ skip_ends 15 (to - at) (left - 1) (drop at bytes) (omega arith)
+      ∙ ap (λ i. suffix_at i (drop 15 (take (to - at) (drop at bytes)))) next
+      ∙ ap (suffix_at (left - count)) rest)
+
+-- ---- the mask of a window
+
+abbrev is_word : ℕ → Bool
+is_word b = not (is_blank b)
+
+word_mask : (bytes : List ℕ) → mask_l (map is_word bytes) + mask_l (map is_blank bytes) + 1 ≡ 2 ^ length bytes
+word_mask [] = refl
+word_mask (b ∷ bytes) = search (rules, word_mask bytes)
+
+and_ends : (j : ℕ) (bytes : List ℕ) → j < length bytes
+    → bit_and (mask_l (map is_word (take (suc j) bytes))) (mask_l (map is_blank (take (suc j) bytes)) / 2)
+    ≡ mask_l (field_ends j bytes)
+and_ends j [] more = absurd (omega arith)
+and_ends zero (b ∷ bytes) more = grind (arith, and_zero_r)
+and_ends (suc j) (b ∷ []) more = absurd (omega arith)
+and_ends (suc j) (b ∷ c ∷ bytes) more = grind (arith, and_ends j (c ∷ bytes), and_step)
+
+module _ (bytes : List ℕ) (at : ℕ) (room : at + 16 ≤ length bytes) {blanks : ℕ}
+    (is : blanks ≡ mask_l (map is_blank (chunk at 16 bytes)))
+  where
+    pub blanks_fit : blanks ≤ 65535
+    blanks_fit =
+        let long = length-map (chunk at 16 bytes) is_blank ∙ length-chunk at 16 bytes room in
+        let low : mask_l (map is_blank (chunk at 16 bytes)) < 2 ^ 16 = rw long at (mask_l-lt (map is_blank (chunk at 16 bytes))) in
+        omega arith
+
+    pub ends_mask : bit_and (65535 - blanks) (blanks / 2) ≡ mask_l (field_ends 15 (drop at bytes))
+    ends_mask =
+        let v = chunk at 16 bytes in
+        let all : mask_l (map is_word v) + mask_l (map is_blank v) + 1 ≡ 2 ^ 16 =
+        rw (length-chunk at 16 bytes room) at (word_mask v) in
+        let words : 65535 - blanks ≡ mask_l (map is_word v) = omega arith in
+        rw (words, is) (and_ends 15 (drop at bytes) (grind usual))
+
+either : (a b : Bool) → top 7 (bit_or (cond a 255 0) (cond b 255 0)) ≡ (a || b)
+either true true = refl
+either true false = refl
+either false true = refl
+either false false = refl
+
+pub blanks_are : (v : List ℕ) → length v ≡ 16
+    → mask_l (map (top 7) (zip2 bit_or (zip2 (λ a b. cond (eqb a b) 255 0) v (replicate 16 32))
+    (zip2 (λ a b. cond (eqb a b) 255 0) v (replicate 16 9)))) % 2 ^ 64 ≡ mask_l (map is_blank v)
+blanks_are v long =
+    let few : length (map is_blank v) ≤ 64 = omega (arith, length-map v is_blank) in
+    let spaces = zip2_splat (λ a b. cond (eqb a b) 255 0) v 16 32 long in
+    let tabs = zip2_splat (λ a b. cond (eqb a b) 255 0) v 16 9 long in
+    ap (λ ms. mask_l ms % 2 ^ 64) (ap (map (top 7)) (zip2_of_maps bit_or _ _ v spaces tabs) ∙ map-map (top 7) _ v
+    ∙ (λ i. map (λ b. either (eqb b 32) (eqb b 9) i) v))
+    ∙ mask_l-mod (map is_blank v) 64 few

@@ -1,6 +1,6 @@
 //! Finds occurrences of a byte by match masks of 64 bytes. `cut` by fields finds delimiters and terminators by
-//! `ByteMatches`; `paste` calls `nth_index` and `find_by_mask`, and `uniq` calls `find_line_end`. `cut` by bytes and
-//! `replace` use a `match_mask` alone.
+//! `ByteMatches`; `paste` calls `nth_index` and `find_by_mask`, and `uniq` calls `find_line_end` and `nth_bit`. `cut` by
+//! bytes and `replace` use a `match_mask` alone.
 
 ghost use Rattle.std.specs.Prelude.{◌≡◌, ◌<◌, ◌≤◌, ◌+◌, ◌-◌, ℕ, Bool, List, Some, IfSome, length, map, take, drop};
 ghost use Rattle.std.specs.List.{count_by};
@@ -24,7 +24,7 @@ pub(crate) fn match_mask(byte: u8, bytes: &[u8], at: usize) -> u64
 
 // The index of the set bit after `count` other set bits.
 #[inline(always)]
-fn nth_bit(mask: u64, count: u64) -> usize
+pub(crate) fn nth_bit(mask: u64, count: u64) -> usize
     ensures { (test : ℕ → Bool) (bytes : List ℕ) → length bytes ≤ 64 → mask ≡ mask_l (map test bytes)
         → count < count_by test bytes → IsNth test 0 count bytes result }
 {

@@ -62,7 +62,8 @@ impl LineUniq<'_> {
     fn is_same_run(&self, first: &[u8], line: &[u8]) -> bool
         ensures { result ≡ (nat_lt 0 self.now.run.count && is_same (uniq_job self.now.by.job.now) first.now line.now) }
     {
-        self.run.count > 0 && key(self.by.job, first) == key(self.by.job, line)
+        let job = self.by.job;
+        self.run.count > 0 && key(job, first, first.len()) == key(job, line, line.len())
     }
 
     // The first line of the current run.

@@ -172,10 +172,10 @@ impl RunWriter<'_> {
         let mut count = carried;
         let mut line = None;
         let mut pending = Span { from: 0, to: 0 };
-        let mut run_key = key(job, first);
+        let mut run_key = key(job, first, first.len());
         let mut rest = block;
         'lines: while let Some(at) = find_line_end(terminator, rest) {
-            let next = key(job, &rest[..at]);
+            let next = key(job, rest, at);
             if is_equal(run_key, next) {
                 let (repeats, left) = skip_repeats(rest, at + 1);
                 count += 1 + repeats;

@@ -1,16 +1,15 @@
 //! The key of a line: the part that `uniq` compares.
 
-ghost use Rattle.std.specs.Prelude.{◌≡◌, ◌<◌, ◌≤◌};
-ghost use Rattle.memchr.specs.Find.{Nowhere, Passes, is_byte};
+ghost use Rattle.std.specs.Prelude.{◌≡◌, ◌<◌, ◌≤◌, ◌+◌, take, drop, map, length};
+ghost use Rattle.std.specs.Simd.Lanes.{chunk, mask_l};
 ghost use Rattle.ptlangs.specs.Jobs.{uniq_job};
-ghost use Rattle.ptflow.specs.Uniqs.{after_fields, key};
 ghost use Rattle.ptlines.specs.Text.{is_blank};
-ghost use Rattle.ptflow.specs.Private.Uniq.Blanks.{after_nonblanks};
-ghost use Rattle.ptlines.specs.Private.Bounds.{HasChunk};
+ghost use Rattle.ptflow.specs.Uniqs.{after_fields, ends_word, key};
+ghost use Rattle.ptflow.specs.Private.Uniq.FieldEnds.{field_ends};
 
-use memchr::memchr2;
+use crate::simd::find_nth::nth_bit;
 use ptlangs::jobs::UniqJob;
-use ptlines::find_in_chunk;
+use std::simd::prelude::*;
 
 fn is_blank(byte: u8) -> bool
     ensures { result ≡ is_blank byte }
@@ -18,115 +17,97 @@ fn is_blank(byte: u8) -> bool
     byte == b' ' || byte == b'\t'
 }
 
-// Skips the bytes before the first blank. Out of line, so that a blank near the start is found without a call.
+// Checks whether a field ends with this byte, which is before `rest`.
+fn ends_word(byte: u8, rest: &[u8]) -> bool
+    ensures { result ≡ ends_word byte rest.now }
+{
+    match rest {
+        [next, ..] => !is_blank(byte) && is_blank(*next),
+        [] => !is_blank(byte),
+    }
+}
+
+// Skips `fields` fields, byte by byte. For few bytes.
 #[inline(never)]
-#[tactic(auto, using(crate::proofs::UniqLemmas::Keys::after_first, std::proofs::lemmas::Grind::common_steps))]
-fn skip_nonblanks_cold(line: &[u8]) -> &[u8]
-    ensures { result.now ≡ after_nonblanks line.now }
+fn skip_fields_short(fields: u64, line: &[u8]) -> &[u8]
+    ensures { result.now ≡ after_fields fields line.now }
 {
-    let at = memchr2(b' ', b'\t', line).unwrap_or(line.len());
-    &line[at..]
-}
-
-// The index of the first match among the first `N` bytes, or `N`.
-#[inline(always)]
-fn find_or_n<const N: usize>(byte: u8, line: &[u8]) -> usize
-    requires { HasChunk N 0 line.now }
-    ensures before { Nowhere (Passes (is_byte byte) line.now) 0 result }
-    ensures found { result < N → Passes (is_byte byte) line.now result }
-    ensures within { result ≤ N }
-{
-    find_in_chunk::<N>(byte, line, 0).unwrap_or(N)
-}
-
-// Like `skip_nonblanks_cold`, but tests the first `N` bytes inline.
-#[inline(always)]
-fn skip_nonblanks_long<const N: usize>(line: &[u8]) -> &[u8]
-    requires { HasChunk N 0 line.now }
-    ensures { result.now ≡ after_nonblanks line.now }
-{
-    let at = find_or_n::<N>(b' ', line).min(find_or_n::<N>(b'\t', line));
-    if at < N {
-        return &line[at..];
-    }
-    skip_nonblanks_cold(&line[N..])
-}
-
-// Like `skip_nonblanks_cold`, byte by byte, for few bytes.
-#[inline(always)]
-fn skip_nonblanks_short(line: &[u8]) -> &[u8]
-    ensures { result.now ≡ after_nonblanks line.now }
-{
-    for at in 0..line.len() {
-        if is_blank(line[at]) {
-            return &line[at..];
-        }
-    }
-    &line[line.len()..]
-}
-
-// Skips the bytes before the first blank.
-#[inline(always)]
-fn skip_nonblanks(line: &[u8]) -> &[u8]
-    ensures { result.now ≡ after_nonblanks line.now }
-{
-    if line.len() >= 16 {
-        return skip_nonblanks_long::<16>(line);
-    }
-    if line.len() >= 8 {
-        return skip_nonblanks_long::<8>(line);
-    }
-    skip_nonblanks_short(line)
-}
-
-// Skips one field, which is blanks and then other bytes.
-#[tactic(auto, using(crate::proofs::UniqLemmas::Keys::other_first, crate::proofs::UniqLemmas::Keys::after_one))]
-fn skip_field(line: &[u8]) -> &[u8]
-    ensures { result.now ≡ after_fields 1 line.now }
-{
+    let mut left = fields;
     let mut rest = line;
-    'blanks: while let [byte, tail @ ..] = rest {
-        if !is_blank(*byte) {
-            return skip_nonblanks(rest);
+    'bytes: while let [byte, tail @ ..] = rest {
+        if left == 0 {
+            return rest;
+        }
+        if ends_word(*byte, tail) {
+            left -= 1;
         }
         rest = tail;
     }
     rest
 }
 
-// Skips `fields` fields. Out of line, since few jobs skip fields.
-#[inline(never)]
-#[tactic(auto, using(crate::proofs::UniqLemmas::Keys::suffix_step, crate::proofs::UniqLemmas::Keys::suffix_is))]
-fn skip_fields_cold(fields: u64, line: &[u8]) -> &[u8]
-    ensures { result.now ≡ after_fields fields line.now }
+// The mask of the blanks among the 16 bytes at index `at`: bit `i` is set if the byte at `at + i` is one.
+#[inline(always)]
+fn blank_mask(bytes: &[u8], at: usize) -> u64
+    requires { at + 16 ≤ length bytes.now }
+    ensures { result ≡ mask_l (map is_blank (chunk at 16 bytes.now)) }
 {
-    let mut rest = line;
-    for _field in 0..fields {
-        if rest.is_empty() {
-            return rest;
-        }
-        rest = skip_field(rest);
-    }
-    rest
+    let v = u8x16::from_slice(&bytes[at..]);
+    (v.simd_eq(u8x16::splat(b' ')) | v.simd_eq(u8x16::splat(b'\t'))).to_bitmask()
 }
 
-// Like `skip_fields_cold`, but inline if no fields are skipped.
+// The mask of the field ends among the 15 bytes at index `at`: each is not a blank, but the byte after it is.
 #[inline(always)]
-fn skip_fields(fields: u64, line: &[u8]) -> &[u8]
-    ensures { result.now ≡ after_fields fields line.now }
+fn field_ends(bytes: &[u8], at: usize) -> u64
+    requires { at + 16 ≤ length bytes.now }
+    ensures { result ≡ mask_l (field_ends 15 (drop at bytes.now)) }
+{
+    let blanks = blank_mask(bytes, at);
+    (0xffff - blanks) & blanks >> 1
+}
+
+// Skips `fields` fields of the line `bytes[..to]`, 15 bytes at a time. May read bytes after the line. Out of line, since
+// few jobs skip fields.
+#[inline(never)]
+fn skip_fields_cold(fields: u64, bytes: &[u8], to: usize) -> &[u8]
+    requires some { 0 < fields }
+    requires within { to ≤ length bytes.now }
+    ensures { result.now ≡ after_fields fields (take to bytes.now) }
+{
+    let mut at = 0;
+    let mut left = fields;
+    while at < to && bytes.len() - at >= 16 {
+        let ends = field_ends(bytes, at);
+        let count = u64::from(ends.count_ones());
+        if left <= count {
+            let end = at + nth_bit(ends, left - 1);
+            return &bytes[(end + 1).min(to)..to];
+        }
+        left -= count;
+        at += 15;
+    }
+    skip_fields_short(left, &bytes[at.min(to)..to])
+}
+
+// Skips `fields` fields of the line `bytes[..to]`. Inline if no fields are skipped.
+#[inline(always)]
+fn skip_fields(fields: u64, bytes: &[u8], to: usize) -> &[u8]
+    requires { to ≤ length bytes.now }
+    ensures { result.now ≡ after_fields fields (take to bytes.now) }
 {
     if fields == 0 {
-        return line;
+        return &bytes[..to];
     }
-    skip_fields_cold(fields, line)
+    skip_fields_cold(fields, bytes, to)
 }
 
-// The part of a line that is compared.
+// The part of the line `bytes[..to]` that is compared.
 #[inline(always)]
-pub(crate) fn key<'a>(job: &UniqJob, line: &'a [u8]) -> &'a [u8]
-    ensures { result.now ≡ key (uniq_job job.now) line.now }
+pub(crate) fn key<'a>(job: &UniqJob, bytes: &'a [u8], to: usize) -> &'a [u8]
+    requires { to ≤ length bytes.now }
+    ensures { result.now ≡ key (uniq_job job.now) (take to bytes.now) }
 {
-    let rest = skip_fields(job.fields, line);
+    let rest = skip_fields(job.fields, bytes, to);
     let passed = job.chars.min(rest.len() as u64) as usize;
     &rest[passed..]
 }

@@ -1,10 +1,52 @@
 use Rattle.ptflow.proofs
-use proofs.Common.{◌-◌, sym, ◌∙◌, eqb-true, nil_from_length}
-use proofs.UniqLemmas.Keys.{at_end}
+use proofs.Common.{◌-◌, ◌+◌, ◌∙◌, take, drop, sym, ap, arith}
+use proofs.UniqLemmas.Keys.{ends_counted, key_after_window, key_in_window, near, nth_in_window, range_from, suffix_at}
+use proofs.UniqLemmas.Keys.{suffix_is}
 use proofs.tools.uniq.line_key.skip_fields_cold.Goals as goal
 
-pub returns-then-is_empty : goal.returns-then-is_empty
-returns-then-is_empty c =
-    let rest = c.loop-field.rest.now in
-    at_end (c.args.fields - c.loop-field._field) c.args.fields rest c.args.line.now
-    (nil_from_length rest (eqb-true _ 0 (sym c.is_empty.ensures ∙ c.if-is_empty.true))) c.loop-field.invariant
+pub overflow_add-end : goal.overflow_add-end
+overflow_add-end c =
+    let ends = c.field_ends-ends.ensures in
+    let rest = drop c.loop-at.at c.args.bytes.now in
+    omega (arith, near rest ends (nth_in_window rest ends c.from-count.ensures (omega arith) (omega arith) c.nth_bit.ensures))
+
+pub overflow_add-end-then-left-count : goal.overflow_add-end-then-left-count
+overflow_add-end-then-left-count c =
+    let ends = c.field_ends-ends.ensures in
+    let rest = drop c.loop-at.at c.args.bytes.now in
+    omega (arith, near rest ends (nth_in_window rest ends c.from-count.ensures (omega arith) (omega arith) c.nth_bit.ensures))
+
+pub returns-then-left-count : goal.returns-then-left-count
+returns-then-left-count c =
+    let bytes = c.args.bytes.now in
+    let at = c.loop-at.at in
+    let nth = nth_in_window (drop at bytes) c.field_ends-ends.ensures c.from-count.ensures (omega arith) (omega arith)
+    c.nth_bit.ensures in
+    sym (key_in_window bytes at c.args.to (omega arith) nth c.min.ensures)
+    ∙ c.loop-at.invariant.3 ∙ suffix_is c.args.fields (take c.args.to bytes)
+
+pub loop-at-preserved : goal.loop-at-preserved
+loop-at-preserved c =
+    let bytes = c.args.bytes.now in
+    let at = c.loop-at.at in
+    let left = c.loop-at.left in
+    let counted = ends_counted (drop at bytes) c.field_ends-ends.ensures c.from-count.ensures in (
+      omega arith,
+      omega arith,
+      omega arith,
+      ap (λ n. suffix_at (left - n) (take (c.args.to - (at + 15)) (drop (at + 15) bytes))) counted
+          ∙ key_after_window bytes at c.args.to (omega arith) (omega (arith, counted)) ∙ c.loop-at.invariant.3,
+    )
+
+pub returns : goal.returns
+returns c =
+    let bytes = c.args.bytes.now in
+    let at = c.loop-at.at in
+    cc (
+      c.skip_fields_short.ensures,
+      suffix_is c.loop-at.left (take (c.args.to - at) (drop at bytes)),
+      range_from bytes at c.args.to,
+      c.min-2.ensures,
+      c.loop-at.invariant.3,
+      suffix_is c.args.fields (take c.args.to bytes),
+    )

@@ -1,7 +1,13 @@
+-- `left` field ends are still to be skipped.
 use Rattle.ptflow.proofs
-use Rattle.std.proofs.Common.{◌≡◌, ◌-◌}
+use proofs.Common.{◌≡◌, ◌<◌, ◌≤◌, ◌-◌, length, take, drop}
 use proofs.UniqLemmas.Keys.{suffix_at}
 use proofs.tools.uniq.line_key.skip_fields_cold.Given as goal
 
-abbrev pub invariant-loop-field : goal.invariant-loop-field
-invariant-loop-field l = suffix_at (l.fields - l._field) l.rest ≡ suffix_at l.fields l.line
+abbrev pub invariant-loop-at : goal.invariant-loop-at
+invariant-loop-at l =
+    (l.at ≤ length l.bytes) × (0 < l.left) × (l.left ≤ l.fields)
+    × (suffix_at l.left (take (l.to - l.at) (drop l.at l.bytes)) ≡ suffix_at l.fields (take l.to l.bytes))
+
+abbrev pub decreases-loop-at : goal.decreases-loop-at
+decreases-loop-at l = length l.bytes - l.at

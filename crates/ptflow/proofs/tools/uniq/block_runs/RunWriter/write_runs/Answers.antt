@@ -2,7 +2,8 @@
 -- is pushed or deferred.
 use Rattle.ptflow.proofs
 use proofs.Common.{◌+◌, IsLine, length, refl, ap, arith, length-append, length-drop, take_rest, line_if_not_found}
-use proofs.Common.{uniq_job, usual, rules, take_at}
+use proofs.Common.{◌∙◌, take_all, uniq_job, usual, rules, take_at}
+use Rattle.ptflow.specs.Uniqs.{key}
 use proofs.Passes.Exits.{on_err, wrote_then}
 use proofs.UniqLemmas.Runs.{RunsInvariant, runs_loop_starts, runs_loop_few, runs_loop_next, all_lines, runs_loop_failed}
 use proofs.UniqLemmas.Runs.{runs_loop_repeats, running_unended, passed_is, steps_written}
@@ -11,7 +12,11 @@ use proofs.tools.uniq.block_runs.RunWriter.write_runs.Goals as goal
 use Rattle.ptflow.proofs.tools.uniq.block_runs.RunWriter.write_runs.Goals.{In_default, After-left-1}
 
 pub lines-init : goal.lines-init
-lines-init g c = search runs_loop_starts
+lines-init g c =
+    let job = uniq_job c.args.self.now.job.now in
+    let first = c.args.first.now in
+    let whole = take_all (length first) first (omega arith) in
+    runs_loop_starts job first c.args.block.now (omega arith) (c.key-run_key.ensures ∙ ap (key job) whole) c.args.out.now
 
 after : (g : given.Over) (c : After-left-1 g)
     → RunsInvariant (uniq_job c.args.self.now.job.now) c.args.first.now c.args.block.now

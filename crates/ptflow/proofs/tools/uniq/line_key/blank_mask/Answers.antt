@@ -1,0 +1,7 @@
+use Rattle.ptflow.proofs
+use proofs.Common.{chunk, length-chunk}
+use proofs.UniqLemmas.Keys.{blanks_are}
+use proofs.tools.uniq.line_key.blank_mask.Goals as goal
+
+pub returns : goal.returns
+returns c = blanks_are (chunk c.args.at 16 c.args.bytes.now) (length-chunk c.args.at 16 c.args.bytes.now c.requires)
