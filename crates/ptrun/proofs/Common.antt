@@ -25,10 +25,9 @@ pub use Rattle.ptopts.specs.View.{CommandPost, fault_view}
 pub use Rattle.ptopts.specs.Commands.{command_view, words_view}
 pub use Rattle.ptopts.specs.declared.inputs.Input.{Input}
 pub use specs.CommandSpec.{CommandSpec, ended_operands, messages, unopened_messages}
-pub use specs.Private.Driver.{AreSoundAt, HasIndexBelow, InputsPre, OperandPost, RunInputsEnd, RunInputsPost}
+pub use specs.Private.Driver.{AreSoundAt, DecidesAll, HasIndexBelow, InputsPre, RunInputsEnd, RunInputsPost}
 pub use specs.Files.{AreInputsConsistent, AreReadToEnd, HasReadFailed, HaveReceived, InputBytes, IsTooLong}
 pub use specs.Files.{ReceivedInputs, is_reader_unopened, is_unopened}
-pub use specs.Joint.{only_operand}
 pub use specs.Private.Lag.{IsPushedUpToBlock}
 pub use specs.MessageWrites.{HasSaid, line_of}
 pub use specs.Calls.MessageWrites.{SayPost, texts}
@@ -37,10 +36,10 @@ pub use specs.Private.Messages.{usage_status}
 pub use specs.Operands.{decided_in_order, position, positions, up_to_unended}
 pub use specs.Runs.{HasCause, IsRun, outcome, sinks}
 pub use specs.SpecOfArgs.{command_spec, spec_of_parsed}
-pub use specs.Tools.{OneByOne, Together, ToolInRun, spec_of_tool}
-pub use specs.Private.Tools.{DecidesAll, DecidesAllInTurn, reads_together}
-pub use specs.declared.tool.Completion.{Completion}
-pub use specs.declared.tool.Completion.TheVariants.{AllWritten, Disorder, Unopened}
+pub use specs.Tools.{spec_of_tool}
+pub use specs.declared.driver.Completion.{Completion}
+pub use specs.declared.driver.Completion.TheVariants.{AllWritten, Disordered, Unopened}
+pub use specs.declared.tool.Disorder.{Disorder}
 pub use Rattle.std.proofs.Common.{Bool, Err, List, None, Ok, Option, Result, Some, [], ap, append_assoc, arith, cond}
 pub use Rattle.std.proofs.Common.{drop, false, get_or, inl, inr, length, length-append, length-drop, length-set, map}
 pub use Rattle.std.proofs.Common.{max, refl, rules, set, subst, suc, sym, take, take-append-drop, true, zero, ℕ}

@@ -3,18 +3,21 @@
 -- two readers change. If an operand could not be opened, nothing but messages is required.
 use Rattle.ptrun.proofs
 use Rattle.ptrun.specs
-use proofs.Common.{AllPushed, AllWritten, AreInputsConsistent, AreReadToEnd, Bool, BoundedLag, CallOutcome, Completion}
-use proofs.Common.{Disorder, Err, FlowFault, HasIndexBelow, HasReadFailed, HaveReceived, InputBytes, IsDone, IsTooLong}
-use proofs.Common.{List, Memory, None, Ok, Option, Output, PassPost, Paste, Read, Reader, Received, ReceivedInputs}
-use proofs.Common.{Result, RunInputsEnd, RunInputsPost, SinkState, Slots, Some, ToolSpec, Write, [], ap, arith}
-use proofs.Common.{call_state, cases_eq, usual, cond, drop, ended_operands, eqb-true, eqb_tells, false, false≢true}
-use proofs.Common.{get_or, get_or_default, inl, inr, is_in, is_reader_unopened, is_unopened, length, length-set}
-use proofs.Common.{list_any, list_any-append, no_reader, only_input, option_map, pass_end, pass_engine, positions}
-use proofs.Common.{reader_at, refl, rules, set, slice_get, subst, suc, sym, take, take-append-drop, true}
-use proofs.Common.{unopened_messages, zero, ℕ, ⊎_elim, ◌++◌, ◌+◌, ◌<◌, ◌==◌, ◌∙◌, ◌∷◌, ◌≡◌, ◌≤◌, ◌⊎◌, ◌||◌}
+use proofs.Common.{All, AllPushed, AllWritten, AreInputsConsistent, AreReadToEnd, Bool, BoundedLag, CallOutcome}
+use proofs.Common.{Completion, Disorder, Disordered, Err, FlowFault, HasIndexBelow, HasReadFailed, HaveReceived}
+use proofs.Common.{InputBytes, InputsPre, IsDone, IsRun, IsTooLong, List, Memory, None, Ok, Option, Output, PassPost}
+use proofs.Common.{Paste, Read, Reader, Received, ReceivedInputs, Result, RunInputsEnd, RunInputsPost, SinkState, Slots}
+use proofs.Common.{Some, ToolSpec, Write, [], ap, append-nil, arith, call_state, cases_eq, usual, cond, drop}
+use proofs.Common.{ended_operands, eqb-true, eqb_tells, false, false≢true, get_or, get_or_default, inl, inr, is_in}
+use proofs.Common.{is_reader_unopened, is_unopened, length, length-set, list_any, list_any-append, no_reader}
+use proofs.Common.{only_input, option_map, pass_end, pass_engine, positions, reader_at, refl, rules, set, sinks}
+use proofs.Common.{slice_get, subst, suc, sym, take, take-append-drop, total_bytes, true, unopened_messages, zero, ℕ}
+use proofs.Common.{⊎_elim, ◌++◌, ◌+◌, ◌<◌, ◌==◌, ◌∙◌, ◌∷◌, ◌≡◌, ◌≤◌, ◌⊎◌, ◌||◌}
 use proofs.MessageWrites.{said_nothing}
 use proofs.OperandInputs.{any_same, at_set, each_listed, fresh_all, is_in-same, lagged_output, none_passes}
-use proofs.OperandInputs.{none_received, opened_set, put_here, put_other, received_of, same_here, some_same}
+use proofs.OperandInputs.{none_received, nothing_read, opened_set, put_here, put_other, received_of, same_here}
+use proofs.OperandInputs.{some_same, unopened_agrees}
+use proofs.RunEnds.{unread as unread_run}
 use Rattle.ptflow.proofs.PasteLemmas.BufferedRows.Rows.Grid.{cell_in, decided_same}
 use Rattle.ptflow.specs.Calls.PasteCall.{PastePost, paste_end}
 use Rattle.ptflow.specs.PasteCall.{paste_engine}
@@ -28,11 +31,12 @@ use Rattle.ptmerge.specs.Calls.MergeSpec.{merge_engine}
 use Rattle.ptmerge.specs.Calls.Sides.{both}
 use Rattle.ptmerge.specs.declared.faults.MergeFault.{MergeFault}
 use Rattle.ptmerge.specs.declared.key_order.Side.{Side}
-use specs.Private.Driver.{JointPost, JointPre, merge_completion, operand_completion, result_of_end, run_state}
-use specs.Private.Driver.{result_status}
+use specs.Private.Driver.{JointPost, JointPre, ReportUnopenedPost, fault_at, joint_completion, merge_found}
+use specs.Private.Driver.{result_of_end, result_status, run_state}
 use specs.Engines.{at_positions, line_at}
 use specs.Private.Engines.{end_at, in_run}
 use specs.Files.{IsNew, IsNewOrUnopened, at}
+use Rattle.std.proofs.Math.Seq.{take-length}
 use Rattle.std.proofs.lemmas.List.{get_or-set_other, get_or-set_same, set-append_left, set-append_right}
 use specs.Joint.{JointTool, bytes_of, has_unopened, joint_spec, one_input_tool, operand, paste_rows_tool, received_in}
 use specs.Joint.{two_input_tool}
@@ -134,6 +138,16 @@ one_placed p = record {
   placed_at = λ f u. refl;
 }
 
+abbrev found_in_pass : ℕ → Result (Unit {0}) FlowFault → Result (Option Disorder) FlowFault
+found_in_pass p (Ok u) = Ok None
+found_in_pass p (Err fault) = Err (fault_at p fault)
+
+pass_ends : (p : ℕ) (r : Result (Unit {0}) FlowFault) → found_in_pass p r ≡ result_of_end (end_at (λ u. p) (pass_end r))
+pass_ends p (Ok u) = refl
+pass_ends p (Err (Read index)) = refl
+pass_ends p (Err Write) = refl
+pass_ends p (Err Memory) = refl
+
 module _ {j : JointTool} {positions : List ℕ} {old : List Reader} {was : Output} {before : Slots}
     (ready : JointPre j positions old was before) (one : (length positions == 1) ≡ true) where
   pub only_operand_within : (d : ℕ) → get_or positions 0 d < length old
@@ -154,12 +168,12 @@ module _ {j : JointTool} {positions : List ℕ} {old : List Reader} {was : Outpu
 
     pub only_operand_post : (e : Reader) {t : ToolSpec} {is : Output} {store : Slots} {new : Reader}
         {result : Result (Unit {0}) FlowFault} → PassPost t (get_or old p e) new was is before store result
-        → JointPost (one_input_tool t) positions old (set old p new) was is before store (operand_completion p result)
+        → JointPost (one_input_tool t) positions old (set old p new) was is before store (found_in_pass p result)
     only_operand_post e {t} {is} {store} {new} {result} pass =
         subst (λ ps. JointPost (one_input_tool t) ps old (set old p new) was is before store
-        (operand_completion p result)) (sym (only_operand_of positions d one)) (record {
+        (found_in_pass p result)) (sym (only_operand_of positions d one)) (record {
           end = end_at (λ u. p) (pass_end result);
-          result_is = refl;
+          result_is = pass_ends p result;
           call = placed_call (pass_engine t) (λ u. p) (one_placed p) old (set old p new)
               (λ q other. get_or-set_other old p q new no_reader (λ same. false≢true (grind arith))) ready.writable
               (λ few. (tt, refl, new_here.eof))
@@ -170,13 +184,13 @@ module _ {j : JointTool} {positions : List ℕ} {old : List Reader} {was : Outpu
         here : reader_at (set old p new) p ≡ new
         here = get_or-set_same old p new no_reader (only_operand_within d)
 
-abbrev rows_completion : Result (Unit {0}) FlowFault → Result Completion FlowFault
-rows_completion (Ok u) = Ok AllWritten
-rows_completion (Err fault) = Err fault
+abbrev found_in_rows : Result (Unit {0}) FlowFault → Result (Option Disorder) FlowFault
+found_in_rows (Ok u) = Ok None
+found_in_rows (Err fault) = Err fault
 
 module _ (job : Paste) {positions : List ℕ} {old : List Reader} {was : Output} {before : Slots}
     (ready : JointPre (paste_rows_tool job) positions old was before) where
-  completes : (r : Result (Unit {0}) FlowFault) → rows_completion r ≡ result_of_end (end_at (λ p. p) (paste_end r))
+  completes : (r : Result (Unit {0}) FlowFault) → found_in_rows r ≡ result_of_end (end_at (λ p. p) (paste_end r))
   completes (Ok u) = refl
   completes (Err (Read p)) = refl
   completes (Err Write) = refl
@@ -184,7 +198,7 @@ module _ (job : Paste) {positions : List ℕ} {old : List Reader} {was : Output}
 
   pub rows_post : {new : List Reader} {is : Output} {store : Slots} (result : Result (Unit {0}) FlowFault)
       → PastePost job positions old new was is before store result
-      → JointPost (paste_rows_tool job) positions old new was is before store (rows_completion result)
+      → JointPost (paste_rows_tool job) positions old new was is before store (found_in_rows result)
   rows_post {new} result k = record {
     end = end_at (λ p. p) (paste_end result);
     result_is = completes result;
@@ -290,13 +304,13 @@ module _ (engine : EngineSpec Side) {positions : List ℕ} {old : List Reader} {
       others q other = grind (usual, side_named)
 
       pub merge_post : {is : Output} {store : Slots} {result : Result (Unit {0}) MergeFault}
-          {completion : Result Completion FlowFault} (t : MergeTool) → merge_engine t ≡ engine
+          {found : Result (Option Disorder) FlowFault} (t : MergeTool) → merge_engine t ≡ engine
           → MergePost t (merge_state a b was before) (merge_state x y is store) result
-          → completion ≡ merge_completion (both (at_side First) (at_side Second)) result
-          → JointPost (two_input_tool engine) positions old new was is before store completion
-      merge_post {result = result} t same_engine post is_completion = record {
+          → found ≡ merge_found (both (at_side First) (at_side Second)) result
+          → JointPost (two_input_tool engine) positions old new was is before store found
+      merge_post {result = result} t same_engine post is_found = record {
         end = end_at at_side (merge_end result);
-        result_is = rw (is_completion, by_side (λ q. q) _ _ (refl, refl)) refl;
+        result_is = rw (is_found, by_side (λ q. q) _ _ (refl, refl)) refl;
         call = placed_call engine at_side two_placed old new others ready.writable
             (λ few. (First, refl, (new_at First).eof))
             (rw (
@@ -313,6 +327,35 @@ pub none_unopened : (word : List ℕ) (names : List (List ℕ)) (test : ℕ → 
     → list_any test positions ≡ false → unopened_messages word names test positions ≡ []
 none_unopened word names test [] none = refl
 none_unopened word names test (p ∷ positions) none = grind (arith, none_unopened word names test positions)
+
+module _ (word : List ℕ) (t : JointTool) (names : List (List ℕ)) (positions : List ℕ) {inputs : List Reader}
+    {messages_old messages_new : SinkState} {any_unopened : Bool}
+    (k : ReportUnopenedPost word names positions inputs messages_old messages_new any_unopened) where
+  pub unopened_run : {out : SinkState} → All IsNewOrUnopened inputs → out.failed ≡ false → any_unopened ≡ true
+      → IsRun (joint_spec word t names positions) inputs inputs (sinks out messages_old)
+      (record { out = out; messages = messages_new; status = 1; peak = 0; denied = false })
+  unopened_run fresh fine some =
+      unread_run _ 1 refl any (λ r same. rw (any_of (is_unopened r) same) refl) fresh fine k.has_said
+      (λ w agrees.
+      let same = unopened_agrees _ _ _ w (nothing_read _ (fresh_all _ fresh)) agrees in
+      rw (any_of (is_unopened w) same) (
+        refl,
+        rw (take-length positions, append-nil (unopened_messages word names (is_unopened w) positions))
+            (grind arith),
+        refl,
+      ))
+      (λ q named. absurd (false≢true named))
+    where
+      any : list_any (is_reader_unopened inputs) positions ≡ true
+      any = sym k.is ∙ some
+
+      any_of : (test : ℕ → Bool) → ((q : ℕ) → is_reader_unopened inputs q ≡ test q) → list_any test positions ≡ true
+      any_of test same = sym (any_same _ _ _ same) ∙ any
+
+  pub joint_pre : {was : Output} {before : Slots} → InputsPre (joint_spec word t names positions) inputs
+      → any_unopened ≡ false → was.write_failed ≡ false → before.denied ≡ false → total_bytes before.lines ≡ 0
+      → JointPre t positions inputs was before
+  joint_pre given none writable not_denied empty = grind arith
 
 -- ---- the position of a failure, as that of the first operand with this input
 
@@ -342,10 +385,10 @@ at_received given n (r ∷ readers) (suc q) m is = at_received given (n + 1) rea
 -- how a run ends that found a line out of order, given by position and number, or none
 abbrev completion_of : Option (ℕ × ℕ) → Completion
 completion_of None = AllWritten
-completion_of (Some found) = Disorder found.0 found.1
+completion_of (Some found) = Disordered (record { position = found.0; line = found.1 })
 
 module _ (word : List ℕ) {t : JointTool} (names : List (List ℕ)) {positions : List ℕ} {old new : List Reader}
-    {was is : Output} (messages_old : SinkState) {before store : Slots} {result : Result Completion FlowFault}
+    {was is : Output} (messages_old : SinkState) {before store : Slots} {result : Result (Option Disorder) FlowFault}
     (start : JointPre t positions old was before)
     (post : JointPost t positions old new was is before store result) where
   k : CallPost (inputs_at positions) (in_run (t.engine positions)) (run_state old was before)
@@ -444,7 +487,7 @@ module _ (word : List ℕ) {t : JointTool} (names : List (List ℕ)) {positions 
   }
 
   ending : (end : CallEnd ℕ)
-      → EndedAs end → Ending (result_of_end end)
+      → EndedAs end → Ending (joint_completion (result_of_end end))
   ending Complete e = all_pushed None e tt
   ending (OutOfOrder p line) e = all_pushed (Some (p, line)) e.pushed_all
       (each_listed (λ q. q < length old) positions start.in_range p e.named)
@@ -465,7 +508,7 @@ module _ (word : List ℕ) {t : JointTool} (names : List (List ℕ)) {positions 
   ending MemoryFault e = grind (arith, none_failed)
 
   left_by : (end : CallEnd ℕ)
-      → EndedAs end → result_of_end end ≡ Err Memory
+      → EndedAs end → joint_completion (result_of_end end) ≡ Err Memory
       → IsCallUnfinished (inputs_at positions) (in_run (t.engine positions)) (run_state new is store) k.given k.pushed
   left_by Complete e memory = cc
   left_by (OutOfOrder p line) e memory = cc
@@ -474,8 +517,8 @@ module _ (word : List ℕ) {t : JointTool} (names : List (List ℕ)) {positions 
   left_by MemoryFault e memory = e.left (omega arith)
 
   pub joint_post : RunInputsPost (joint_spec word t names positions) old new was is messages_old messages_old before
-      store result
-  joint_post = let e = subst Ending (sym post.result_is) (ending post.end k.ends) in record {
+      store (joint_completion result)
+  joint_post = let e = subst (λ r. Ending (joint_completion r)) (sym post.result_is) (ending _ k.ends) in record {
     received = received;
     came = came;
     pushed = k.pushed;
@@ -500,7 +543,7 @@ module _ (word : List ℕ) {t : JointTool} (names : List (List ℕ)) {positions 
         (λ (keeps, unwritten). inr (
           keeps,
           λ w agrees. rw (complete w agrees) (unwritten (bytes_of w) (agree w agrees)),
-        )) (left_by post.end k.ends (sym post.result_is ∙ memory));
+        )) (left_by post.end k.ends (sym (ap joint_completion post.result_is) ∙ memory));
     is_prefix = λ w agrees. rw (complete w agrees) (k.is_prefix (bytes_of w) (agree w agrees));
     names_failed_read = e.names_failed_read;
     decided_is_written = grind (arith, decided_is received k.given (λ q. refl) given_listed);

@@ -232,14 +232,14 @@ module _ {m : CommandSpec} {old new : List Reader} {was is : Output}
     bounded = grind arith;
   }
 
-  pub stored : {same : CommandSpec} → m ≡ same → (m.reads_nothing (is_reader_unopened old) ≡ true → ⊥)
-      → RunWithStorePost same old new (sinks out messages_first) o before store
+  pub stored : (m.reads_nothing (is_reader_unopened old) ≡ true → ⊥)
+      → RunWithStorePost m old new (sinks out messages_first) o before store
   unfolding run_of
-  stored equal reads = rw (← equal) (record {
+  stored reads = record {
     run = record { run = run_of; slots = k.slots };
     reads_nothing = (λ none. absurd (reads none), λ none. absurd (reads none));
     store = (last.peak, last.denied);
-  })
+  }
 
 -- ---- the specification of arguments
 

@@ -6,13 +6,13 @@ use Rattle.ptrun.specs
 use proofs.Common.{All, AllPushed, AllWritten, AreInputsConsistent, BoundedLag, CallOutcome, CallState, Completion}
 use proofs.Common.{DecidesAll, Err, FlowFault, HasCause, HasIndexBelow, HasReadCause, HasReadFailed, HasReceived}
 use proofs.Common.{HasSaid, HaveReceived, InputBytes, IsConsistent, IsDone, IsPrefix, IsPushedUpToBlock, IsSound}
-use proofs.Common.{IsTooLong, List, Memory, None, Ok, OneByOne, OperandPost, Output, PassPost, PushEffect, Read, Reader}
-use proofs.Common.{Received, ReceivedInputs, Result, RunInputsPost, SinkState, Slots, Some, ToolInRun, ToolSpec}
+use proofs.Common.{IsTooLong, List, Memory, None, Ok, Output, PassPost, PassPre, PushEffect, Read, Reader}
+use proofs.Common.{Received, ReceivedInputs, Result, RunInputsPost, SinkState, Slots, Some, ToolSpec}
 use proofs.Common.{Unopened, Write, [], ap, append-nil, append_assoc, arith, call_state, cases_Bool, cases_lt, cond}
 use proofs.Common.{decided_in_order, empty_input, false, false≢true, flat_map, flat_map-append, get_or, is_in}
 use proofs.Common.{is_reader_unopened, length, length-append, length-map, length-set, list_any, map, map-append, max}
 use proofs.Common.{name_of, only_input, pass_end, pass_engine, push_nothing, push_trans, reader_at, refl, rules, set}
-use proofs.Common.{spec_of_tool, subst, sym, take, take_all, total_bytes, true, unopened_message, unopened_messages}
+use proofs.Common.{subst, sym, take, take_all, total_bytes, true, unopened_message, unopened_messages}
 use proofs.Common.{up_to_unended, usual, ℕ, ⊎_elim, ◌++◌, ◌+◌, ◌<◌, ◌∙◌, ◌∷◌, ◌≡◌, ◌≢◌, ◌≤◌, ◌⊎◌}
 use proofs.MessageWrites.{said_nothing}
 use proofs.OperandInputs.{IsAtEof, IsEndedAt, OpenedInput, all_earlier, any_before, any_now, completion_with}
@@ -20,7 +20,7 @@ use proofs.OperandInputs.{consistent_before, consistent_bytes, decided_inputs, f
 use proofs.OperandInputs.{last_earlier, least_bytes, least_consistent, maximum-append, none_received, not_more}
 use proofs.OperandInputs.{nothing_read, nth_here, opened_inputs_none, opened_inputs_some, opened_receives, received_at}
 use proofs.OperandInputs.{received_of, said_more, sends_after, sends_now}
-use specs.Private.Driver.{OperandPre, fault_at, operand_completion}
+use specs.Private.Driver.{fault_at}
 use specs.Files.{IsNewOrUnopened, at, input_of_operand, inputs_of_operands, opened_inputs, opened_values}
 use specs.Operands.{sequential_bound, sequential_decided, sequential_output, sequential_slots, sequential_spec}
 use Rattle.std.proofs.Math.Seq.{take-append-add, take-append_seam, take-length}
@@ -47,20 +47,6 @@ pub record OperandsDone (word : List ℕ) (t : ToolSpec) (names : List (List ℕ
       → (store.peak ≤ max before.peak (sequential_bound t w done))
       × (length store.lines ≤ max (length before.lines) (sequential_slots t w done))
   pub room : (q : ℕ) → is_in done q ≡ true → is_reader_unopened old q ≡ false → t.slots ≤ length store.lines
-
-ok_of : (p : ℕ) {all : Completion} (passed : Result (Unit {0}) FlowFault) → operand_completion p passed ≡ Ok all
-    → passed ≡ Ok tt
-ok_of p passed same = grind arith
-
--- the failure of the pass over the operand at `p`, from that of the tool
-record PassFault (p : ℕ) (passed : Result (Unit {0}) FlowFault) (fault : FlowFault) : Type 0 where
-  passed_fault : FlowFault
-  failed : passed ≡ Err passed_fault
-  is : fault ≡ fault_at p passed_fault
-
-err_of : {p : ℕ} {fault : FlowFault} (passed : Result (Unit {0}) FlowFault) → operand_completion p passed ≡ Err fault
-    → PassFault p passed fault
-err_of passed same = grind arith
 
 module _ {word : List ℕ} {t : ToolSpec} {names : List (List ℕ)} {old : List Reader} {was : Output}
     {messages_old : SinkState} {before : Slots} (fresh : All IsNewOrUnopened old) where
@@ -98,10 +84,10 @@ module _ {word : List ℕ} {t : ToolSpec} {names : List (List ℕ)} {old : List 
 
     -- ---- all operands are done
 
-    pub done_all : {s : ToolInRun} {all : List ℕ} (law : DecidesAll t) → s ≡ OneByOne t → done ≡ all
-        → RunInputsPost (spec_of_tool word s names all) old now was is messages_old messages_new before store
+    pub done_all : {all : List ℕ} (law : DecidesAll t) → done ≡ all
+        → RunInputsPost (sequential_spec word t names all) old now was is messages_old messages_new before store
         (Ok so_far)
-    done_all law kind all = rw (kind, ← all) (record {
+    done_all law all = rw (← all) (record {
       received = k.inputs_read;
       came = k.came;
       pushed = k.pushed;
@@ -156,13 +142,14 @@ module _ {word : List ℕ} {t : ToolSpec} {names : List (List ℕ)} {old : List 
 
     -- ---- the next operand
 
+    here : {p : ℕ} → p < length old → (d : Reader) → get_or now p d ≡ reader_at now p
+    here within d = grind usual
+
+    pub operand_ready : {p : ℕ} → p < length old → (d d' : Reader) → (get_or now p d).refused ≡ false
+        → PassPre (get_or now p d') store
+    operand_ready within d d' opened = grind (arith, here)
+
     module _ {p : ℕ} (within : p < length old) (d : Reader) where
-      here : get_or now p d ≡ reader_at now p
-      here = grind usual
-
-      pub operand_ready : (get_or now p d).refused ≡ false → OperandPre (p ∷ []) now store
-      operand_ready opened = grind (arith, here)
-
       pub done_unopened : {messages_new' : SinkState} → (get_or now p d).refused ≡ true
           → HasSaid messages_new messages_new' (unopened_message word (name_of names p))
           → OperandsDone word t names old now was is messages_old messages_new' before store (done ++ p ∷ []) Unopened
@@ -196,14 +183,13 @@ module _ {word : List ℕ} {t : ToolSpec} {names : List (List ℕ)} {old : List 
 
     -- ---- an operand that was opened
 
-    module _ {is' : Output} {store' : Slots} {p : ℕ} {now' : List Reader} {result : Result Completion FlowFault}
-        (within : p < length old) (d : Reader) (open_here : (get_or now p d).refused ≡ false)
-        (sound : IsSound (get_or now p d)) (o : OperandPost t p now now' is is' store store' result) where
-      abbrev new : Reader
-      new = o.reader
-
-      abbrev e : PassPost t (reader_at now p) new is is' store store' o.pass_result
-      e = o.pass
+    module _ {is' : Output} {store' : Slots} {p : ℕ} {now' : List Reader} {new : Reader}
+        {passed : Result (Unit {0}) FlowFault}
+        (within : p < length old) (d d' : Reader) (open_here : (get_or now p d).refused ≡ false)
+        (sound : IsSound (get_or now p d)) (inputs : now' ≡ set now p new)
+        (pass : PassPost t (get_or now p d') new is is' store store' passed) where
+      e : PassPost t (reader_at now p) new is is' store store' passed
+      e = rw (here within d') at pass
 
       abbrev was_here : CallState (Unit {0})
       was_here = call_state (λ u. reader_at now p) is store
@@ -238,10 +224,10 @@ module _ {word : List ℕ} {t : ToolSpec} {names : List (List ℕ)} {old : List 
       inputs_read' = set k.inputs_read p (Some (given_now y.given))
 
       reader_here : reader_at now' p ≡ new
-      reader_here = search rules
+      reader_here = rw inputs (search rules)
 
       reader_other : (q : ℕ) → p ≢ q → reader_at now' q ≡ reader_at now q
-      reader_other q differs = rw o.inputs (search rules)
+      reader_other q differs = rw inputs (search rules)
 
       read_here : at inputs_read' p ≡ Some (given_now y.given)
       read_here = search rules
@@ -305,7 +291,7 @@ module _ {word : List ℕ} {t : ToolSpec} {names : List (List ℕ)} {old : List 
             omega (arith, maximum-append, e.call.slots (λ u. f.bytes) (λ u read. f.agree)),
           )
 
-      pub done_operand : {all : Completion} → result ≡ Ok all
+      pub done_operand : passed ≡ Ok tt
           → OperandsDone word t names old now' was is' messages_old messages_new before store' (done ++ p ∷ []) so_far
       done_operand ok = record {
         inputs_read = inputs_read';
@@ -331,7 +317,7 @@ module _ {word : List ℕ} {t : ToolSpec} {names : List (List ℕ)} {old : List 
       }
         where
           end : AllPushed only_input (pass_engine t) was_here is_here e.call.given e.call.pushed None
-          end = subst EndedAs (ok_of p _ (sym o.result_is ∙ ok)) e.call.ends
+          end = subst EndedAs ok e.call.ends
 
           at_eof : IsAtEof new
           at_eof = record {
@@ -357,7 +343,7 @@ module _ {word : List ℕ} {t : ToolSpec} {names : List (List ℕ)} {old : List 
       cause_of more Memory r = (r.denied, r.clean)
 
       -- If no slot was missing, a line is left. If one was, no operand was read before, so its input is unread.
-      input_left : o.pass_result ≡ Err Memory → IsDone new → ⊥
+      input_left : passed ≡ Err Memory → IsDone new → ⊥
       input_left memory ended = ⊎_elim
           (λ few.
           let unread = (e.call.unread k.clean few).readers tt refl in
@@ -396,10 +382,11 @@ module _ {word : List ℕ} {t : ToolSpec} {names : List (List ℕ)} {old : List 
             ≡ k.pushed ++ t.decided earlier
         decided_here = search (rules, decided_all)
 
-        stopped : (more : List ℕ) (fault : FlowFault) → o.pass_result ≡ Err fault
-            → RunInputsPost (sequential_spec word t names (done ++ p ∷ more)) old now' was is' messages_old messages_new
-            before store' (Err (fault_at p fault))
-        stopped more fault is_err = record {
+        pub done_stopped : (more : List ℕ) {fault : FlowFault} {all : List ℕ} → done ++ p ∷ more ≡ all
+            → passed ≡ Err fault
+            → RunInputsPost (sequential_spec word t names all) old now' was is' messages_old messages_new before store'
+            (Err (fault_at p fault))
+        done_stopped more {fault} split is_err = rw (← split) (record {
           received = inputs_read';
           came = received';
           pushed = k.pushed ++ e.call.pushed;
@@ -412,7 +399,7 @@ module _ {word : List ℕ} {t : ToolSpec} {names : List (List ℕ)} {old : List 
           ends = cause_of more fault end;
           position = index_within fault;
           untouched = grind (arith, not_more, take-append-add, reader_other);
-          ended = grind (arith, take-append_seam, reader_here, old_open, reader_other, was_unopened);
+          ended = grind (arith, e.stays_done, take-append_seam, reader_here, old_open, reader_other, was_unopened);
           left = grind (arith, take-append-add, is_in-same, reader_here, came_here.refused, old_open, input_left);
           is_prefix = λ w agrees. let f = operand_finds w agrees in let b = e.call.is_prefix (λ u. f.bytes)
               (λ u read. f.agree) in let rest =
@@ -441,10 +428,10 @@ module _ {word : List ℕ} {t : ToolSpec} {names : List (List ℕ)} {old : List 
           names_failed_read = grind (arith, failing _ end, fails_here, position_of);
           peak = λ w agrees. (bounds_here w _ agrees).0;
           slots = λ w agrees. (bounds_here w _ agrees).1;
-        }
+        })
           where
             end : EndedAs (Err fault)
-            end = grind arith
+            end = subst EndedAs is_err e.call.ends
 
             position_of : (q : ℕ) → HasReadFailed old now' q → p ≡ q
             position_of q failed = grind (arith, reader_other)
@@ -456,11 +443,3 @@ module _ {word : List ℕ} {t : ToolSpec} {names : List (List ℕ)} {old : List 
             index_within (Read position) = within
             index_within Write = tt
             index_within Memory = tt
-
-        pub done_stopped : {s : ToolInRun} {all : List ℕ} (more : List ℕ) {fault passed : FlowFault}
-            {last : Result Completion FlowFault} → s ≡ OneByOne t → done ++ p ∷ more ≡ all → result ≡ Err fault
-            → last ≡ Err passed → passed ≡ fault
-            → RunInputsPost (spec_of_tool word s names all) old now' was is' messages_old messages_new before store'
-            last
-        done_stopped more kind split is_err is_last same = let f = err_of _ (sym o.result_is ∙ is_err) in
-            rw (is_last, same, kind, ← split, f.is) (stopped more f.passed_fault f.failed)

@@ -4,4 +4,3 @@ pub mod Engines
 pub mod Lag
 pub mod Messages
 pub mod SpecOfArgs
-pub mod Tools

@@ -1,31 +1,40 @@
-//! Runs a tool over its operands: reports unopened files, processes the inputs, finishes the output and says the last
-//! message. Used by `tools`.
+//! Runs a tool over its operands, one after another or together: reports unopened files, processes the inputs, finishes
+//! the output and says the last message. Used by `tools`.
 
-ghost use Rattle.std.specs.Prelude.{◌≡◌, ◌<◌, ◌+◌, false, length, All};
+ghost use Rattle.std.specs.Prelude.{◌≡◌, ◌<◌, ◌+◌, length, All};
 ghost use Rattle.ptopts.specs.Commands.{words_view};
 ghost use Rattle.ptrun.specs.Private.Driver.{InputsPre, ReportUnopenedPost, RunInputsPre, RunInputsPost};
-ghost use Rattle.ptrun.specs.Private.Driver.{RunWithStorePost};
+ghost use Rattle.ptrun.specs.Private.Driver.{RunWithStorePost, joint_completion};
 ghost use Rattle.ptrun.specs.Private.Driver.{FinishPost, EndRunPost, HasIndexBelow, result_message, result_status};
-ghost use Rattle.ptrun.specs.Operands.{positions};
+ghost use Rattle.ptrun.specs.Joint.{joint_spec};
+ghost use Rattle.ptrun.specs.Operands.{positions, sequential_spec};
 ghost use Rattle.ptrun.specs.Calls.Runs.{RunPre};
 ghost use Rattle.ptrun.specs.Runs.{sinks, outcome};
 ghost use Rattle.ptrun.specs.MessageWrites.{HasSaid};
-ghost use Rattle.ptrun.specs.Tools.{spec_of_tool};
-ghost use Rattle.ptrun.specs.Private.Tools.{DecidesAllInTurn, reads_together};
 
 use crate::messages::Messages;
-use crate::operands::{name_at, position_of, positions_of, say_unopened};
+use crate::operands::{fault_at, name_at, position_of, positions_of, say_unopened};
 use crate::report::{Report, report_of, report_unread};
-use crate::tool::{Completion, Tool};
+use crate::tool::{Disorder, Joint, Sequential};
 use itoa::Buffer;
 use ptflow::FlowFault;
 use ptlines::{LineReader, Out, Sink, Source, Store};
 use ptopts::{Input, Inputs};
 use std::alloc::Allocator;
 
-/// Runs a tool over its operands and returns the report.
-#[tactic(auto, using(crate::proofs::ToolRuns::together_index))]
-pub(crate) fn run_tool<A, B, T, S, R, W, E>(
+/// How the inputs of a run were processed if no call failed.
+#[derive(Clone, Copy)]
+pub(crate) enum Completion {
+    /// The whole output was written.
+    AllWritten,
+    /// The output was written, except that of inputs that could not be opened; these were reported.
+    Unopened,
+    /// A line is out of order, and the output before it was written.
+    Disordered(Disorder),
+}
+
+/// Runs a tool over one operand after another, and returns the report.
+pub(crate) fn run_in_turn<A, B, T, S, R, W, E>(
     store: &mut Store<A>,
     tool: &T,
     operands: &Inputs<'_, B>,
@@ -36,32 +45,117 @@ pub(crate) fn run_tool<A, B, T, S, R, W, E>(
 where
     A: Allocator + Copy,
     B: Allocator + Copy,
-    T: Tool<A>,
+    T: Sequential<A>,
     S: Source,
     R: Source,
     W: Sink,
     E: Sink,
-    requires given { InputsPre (spec_of_tool (T.word tool.now) (T.tool tool.now)
+    requires given { InputsPre (sequential_spec (T.word tool.now) (T.tool tool.now)
         (words_view operands.now.names.items) (positions operands.now.order.items)) inputs.old }
     requires unused { RunPre store.old (sinks (W.state out) messages) }
-    ensures { RunWithStorePost (spec_of_tool (T.word tool.now) (T.tool tool.now)
+    ensures { RunWithStorePost (sequential_spec (T.word tool.now) (T.tool tool.now)
+        (words_view operands.now.names.items) (positions operands.now.order.items))
+        inputs.old inputs.new (sinks (W.state out) messages) (outcome W.state E.state result) store.old store.new }
+{
+    let mut messages = messages;
+    let names: &[&str] = &operands.names;
+    let mut out = Out::new(out);
+    let run_result = run_each(tool, operands, inputs, store, &mut out, &mut messages);
+    end_run(tool.name(), names, run_result, store, out, messages)
+}
+
+// Runs the tool over one operand after another, and reports each one that could not be opened when its turn comes.
+fn run_each<A, B, T, S, R, W, E>(
+    tool: &T,
+    operands: &Inputs<'_, B>,
+    inputs: &mut [LineReader<S, R>],
+    store: &mut Store<A>,
+    out: &mut Out<W>,
+    messages: &mut Messages<E>,
+) -> Result<Completion, FlowFault>
+where
+    A: Allocator + Copy,
+    B: Allocator + Copy,
+    T: Sequential<A>,
+    S: Source,
+    R: Source,
+    W: Sink,
+    E: Sink,
+    requires { RunInputsPre (sequential_spec (T.word tool.now) (T.tool tool.now)
+        (words_view operands.now.names.items) (positions operands.now.order.items)) inputs.old out.old store.old }
+    ensures { RunInputsPost (sequential_spec (T.word tool.now) (T.tool tool.now)
+        (words_view operands.now.names.items) (positions operands.now.order.items))
+        inputs.old inputs.new out.old out.new messages.old messages.new store.old store.new result }
+{
+    let order: &[Input] = &operands.order;
+    let names: &[&str] = &operands.names;
+    let mut done = Completion::AllWritten;
+    for input in order {
+        let position = position_of(*input);
+        if inputs[position].is_refused() {
+            say_unopened(tool.name(), name_at(names, position), messages);
+            done = Completion::Unopened;
+        } else {
+            match tool.run_on_one(&mut inputs[position], store, out) {
+                Ok(()) => {}
+                Err(fault) => return Err(fault_at(position, fault)),
+            }
+        }
+    }
+    Ok(done)
+}
+
+/// Runs a tool over all its operands together, if each could be opened, and returns the report.
+pub(crate) fn run_together<A, B, T, S, R, W, E>(
+    store: &mut Store<A>,
+    tool: &T,
+    operands: &Inputs<'_, B>,
+    inputs: &mut [LineReader<S, R>],
+    out: W,
+    messages: Messages<E>,
+) -> Report<W, E>
+where
+    A: Allocator + Copy,
+    B: Allocator + Copy,
+    T: Joint<A>,
+    S: Source,
+    R: Source,
+    W: Sink,
+    E: Sink,
+    requires given { InputsPre (joint_spec (T.word tool.now) (T.tool tool.now)
+        (words_view operands.now.names.items) (positions operands.now.order.items)) inputs.old }
+    requires unused { RunPre store.old (sinks (W.state out) messages) }
+    ensures { RunWithStorePost (joint_spec (T.word tool.now) (T.tool tool.now)
         (words_view operands.now.names.items) (positions operands.now.order.items))
         inputs.old inputs.new (sinks (W.state out) messages) (outcome W.state E.state result) store.old store.new }
 {
     let mut messages = messages;
     let order: &[Input] = &operands.order;
     let names: &[&str] = &operands.names;
-    if tool.reads_together() {
-        if report_unopened(tool.name(), order, names, inputs, &mut messages) {
-            return report_unread(1, out, messages);
-        }
-        let mut out = Out::new(out);
-        let run_result = tool.run_on(&positions_of(order), inputs, store, &mut out);
-        return end_run(tool.name(), names, run_result, store, out, messages);
+    if report_unopened(tool.name(), order, names, inputs, &mut messages) {
+        return report_unread(1, out, messages);
     }
     let mut out = Out::new(out);
-    let run_result = run_one_by_one(tool, order, names, inputs, store, &mut out, &mut messages);
-    end_run(tool.name(), names, run_result, store, out, messages)
+    let found = tool.run_on_all(&positions_of(order), inputs, store, &mut out);
+    end_run(
+        tool.name(),
+        names,
+        completion_of(found),
+        store,
+        out,
+        messages,
+    )
+}
+
+// The result of a tool that reads its operands together, as that of a run.
+fn completion_of(found: Result<Option<Disorder>, FlowFault>) -> Result<Completion, FlowFault>
+    ensures { result ≡ joint_completion found }
+{
+    match found {
+        Ok(None) => Ok(Completion::AllWritten),
+        Ok(Some(found)) => Ok(Completion::Disordered(found)),
+        Err(fault) => Err(fault),
+    }
 }
 
 // Reports each operand that could not be opened, and returns whether there is one.
@@ -86,39 +180,6 @@ fn report_unopened<S: Source, R: Source, E: Sink>(
         }
     }
     any
-}
-
-// Runs the tool over one operand after another, and reports each one that could not be opened when its turn comes.
-fn run_one_by_one<A: Allocator + Copy, T: Tool<A>, S: Source, R: Source, W: Sink, E: Sink>(
-    tool: &T,
-    order: &[Input],
-    names: &[&str],
-    inputs: &mut [LineReader<S, R>],
-    store: &mut Store<A>,
-    out: &mut Out<W>,
-    messages: &mut Messages<E>,
-) -> Result<Completion, FlowFault>
-    requires in_turn { reads_together (T.tool tool.now) ≡ false }
-    requires decides { DecidesAllInTurn (T.tool tool.now) }
-    requires ready { RunInputsPre
-        (spec_of_tool (T.word tool.now) (T.tool tool.now) (words_view names.now) (positions order.now))
-        inputs.old out.old store.old }
-    ensures { RunInputsPost
-        (spec_of_tool (T.word tool.now) (T.tool tool.now) (words_view names.now) (positions order.now))
-        inputs.old inputs.new out.old out.new messages.old messages.new store.old store.new result }
-{
-    let mut done = Completion::AllWritten;
-    for input in order {
-        let position = position_of(*input);
-        if inputs[position].is_refused() {
-            say_unopened(tool.name(), name_at(names, position), messages);
-            done = Completion::Unopened;
-        } else {
-            // Such a tool always ends with `AllWritten`.
-            tool.run_on(&[position], inputs, store, out)?;
-        }
-    }
-    Ok(done)
 }
 
 // Sends and flushes the buffered output. A failed write is the result, in place of any other.
@@ -167,15 +228,15 @@ fn say_final_message<E: Sink>(
     match final_result {
         Ok(Completion::AllWritten) => return 0,
         Ok(Completion::Unopened) => {}
-        Ok(Completion::Disorder(position, line)) => {
-            let name = name_at(names, position);
+        Ok(Completion::Disordered(found)) => {
+            let name = name_at(names, found.position);
             let mut digits = Buffer::new();
             messages.say(&[
                 tool,
                 ": ",
                 name,
                 ": line ",
-                digits.format(line),
+                digits.format(found.line),
                 " is out of order",
             ]);
         }

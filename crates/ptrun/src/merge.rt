@@ -3,23 +3,22 @@
 ghost use Rattle.std.specs.Borrow.{Array, LendsBoth, sem};
 ghost use Rattle.std.specs.Prelude.{◌≡◌, ◌<◌, length, set, slice_index_or};
 ghost use Rattle.ptmerge.specs.Calls.Sides.{both};
-ghost use Rattle.ptrun.specs.Private.Driver.{merge_completion};
+ghost use Rattle.ptrun.specs.Private.Driver.{merge_found};
 
-use crate::tool::{Completion, Tool};
+use crate::tool::{Disorder, Joint};
 use ptflow::FlowFault;
 use ptlangs::jobs::{CommJob, JoinJob};
 use ptlines::{LineReader, Out, Sink, Source, Store};
 use ptmerge::{MergeFault, Side, comm, join};
 use std::alloc::Allocator;
 
-impl<A: Allocator + Copy> Tool<A> for CommJob {
+impl<A: Allocator + Copy> Joint<A> for CommJob {
     ghost use Rattle.std.specs.Prelude.{codes};
     ghost use Rattle.ptlangs.specs.Jobs.{comm_job};
     ghost use Rattle.ptmerge.specs.Comm.{comm_engine};
     ghost use Rattle.ptrun.specs.Joint.{two_input_tool};
-    ghost use Rattle.ptrun.specs.Tools.{Together};
 
-    ghost tool = { λ job. Together (two_input_tool (comm_engine (comm_job job))) };
+    ghost tool = { λ job. two_input_tool (comm_engine (comm_job job)) };
 
     ghost word = { λ job. codes "comm" };
 
@@ -27,32 +26,27 @@ impl<A: Allocator + Copy> Tool<A> for CommJob {
         "comm"
     }
 
-    fn reads_together(&self) -> bool {
-        true
-    }
-
     #[tactic(auto, using(crate::proofs::JointRuns::any_of_two))]
-    fn run_on<S: Source, R: Source, W: Sink>(
+    fn run_on_all<S: Source, R: Source, W: Sink>(
         &self,
         operands: &[usize],
         inputs: &mut [LineReader<S, R>],
         store: &mut Store<A>,
         out: &mut Out<W>,
-    ) -> Result<Completion, FlowFault> {
+    ) -> Result<Option<Disorder>, FlowFault> {
         let (first, second) = (operands[0], operands[1]);
         let (one, two) = two_mut(inputs, first, second);
-        completion_at(comm(self, one, two, store, out), first, second)
+        found_at(comm(self, one, two, store, out), first, second)
     }
 }
 
-impl<A: Allocator + Copy, B: Allocator + Copy> Tool<A> for JoinJob<B> {
+impl<A: Allocator + Copy, B: Allocator + Copy> Joint<A> for JoinJob<B> {
     ghost use Rattle.std.specs.Prelude.{codes};
     ghost use Rattle.ptlangs.specs.Jobs.{join_job};
     ghost use Rattle.ptmerge.specs.Join.{join_engine};
     ghost use Rattle.ptrun.specs.Joint.{two_input_tool};
-    ghost use Rattle.ptrun.specs.Tools.{Together};
 
-    ghost tool = { λ job. Together (two_input_tool (join_engine (join_job job))) };
+    ghost tool = { λ job. two_input_tool (join_engine (join_job job)) };
 
     ghost word = { λ job. codes "join" };
 
@@ -60,21 +54,17 @@ impl<A: Allocator + Copy, B: Allocator + Copy> Tool<A> for JoinJob<B> {
         "join"
     }
 
-    fn reads_together(&self) -> bool {
-        true
-    }
-
     #[tactic(auto, using(crate::proofs::JointRuns::any_of_two))]
-    fn run_on<S: Source, R: Source, W: Sink>(
+    fn run_on_all<S: Source, R: Source, W: Sink>(
         &self,
         operands: &[usize],
         inputs: &mut [LineReader<S, R>],
         store: &mut Store<A>,
         out: &mut Out<W>,
-    ) -> Result<Completion, FlowFault> {
+    ) -> Result<Option<Disorder>, FlowFault> {
         let (first, second) = (operands[0], operands[1]);
         let (one, two) = two_mut(inputs, first, second);
-        completion_at(join(self, one, two, store, out), first, second)
+        found_at(join(self, one, two, store, out), first, second)
     }
 }
 
@@ -98,21 +88,22 @@ fn two_mut<T>(items: &mut [T], first: usize, second: usize) -> (&mut T, &mut T)
 }
 
 // The result of a merge, with positions in place of sides.
-fn completion_at(
+fn found_at(
     merge_result: Result<(), MergeFault>,
     first: usize,
     second: usize,
-) -> Result<Completion, FlowFault>
-    ensures { result ≡ merge_completion (both first second) merge_result }
+) -> Result<Option<Disorder>, FlowFault>
+    ensures { result ≡ merge_found (both first second) merge_result }
 {
     match merge_result {
-        Ok(()) => Ok(Completion::AllWritten),
+        Ok(()) => Ok(None),
         Err(MergeFault::Read(side)) => Err(FlowFault::Read(position_at(side, first, second))),
         Err(MergeFault::Write) => Err(FlowFault::Write),
         Err(MergeFault::Memory) => Err(FlowFault::Memory),
-        Err(MergeFault::Disorder(side, line)) => {
-            Ok(Completion::Disorder(position_at(side, first, second), line))
-        }
+        Err(MergeFault::Disorder(side, line)) => Ok(Some(Disorder {
+            position: position_at(side, first, second),
+            line,
+        })),
     }
 }
 

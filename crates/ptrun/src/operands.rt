@@ -1,14 +1,16 @@
-//! The operands of a command: their positions among the inputs, their names, and messages about those that could not be
-//! opened. Used by `driver`.
+//! The operands of a command: their positions among the inputs, their names, messages about those that could not be
+//! opened, and failures of the others. Used by `driver` and `tools`.
 
 ghost use Rattle.std.specs.Prelude.{◌≡◌, ◌<◌, ◌+◌, ◌≤◌, length, All};
 ghost use Rattle.ptopts.specs.Commands.{words_view};
 ghost use Rattle.ptrun.specs.Messages.{name_of, unopened_message};
 ghost use Rattle.ptrun.specs.Operands.{position, positions};
 ghost use Rattle.ptrun.specs.MessageWrites.{HasSaid};
+ghost use Rattle.ptrun.specs.Private.Driver.{fault_at};
 
 use crate::messages::Messages;
 use arrayvec::ArrayVec;
+use ptflow::FlowFault;
 use ptlines::Sink;
 use ptopts::Input;
 
@@ -53,4 +55,14 @@ pub(crate) fn say_unopened<'a, E: Sink>(tool: &'a str, name: &'a str, messages: 
     ensures { HasSaid messages.old messages.new (unopened_message tool.now name.now) }
 {
     messages.say(&[tool, ": ", name, ": cannot be opened"]);
+}
+
+// The failure of a call over one reader, as that of the input at `position`.
+pub(crate) fn fault_at(position: usize, fault: FlowFault) -> FlowFault
+    ensures { result ≡ fault_at position fault }
+{
+    match fault {
+        FlowFault::Read(_) => FlowFault::Read(position),
+        other => other,
+    }
 }

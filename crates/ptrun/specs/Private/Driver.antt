@@ -1,8 +1,7 @@
 -- The contracts between a tool and the driver that runs it: the conditions before and after each of the driver's steps.
 use Rattle.std.specs.Prelude.{◌≡◌, ℕ, ◌+◌, ◌<◌, ◌≤◌, Bool, true, false, List, [], All}
-use Rattle.std.specs.Prelude.{None, Result, Ok, Err, length, max, set}
+use Rattle.std.specs.Prelude.{None, Option, Some, Result, Ok, Err, length, max}
 use Rattle.std.specs.List.{list_any}
-use Rattle.ptflow.specs.Calls.Passes.{PassPost, PassPre, pass_end}
 use Rattle.ptflow.specs.ToolSpec.{ToolSpec}
 use Rattle.ptflow.specs.declared.faults.FlowFault.{FlowFault}
 use Rattle.ptflow.specs.declared.faults.FlowFault.TheVariants.{Memory, Read, Write}
@@ -21,7 +20,7 @@ use Rattle.ptmerge.specs.declared.key_order.Side.{Side}
 use Rattle.ptrun.specs.CommandSpec.{CommandSpec, IsUnfinished, ended_operands, operand_messages, unopened_messages}
 use Rattle.ptrun.specs.Files.{AreInputsConsistent, AreReadToEnd, HasReadFailed, HaveReceived, InputBytes}
 use Rattle.ptrun.specs.Files.{IsNewOrUnopened, ReceivedInputs, is_reader_unopened}
-use Rattle.ptrun.specs.Joint.{JointTool, only_operand}
+use Rattle.ptrun.specs.Joint.{JointTool}
 use Rattle.ptrun.specs.Lag.{HasBoundedLag}
 use Rattle.ptrun.specs.MessageWrites.{HasSaid}
 use Rattle.ptrun.specs.Messages.{disorder_message, fault_message}
@@ -29,9 +28,9 @@ use Rattle.ptrun.specs.Private.Engines.{end_at, in_run}
 use Rattle.ptrun.specs.Private.Lag.{IsPushedUpToBlock}
 use Rattle.ptrun.specs.Runs.{HasCause, IsComplete, IsRunInStore, IsStoreUnchangedIfUnread, IsUnchangedIfUnread}
 use Rattle.ptrun.specs.Runs.{Outcome, Sinks}
-use Rattle.ptrun.specs.Tools.{OneByOne, Together, ToolInRun}
-use Rattle.ptrun.specs.declared.tool.Completion.{Completion}
-use Rattle.ptrun.specs.declared.tool.Completion.TheVariants.{AllWritten, Disorder, Unopened}
+use Rattle.ptrun.specs.declared.driver.Completion.{Completion}
+use Rattle.ptrun.specs.declared.driver.Completion.TheVariants.{AllWritten, Disordered, Unopened}
+use Rattle.ptrun.specs.declared.tool.Disorder.{Disorder}
 
 -- The precondition on the inputs: none was read yet, each operand has a reader, each file has a name, and the tool
 -- accepts these operands; there are at most 512, if it reads them together.
@@ -68,7 +67,7 @@ pub record RunInputsPre (m : CommandSpec) (inputs : List Reader) (out : Output) 
 abbrev pub result_message : List ℕ → List (List ℕ) → Result Completion FlowFault → List ℕ
 result_message tool names (Ok AllWritten) = []
 result_message tool names (Ok Unopened) = []
-result_message tool names (Ok (Disorder position line)) = disorder_message tool names position line
+result_message tool names (Ok (Disordered found)) = disorder_message tool names found.position found.line
 result_message tool names (Err fault) = fault_message tool names fault
 
 -- The exit status after this result.
@@ -78,7 +77,7 @@ result_status _ = 1
 
 -- The input that the result names, if any, is one of `count` inputs.
 abbrev pub HasIndexBelow : ℕ → Result Completion FlowFault → Type 0
-HasIndexBelow count (Ok (Disorder position line)) = position < count
+HasIndexBelow count (Ok (Disordered found)) = found.position < count
 HasIndexBelow count (Err (Read position)) = position < count
 HasIndexBelow count _ = Unit {0}
 
@@ -116,13 +115,19 @@ pub record EndRunPost (tool : List ℕ) (names : List (List ℕ)) (was : Output)
 abbrev pub run_state : List Reader → Output → Slots → CallState ℕ
 run_state readers out store = call_state (reader_at readers) out store
 
--- The result of a run over operands, by how the call ended.
-abbrev pub result_of_end : CallEnd ℕ → Result Completion FlowFault
-result_of_end Complete = Ok AllWritten
-result_of_end (OutOfOrder position line) = Ok (Disorder position line)
+-- The result of a tool that reads its operands together, by how the call ended.
+abbrev pub result_of_end : CallEnd ℕ → Result (Option Disorder) FlowFault
+result_of_end Complete = Ok None
+result_of_end (OutOfOrder position line) = Ok (Some (record { position = position; line = line }))
 result_of_end (ReadFault position) = Err (Read position)
 result_of_end WriteFault = Err Write
 result_of_end MemoryFault = Err Memory
+
+-- That result as the result of a run.
+abbrev pub joint_completion : Result (Option Disorder) FlowFault → Result Completion FlowFault
+joint_completion (Ok None) = Ok AllWritten
+joint_completion (Ok (Some found)) = Ok (Disordered found)
+joint_completion (Err fault) = Err fault
 
 -- ---- processing the inputs
 
@@ -132,13 +137,9 @@ fault_at p (Read position) = Read p
 fault_at p Write = Write
 fault_at p Memory = Memory
 
--- The result of a call over one reader as that of a run, with the position of the reader.
-abbrev pub operand_completion : ℕ → Result (Unit {0}) FlowFault → Result Completion FlowFault
-operand_completion p result = result_of_end (end_at (λ u. p) (pass_end result))
-
--- The result of a merge as that of a run, with the position of each side.
-abbrev pub merge_completion : (Side → ℕ) → Result (Unit {0}) MergeFault → Result Completion FlowFault
-merge_completion position result = result_of_end (end_at position (merge_end result))
+-- The result of a merge, with the position of each side.
+abbrev pub merge_found : (Side → ℕ) → Result (Unit {0}) MergeFault → Result (Option Disorder) FlowFault
+merge_found position result = result_of_end (end_at position (merge_end result))
 
 -- How processing ended after `n` operands: with the whole output, or with a failure and its cause.
 abbrev pub RunInputsEnd : CommandSpec → ReceivedInputs → List Reader → List Reader → List ℕ → Bool → Bool → ℕ
@@ -187,9 +188,14 @@ pub record RunWithStorePost (m : CommandSpec) (old new : List Reader) (handed : 
   pub reads_nothing : IsUnchangedIfUnread m old new handed.out o × IsStoreUnchangedIfUnread m old lent left
   pub store : (o.peak ≡ left.peak) × (o.denied ≡ left.denied)
 
--- ---- tools that read all their inputs together
+-- ---- the kinds of tools
 
--- The precondition of such a tool: it accepts these operands, each of them was opened and none was read yet.
+-- Once the end of an input is reached, all its output is decided.
+abbrev pub DecidesAll : ToolSpec → Type 0
+DecidesAll t = (bytes : List ℕ) → t.decided (record { bytes = bytes; eof = true }) ≡ t.text bytes
+
+-- The precondition of a tool that reads its operands together: it accepts these operands, each of them was opened and
+-- none was read yet.
 pub record JointPre (t : JointTool) (positions : List ℕ) (inputs : List Reader) (out : Output)
     (store : Slots) : Type 0 where
   pub accepts_operands : t.accepts positions ≡ true
@@ -204,40 +210,10 @@ pub record JointPre (t : JointTool) (positions : List ℕ) (inputs : List Reader
 -- The postcondition of such a tool: what its engine has done over the inputs at these positions. Other inputs have no
 -- part in the decided output.
 pub record JointPost (t : JointTool) (positions : List ℕ) (old new : List Reader) (was is : Output)
-    (before store : Slots) (result : Result Completion FlowFault) : Type 0 where
+    (before store : Slots) (result : Result (Option Disorder) FlowFault) : Type 0 where
   pub end : CallEnd ℕ
   pub result_is : result ≡ result_of_end end
   pub call : CallPost (inputs_at positions) (in_run (t.engine positions)) (run_state old was before)
       (run_state new is store) end
   pub same : (f g : ℕ → Received) → ((q : ℕ) → is_in positions q ≡ true → f q ≡ g q)
       → (t.engine positions).decided f ≡ (t.engine positions).decided g
-
--- ---- the run of a tool
-
--- The precondition of a tool that reads one operand after another, on one of them.
-pub record OperandPre (operands : List ℕ) (inputs : List Reader) (store : Slots) : Type 0 where
-  pub only : length operands ≡ 1
-  pub within : only_operand operands < length inputs
-  pub ready : PassPre (reader_at inputs (only_operand operands)) store
-
--- Its postcondition: the tool was run over the reader at position `p`, and the other inputs are unchanged.
-pub record OperandPost (t : ToolSpec) (p : ℕ) (old new : List Reader) (was is : Output) (before store : Slots)
-    (result : Result Completion FlowFault) : Type 0 where
-  pub reader : Reader
-  pub inputs : new ≡ set old p reader
-  pub pass_result : Result (Unit {0}) FlowFault
-  pub result_is : result ≡ operand_completion p pass_result
-  pub pass : PassPost t (reader_at old p) reader was is before store pass_result
-
--- The precondition of a tool on the operands at these positions.
-abbrev pub RunOnPre : ToolInRun → List ℕ → List Reader → Output → Slots → Type 0
-RunOnPre (OneByOne t) operands inputs out store = OperandPre operands inputs store
-RunOnPre (Together t) operands inputs out store = JointPre t operands inputs out store
-
--- The postcondition of a tool on the operands at these positions.
-abbrev pub RunOnPost : ToolInRun → List ℕ → List Reader → List Reader → Output → Output → Slots → Slots
-    → Result Completion FlowFault → Type 0
-RunOnPost (OneByOne t) operands old new was is before store result =
-    OperandPost t (only_operand operands) old new was is before store result
-RunOnPost (Together t) operands old new was is before store result =
-    JointPost t operands old new was is before store result

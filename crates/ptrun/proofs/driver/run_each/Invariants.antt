@@ -2,11 +2,10 @@
 use Rattle.ptrun.proofs
 use proofs.Common.{positions, take, words_view}
 use proofs.Sequential.{OperandsDone}
-use proofs.ToolRuns.{one_tool}
-use proofs.driver.run_one_by_one.Given as goal
+use proofs.driver.run_each.Given as goal
 
 abbrev pub invariant-loop-input : goal.invariant-loop-input
 invariant-loop-input g l =
-    OperandsDone (g.T.Tool.word l.tool) (one_tool (g.T.Tool.tool l.tool)) (words_view l.names)
+    OperandsDone (g.T.Sequential.word l.tool) (g.T.Sequential.tool l.tool) (words_view l.names)
     l.fn.inputs l.inputs l.fn.out l.out l.fn.messages l.messages l.fn.store l.store
     (take l.input-index (positions l.order)) l.done

@@ -1,7 +1,7 @@
 use Rattle.ptrun.proofs
 use proofs.Common.{arith, rules}
 use proofs.JointRuns.{merge_post, two_apart, two_within}
-use proofs.merge.CommJobTool.run_on.Goals as goal
+use proofs.merge.JoinJobJoint.run_on_all.Goals as goal
 
 pub bounds-operands-0 : goal.bounds-operands-0
 bounds-operands-0 g c = grind arith
