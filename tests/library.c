@@ -26,13 +26,14 @@ static int has(const uint8_t *room, struct ptext_part part, const char *text) {
 }
 
 static void too_little_room(void) {
-    for (size_t size = 0; size <= 4; size++) {
+    for (size_t size = 0; size <= 6; size++) {
+        size_t fits = size < 4 ? size : 4;
         memset(out, '.', sizeof out);
         uint8_t status = ptext_run(WORDS("cut\0-b\0001-3"), BYTES("abcd\n"), NULL, 0, NULL, 0, out, size, messages,
                                    sizeof messages, &answer);
         expect(status == (size < 4 ? PTEXT_ROOM : 0), "status with little room");
-        expect(answer.out.written == size && answer.out.lacking == 4 - size, "counts with little room");
-        expect(!memcmp(out, "abc\n", size) && out[size] == '.', "bytes with little room");
+        expect(answer.out.written == fits && answer.out.lacking == 4 - fits, "counts with little room");
+        expect(!memcmp(out, "abc\n", fits) && out[fits] == '.', "bytes with little room");
     }
     ptext_run(WORDS("cut\0-q"), NULL, 0, NULL, 0, NULL, 0, out, sizeof out, messages, 3, &answer);
     expect(answer.status == PTEXT_ROOM && answer.messages.written == 3 && answer.messages.lacking == 23, "cut message");

@@ -1,7 +1,6 @@
 //! Tests of runs over files under names, which `NamedFiles` has in memory.
 #![tactic(auto)]
 
-#[cfg(test)]
 mod named_files;
 #[cfg(test)]
 mod runs;

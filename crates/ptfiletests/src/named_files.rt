@@ -1,20 +1,61 @@
-//! `NamedFiles`, files in memory by their names.
+//! `NamedFiles`, files in memory by their names, and `Bytes`, their sources.
 
-use ptfakes::{ChunkedSource, VecSink};
+ghost use Rattle.std.specs.Prelude.{◌≡◌, ◌<◌, ◌^◌, Some, false, length, option_map};
+ghost use Rattle.ptfiletests.specs.NamedFiles.{bytes_state, content_of, unopened_files};
+ghost use Rattle.ptfiles.specs.Files.{IsContent};
+
+use ptfakes::VecSink;
 use ptfiles::{Calls, Files};
+use ptlines::{Failed, Source};
 use std::alloc::Global;
+
+/// A source that gives bytes from memory. No read fails.
+#[derive(Drop)]
+pub struct Bytes<'a> {
+    left: &'a [u8],
+    eof: bool,
+}
+
+impl<'a> Bytes<'a> {
+    /// Gives all of these bytes.
+    pub fn new(bytes: &'a [u8]) -> Self
+        ensures all { result ≡ record { left = bytes.entry; eof = false } }
+        ensures short { length bytes.entry.now < 2 ^ 63 }
+    {
+        Bytes {
+            left: bytes,
+            eof: false,
+        }
+    }
+}
+
+impl Source for Bytes<'_> {
+    ghost use Rattle.ptfiletests.specs.NamedFiles.{bytes_state};
+
+    ghost state = { λ s. bytes_state s };
+
+    fn pull(&mut self, into: &mut [u8]) -> Result<usize, Failed> {
+        let count = self.left.len().min(into.len());
+        into[..count].copy_from_slice(&self.left[..count]);
+        self.left = &self.left[count..];
+        self.eof = self.eof || count == 0;
+        Ok(count)
+    }
+}
 
 /// Files in memory, by their names. Any other name cannot be opened, and only `out` can be created.
 #[derive(Drop)]
 pub struct NamedFiles<'a> {
     files: &'a [(&'a str, &'a [u8])],
     alloc: Global,
-    opens: Calls<Option<ChunkedSource<'a>>>,
+    opens: Calls<Option<Bytes<'a>>>,
     creates: Calls<Option<VecSink>>,
 }
 
 impl<'a> NamedFiles<'a> {
-    pub fn new(alloc: Global, files: &'a [(&'a str, &'a [u8])]) -> Self {
+    pub fn new(alloc: Global, files: &'a [(&'a str, &'a [u8])]) -> Self
+        ensures { ⟦<NamedFiles<'a> as Files>⟧.state result ≡ unopened_files files.entry.now }
+    {
         NamedFiles {
             files,
             alloc,
@@ -25,24 +66,24 @@ impl<'a> NamedFiles<'a> {
 }
 
 impl<'a> Files for NamedFiles<'a> {
-    ghost use Rattle.std.specs.Prelude.{None, map, option_map};
+    ghost use Rattle.std.specs.Prelude.{Some, map, option_map};
     ghost use Rattle.ptfakes.specs.FakeSink.{sink_state};
-    ghost use Rattle.ptfakes.specs.FakeSource.{source_state};
+    ghost use Rattle.ptfiletests.specs.NamedFiles.{bytes_state, content_of};
 
-    type Input = ChunkedSource<'a>;
+    type Input = Bytes<'a>;
 
     type Output = VecSink;
 
     ghost state = { λ s. record {
       opened = s.opens.names;
-      inputs = map (option_map source_state) s.opens.results;
+      inputs = map (option_map bytes_state) s.opens.results;
       created = s.creates.names;
       outputs = map (option_map sink_state) s.creates.results;
-      content = λ count name. None;
+      content = λ count name. Some (content_of s.files.now name);
     } };
 
-    fn open(&mut self, name: &str) -> Option<ChunkedSource<'a>> {
-        let file = find(self.files, name).map(ChunkedSource::whole);
+    fn open(&mut self, name: &str) -> Option<Bytes<'a>> {
+        let file = find(self.files, name);
         self.opens = self.opens.with(name, &file);
         file
     }
@@ -58,11 +99,13 @@ impl<'a> Files for NamedFiles<'a> {
     }
 }
 
-// Returns the bytes of the file with this name.
-fn find<'a>(files: &[(&'a str, &'a [u8])], name: &str) -> Option<&'a [u8]> {
+// Opens the file with this name.
+fn find<'a>(files: &[(&'a str, &'a [u8])], name: &str) -> Option<Bytes<'a>>
+    ensures { IsContent (Some (content_of files.now name.now)) (option_map bytes_state result) }
+{
     for file in files {
         if file.0 == name {
-            return Some(file.1);
+            return Some(Bytes::new(file.1));
         }
     }
     None

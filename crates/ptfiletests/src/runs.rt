@@ -1,7 +1,12 @@
 //! The output of runs over named files, to standard output and to a file, and their messages.
 
-use crate::named_files::NamedFiles;
-use ptfakes::{ChunkedSource, VecSink};
+ghost use Rattle.ptfakes.specs.FakeSink.{sink_state};
+ghost use Rattle.ptfiletests.specs.NamedFiles.{RunNamedPost};
+ghost use Rattle.ptopts.specs.Commands.{words_view};
+ghost use Rattle.ptrun.specs.Runs.{outcome};
+
+use crate::named_files::{Bytes, NamedFiles};
+use ptfakes::VecSink;
 use ptfiles::{FilesReport, Streams, run_over_files};
 use std::alloc::Global;
 use std::process::Abort;
@@ -10,14 +15,23 @@ const FILES: &[(&str, &[u8])] = &[("f", b"a 1\nb 2\nb 2\n"), ("g", b"b 3\nc 4\n"
 
 type Run = FilesReport<VecSink, VecSink, VecSink>;
 
-// Runs a command over these files. Standard input has the line `b 5`.
-fn run_named(alloc: Global, words: &[&str]) -> Run {
+// Runs a command over named files.
+fn run_over(alloc: Global, words: &[&str], files: &[(&str, &[u8])], standard: &[u8]) -> Run
+    ensures { RunNamedPost (words_view words.now) files.now standard.now
+        (outcome sink_state sink_state result.report) result.out_of_memory }
+{
+    let mut named = NamedFiles::new(alloc, files);
     let streams = Streams {
-        standard: ChunkedSource::whole(b"b 5\n"),
+        standard: Bytes::new(standard),
         out: VecSink::new(alloc),
         messages: VecSink::new(alloc),
     };
-    run_over_files(alloc, &mut NamedFiles::new(alloc, FILES), words, streams)
+    run_over_files(alloc, &mut named, words, streams)
+}
+
+// Runs a command over `FILES`. Standard input has the line `b 5`.
+fn run_named(alloc: Global, words: &[&str]) -> Run {
+    run_over(alloc, words, FILES, b"b 5\n")
 }
 
 // Compares the status, the output and the messages of a run.

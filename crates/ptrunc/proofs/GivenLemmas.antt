@@ -1,6 +1,6 @@
 -- How the arguments of a call are split: words at byte 0, and files at their ends.
-use Rattle.std.proofs.Common.{◌≡◌, ◌⊎◌, ◌==◌, ◌&&◌, ◌<◌, ◌≤◌, ℕ, Bool, true, false, List, [], ◌∷◌, ◌++◌, Option, Some, None}
-use Rattle.std.proofs.Common.{inl, inr, ap, sym, ◌∙◌, refl, subst, arith, drop, length, take, if◌then◌else◌, nat_le, map}
+use Rattle.std.proofs.Common.{◌≡◌, ◌⊎◌, ◌==◌, ◌<◌, ◌≤◌, ℕ, Bool, true, false, List, [], ◌∷◌, ◌++◌, Option, Some, None}
+use Rattle.std.proofs.Common.{inl, inr, ap, sym, ◌∙◌, refl, subst, arith, drop, length, take, if◌then◌else◌}
 use Rattle.std.proofs.Common.{get_or, suc, ◌+◌, ◌-◌, append_assoc, codes}
 use Rattle.std.proofs.lemmas.List.{at_drop_more, length-drop, map-append, take-append-drop}
 use Rattle.std.proofs.lemmas.Bool.{false≢true, true≢false}
@@ -200,12 +200,7 @@ nothing_ran words w out messages' a refused = record {
   is_exact = λ other. absurd (other refused.status_is);
   out_of_memory = λ four. record {
     text = memory_message (codes "ptext");
-    begins = record {
-      rest = drop a.messages.written (memory_message (codes "ptext"));
-      is = sym (take-append-drop a.messages.written (memory_message (codes "ptext")))
-          ∙ ap (λ (l : List ℕ). l ++ drop a.messages.written (memory_message (codes "ptext")))
-          (sym refused.holds.begins);
-    };
+    said = inl refused.holds;
     cause = inl (inl refl);
   };
   is_prefix = rw refused.nothing (record { rest = (spec_of_args words).out w; is = refl });

@@ -1,6 +1,7 @@
 pub mod Below
 pub mod FileLemmas
 pub mod GivenLemmas
+pub mod NamingLemmas
 pub mod Unread
 pub mod RoomLemmas
 pub mod RunLemmas

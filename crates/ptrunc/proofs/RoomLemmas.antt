@@ -1,7 +1,7 @@
 -- A run that returns a sink to which it has added bytes has returned the sink of the same room: the state of a sink
 -- begins with the ghost name of its room. And what the room has is what the state says.
-use Rattle.std.proofs.Common.{◌≡◌, ℕ, ◌<◌, Bool, true, false, List, [], ◌∷◌, ◌++◌, Option, Some, None, ap, sym, ◌∙◌, refl}
-use Rattle.std.proofs.Common.{arith, inl, inr, length, take, length-append, append_assoc, vec_len, ⊎_elim, Result, Ok, Err}
+use Rattle.std.proofs.Common.{◌≡◌, ℕ, ◌<◌, ◌⊎◌, Bool, true, false, List, [], ◌∷◌, ◌++◌, Option, Some, None, ap, sym, ◌∙◌, refl}
+use Rattle.std.proofs.Common.{arith, inl, inr, length, take, length-append, append_assoc, vec_len, ⊎_elim}
 use Rattle.std.proofs.lemmas.Bool.{true≢false}
 use Rattle.std.proofs.lemmas.List.{append-nil, length-take-le}
 use Rattle.std.proofs.Math.Seq.{take-append_seam}
@@ -10,7 +10,7 @@ use Rattle.ptlines.specs.Calls.Sinks.{WriteOutErr, WriteOutOk}
 use Rattle.ptlines.specs.Received.{IsPrefix}
 use Rattle.ptrunc.proofs.Below.{below_or_not}
 use Rattle.ptrunc.specs.Private.Rooms.{AppendPost, IsNewFilling, filling_bytes, filling_state, part_of}
-use Rattle.ptrunc.specs.Results.{Holds, IsFull}
+use Rattle.ptrunc.specs.Results.{Holds, HoldsBeginning, IsFull}
 use Rattle.ptrunc.specs.declared.memory.Filling.{Filling}
 use Rattle.ptrunc.specs.declared.memory.Kept.{Kept}
 
@@ -111,3 +111,24 @@ module _ {A : Type 0} (s : Filling A) where
         is = p.is
             ∙ append_assoc (take s.room.written s.room.bytes.now) s.rest.bytes.items p.rest;
       }
+
+  pub holds_or_begins : (text : List ℕ) → IsPrefix (filling_bytes s) text
+      → (s.rest.failed ≡ false → filling_bytes s ≡ text)
+      → Holds s.room.bytes.now (part_of s) text ⊎ HoldsBeginning s.room.bytes.now (part_of s) text
+  holds_or_begins text p whole = by_failed s.rest.failed refl
+    where
+      by_failed : (failed : Bool) → s.rest.failed ≡ failed
+          → Holds s.room.bytes.now (part_of s) text ⊎ HoldsBeginning s.room.bytes.now (part_of s) text
+      by_failed false fine = inl (holds_of text (whole fine))
+      by_failed true failed = inr (record {
+        begins = prefix_of_room text p;
+        counts = omega (
+          arith,
+          ap length p.is,
+          length-append (filling_bytes s) p.rest,
+          written_length,
+          s.rest.bytes.ok.0,
+          length-append (take s.room.written s.room.bytes.now) s.rest.bytes.items,
+        );
+        full = full_if_failed failed;
+      })

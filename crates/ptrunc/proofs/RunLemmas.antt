@@ -1,8 +1,8 @@
 -- A run over memory is a run over files whose contents are known and of which no read fails. So it is exact unless memory
 -- runs out.
 use Rattle.std.proofs.Common.{◌≡◌, ◌⊎◌, ◌<◌, ◌≤◌, ◌^◌, ℕ, zero, suc, Bool, true, false, List, [], ◌∷◌, ◌++◌, Option}
-use Rattle.std.proofs.Common.{Some, None, Result, Ok, Err, All, ap, sym, ◌∙◌, refl, arith, inl, inr, length, map, subst}
-use Rattle.std.proofs.Common.{append_assoc, codes, take, length-append, option_map, ⊎_elim, if◌then◌else◌}
+use Rattle.std.proofs.Common.{Some, None, All, ap, sym, ◌∙◌, refl, arith, inl, inr, length, map, subst}
+use Rattle.std.proofs.Common.{append_assoc, codes, take, length-append, option_map, ⊎_elim}
 use Rattle.std.proofs.lemmas.Bool.{true≢false, false≢true}
 use Rattle.std.proofs.lemmas.List.{append-nil, get_or_past}
 use Rattle.std.specs.Io.KnownBytes.{prepend_known, append_known, IsAtEnd}
@@ -13,16 +13,15 @@ use Rattle.ptlines.specs.Received.{Received, IsConsistent, IsPrefix}
 use Rattle.ptlines.specs.Sinks.{SinkState}
 use Rattle.ptlines.specs.Slots.{Slots}
 use Rattle.ptlines.specs.Sources.{SourceState}
-use Rattle.ptopts.specs.Commands.{Command, command_of_args}
 use Rattle.ptrun.specs.CommandSpec.{CommandSpec, messages}
 use Rattle.ptrun.specs.Files.{AreInputsConsistent, HasBytes, HasBytesAt, HasReceivedAt, HaveReceived, InputBytes}
 use Rattle.ptrun.specs.Files.{IsConsistentAt, IsNewOrUnopened, IsTooLong, ReceivedInputs, at}
 use Rattle.ptrun.specs.MessageWrites.{HasSaid}
-use Rattle.ptrun.specs.Messages.{memory_message, usage_message}
+use Rattle.ptrun.specs.Messages.{memory_message}
 use Rattle.ptrun.specs.Runs.{HasWrittenNothing, Outcome, RunEnd}
 use Rattle.ptrun.specs.SpecOfArgs.{spec_of_args, spec_unless_memory, tool_name}
 use Rattle.ptfiles.proofs.Inputs.{opened_are_new, readers_have_bytes}
-use Rattle.ptfiles.specs.Files.{Content, FilesState, HaveContents, Input, IsShort, Output, new_readers, source_of}
+use Rattle.ptfiles.specs.Files.{FilesState, HaveContents, Output, new_readers, source_of}
 use Rattle.ptfiles.specs.Files.{with_opened}
 use Rattle.ptfiles.specs.Outputs.{closed_state}
 use Rattle.ptfiles.specs.Private.Shell.{HaveOpened}
@@ -30,18 +29,18 @@ use Rattle.ptfiles.specs.Shell.{After, Before, HasRun, IsDirected, IsExactOverNa
 use Rattle.ptfiles.specs.Shell.{RunOverFilesPost, after, before, command_to_run, empty_store, has_standard_output}
 use Rattle.ptfiles.specs.Shell.{input_names, output_names}
 use Rattle.ptrunc.proofs.Below.{below_or_not}
-use Rattle.ptrunc.proofs.RoomLemmas.{bytes_added, full_if_failed, holds_of, prefix_of_room, same_room}
+use Rattle.ptrunc.proofs.RoomLemmas.{bytes_added, full_if_failed, holds_of, holds_or_begins}
+use Rattle.ptrunc.proofs.RoomLemmas.{prefix_of_room, same_room}
 use Rattle.ptrunc.proofs.Unread.{nothing_is_read, status_is_low}
 use Rattle.ptrunc.specs.Inputs.{files_from, inputs_for}
 use Rattle.ptrunc.specs.Private.Answers.{ExitPost, StatusPost}
 use Rattle.ptrunc.specs.Private.Files.{IsNewFile, source_state, unopened_files}
 use Rattle.ptrunc.specs.Private.Rooms.{AppendPost, IsNewFilling, bytes_of_file, filling_bytes, filling_state}
 use Rattle.ptrunc.specs.Private.Rooms.{has_failed, kept_state, part_of}
-use Rattle.ptrunc.specs.Results.{IsBeforeRun, IsExactInMemory, IsFull, IsOfMemory, IsOutOfMemory, IsRunInMemory}
-use Rattle.ptrunc.specs.Results.{IsStoppedRun, IsUncounted}
+use Rattle.ptrunc.specs.Results.{IsBeforeRun, IsExactInMemory, IsFull, IsRunInMemory}
+use Rattle.ptrunc.specs.Results.{IsStoppedRun}
 use Rattle.ptrunc.specs.declared.answer.Answer.{Answer}
 use Rattle.ptrunc.specs.declared.answer.Part.{Part}
-use Rattle.ptrunc.specs.declared.memory.Bytes.{Bytes}
 use Rattle.ptrunc.specs.declared.memory.Filling.{Filling}
 use Rattle.ptrunc.specs.declared.memory.Kept.{Kept}
 
@@ -190,18 +189,20 @@ pub record Ran (words : List (List ℕ)) (w : InputBytes) (output message : List
       → (output ≡ (spec_of_args words).out w) × (status ≡ (spec_of_args words).status w)
       × (messages_failed ≡ false → message ≡ messages (spec_of_args words) w)
   pub text : List ℕ
-  pub begins : IsPrefix message text
+  pub said : IsPrefix message text × (messages_failed ≡ false → message ≡ text)
   pub cause : IsBeforeRun words text ⊎ (IsStoppedRun (spec_of_args words) w text
       ⊎ ((text ≡ messages (spec_of_args words) w) × (out_of_memory ≡ false) × (denied ≡ false) × (out_failed ≡ false)
       × (file_failed ≡ false)))
 
-said_begins : {A : Type 0} (to_messages messages' : Filling A) (text : List ℕ) → IsNewFilling to_messages
-    → HasSaid (filling_state to_messages) (filling_state messages') text → IsPrefix (filling_bytes messages') text
-said_begins to_messages messages' text new said = record {
-  rest = said.rest;
-  is = said.split
-      ∙ ap (λ (l : List ℕ). l ++ said.rest) (sym (bytes_added to_messages messages' said.front said.accepted new));
-}
+said_of : {A : Type 0} (to_messages messages' : Filling A) (text : List ℕ) → IsNewFilling to_messages
+    → HasSaid (filling_state to_messages) (filling_state messages') text
+    → IsPrefix (filling_bytes messages') text × (messages'.rest.failed ≡ false → filling_bytes messages' ≡ text)
+said_of to_messages messages' text new said =
+    let added = bytes_added to_messages messages' said.front said.accepted new in (
+      record { rest = said.rest; is = said.split ∙ ap (λ (l : List ℕ). l ++ said.rest) (sym added) },
+      λ fine. added ∙ sym (append-nil said.front) ∙ ap (λ (l : List ℕ). said.front ++ l) (sym (said.whole fine))
+          ∙ sym said.split,
+    )
 
 module _ {A : Type 0} (words : List (List ℕ)) (input : List ℕ) (files : InputBytes) (short : length input < 2 ^ 63)
     (to_out to_messages out messages' : Filling A) (out_new : IsNewFilling to_out)
@@ -246,8 +247,9 @@ module _ {A : Type 0} (words : List (List ℕ)) (input : List ℕ) (files : Inpu
         (source_of input) old (record { not_eof = refl; unfailed = refl }) opened).1
         h.ran.run.run.came old_bytes
 
-    message_begins : IsPrefix (filling_bytes messages') h.ran.run.run.message
-    message_begins = said_begins to_messages messages' h.ran.run.run.message messages_new
+    message_said : IsPrefix (filling_bytes messages') h.ran.run.run.message
+        × (messages'.rest.failed ≡ false → filling_bytes messages' ≡ h.ran.run.run.message)
+    message_said = said_of to_messages messages' h.ran.run.run.message messages_new
         (subst (λ s. HasSaid (filling_state to_messages) s h.ran.run.run.message) o_messages h.ran.run.run.has_said)
 
     by_direction : (standard : Bool) → has_standard_output (command_to_run words out_of_memory) ≡ standard
@@ -321,7 +323,7 @@ module _ {A : Type 0} (words : List (List ℕ)) (input : List ℕ) (files : Inpu
                 (e.messages (ap (λ s. s.failed) o_messages ∙ fine))) messages_new,
           );
       text = h.ran.run.run.message;
-      begins = message_begins false h;
+      said = message_said false h;
       cause = inr (cause_of h.ran.run.run.operands_done h.ran.run.run.fault h.ran.run.run.ends);
     }
 
@@ -333,7 +335,7 @@ module _ {A : Type 0} (words : List (List ℕ)) (input : List ℕ) (files : Inpu
       is_prefix = record { rest = (spec_of_args words).out (w false); is = rw output_is refl };
       exact = λ parsed. absurd (true≢false parsed);
       text = h.ran.run.run.message;
-      begins = message_begins true h;
+      said = message_said true h;
       cause = inl (inr (text_of h.ran.run.run.operands_done h.ran.run.run.fault h.ran.run.run.ends));
     }
       where
@@ -372,7 +374,7 @@ module _ {A : Type 0} (words : List (List ℕ)) (input : List ℕ) (files : Inpu
     };
     exact = λ parsed. absurd (true≢false (sym memory.out_of_memory ∙ parsed));
     text = memory_message (codes "ptext");
-    begins = said_begins to_messages messages' (memory_message (codes "ptext")) messages_new
+    said = said_of to_messages messages' (memory_message (codes "ptext")) messages_new
         (subst (λ s. HasSaid (filling_state to_messages) s (memory_message (codes "ptext"))) o_messages
         memory.said.has_said);
     cause = inl (inl refl);
@@ -418,7 +420,7 @@ module _ {A : Type 0} (words : List (List ℕ)) (w : InputBytes) (out final mess
     is_exact = λ other. absurd (other told);
     out_of_memory = λ four. record {
       text = ran.text;
-      begins = rw messages_are (prefix_of_room messages' ran.text ran.begins);
+      said = rw messages_are (holds_or_begins messages' ran.text ran.said.0 ran.said.1);
       cause = ⊎_elim (λ before_run. inl before_run) (λ rest. inr (⊎_elim (λ stopped. inl stopped)
           (λ done. inr (record { text_is = done.0; full = full why done.1 done.2 done.4 })) rest)) ran.cause;
     };

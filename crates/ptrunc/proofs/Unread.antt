@@ -1,6 +1,6 @@
 -- A command that is given no sink to write to reads and writes nothing. And no command has status 4.
-use Rattle.std.proofs.Common.{◌≡◌, ℕ, suc, Bool, true, false, List, [], ◌∷◌, Option, Some, None, Result, Ok, Err, ap, refl}
-use Rattle.std.proofs.Common.{arith, if◌then◌else◌, is_none, not, subst, sym, ◌∙◌, take, bytes_eq, find, option_map}
+use Rattle.std.proofs.Common.{◌≡◌, ℕ, Bool, true, false, List, [], ◌∷◌, Option, Some, None, Result, Ok, Err, ap, refl}
+use Rattle.std.proofs.Common.{arith, if◌then◌else◌, is_none, not, sym, ◌∙◌, take, bytes_eq, find, option_map}
 use Rattle.std.specs.Prelude.{⊤}
 use Rattle.std.proofs.lemmas.Bool.{true≢false}
 use Rattle.std.specs.List.{list_any}
@@ -14,7 +14,7 @@ use Rattle.ptopts.specs.Syntax.{tools}
 use Rattle.ptrun.specs.Files.{InputBytes, is_reader_unopened}
 use Rattle.ptrun.specs.Joint.{disorder_status}
 use Rattle.ptrun.specs.Operands.{positions}
-use Rattle.ptrun.specs.SpecOfArgs.{command_spec, spec_of_args, spec_of_result, spec_unless_memory, tool_name, tool_of_job}
+use Rattle.ptrun.specs.SpecOfArgs.{spec_of_args, spec_of_result, spec_unless_memory, tool_name, tool_of_job}
 use Rattle.ptrun.specs.Tools.{OneByOne, Together, ToolInRun, spec_of_tool}
 use Rattle.ptfiles.specs.Files.{AreContents, Content, Input, new_readers}
 use Rattle.ptfiles.specs.Shell.{command_to_run, has_standard_output, input_names, name_of_output, output_names}

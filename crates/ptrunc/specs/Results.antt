@@ -53,10 +53,16 @@ pub record IsUncounted (m : CommandSpec) (w : InputBytes) (out messages' : List 
     pub text_is : text ≡ messages m w
     pub full : IsFull out a.out ⊎ IsFull messages' a.messages
 
--- The cause of status 4, with the text of which the messages are a beginning.
+-- The room of the messages is full, and there was no memory to count all of the text that did not fit.
+pub record HoldsBeginning (room : List ℕ) (part : Part) (text : List ℕ) : Type 0 where
+  pub begins : IsPrefix (take part.written room) text
+  pub counts : part.written + part.lacking ≤ length text
+  pub full : IsFull room part
+
+-- The cause of status 4, with the text of the messages.
 pub record IsOutOfMemory (words : List (List ℕ)) (w : InputBytes) (out messages' : List ℕ) (a : Answer) : Type 0 where
   pub text : List ℕ
-  pub begins : IsPrefix (take a.messages.written messages') text
+  pub said : Holds messages' a.messages text ⊎ HoldsBeginning messages' a.messages text
   pub cause : IsBeforeRun words text
       ⊎ (IsStoppedRun (spec_of_args words) w text ⊎ IsUncounted (spec_of_args words) w out messages' a text)
 

@@ -9,7 +9,7 @@ mod memory;
 mod naming;
 mod running;
 
-ghost use Rattle.ptrunc.specs.Calls.Given.{RunGivenPost};
+ghost use Rattle.ptrunc.specs.Calls.Given.{NamesGivenPost, RunGivenPost};
 
 use answer::{Answer, refuse};
 use given::{are_ends, files_of, words_of};
@@ -76,12 +76,16 @@ pub extern "C" fn ptext_names_in_memory(
     names: &mut [u8],
     output: &mut [u8],
     answer: &mut Answer,
-) {
+)
+    ensures { NamesGivenPost words.now names.new output.new answer.new }
+{
     *answer = name_given(alloc, words, names, output);
 }
 
 // Names the files of a command whose words are split first.
-fn name_given(alloc: Global, words: &[u8], names: &mut [u8], output: &mut [u8]) -> Answer {
+fn name_given(alloc: Global, words: &[u8], names: &mut [u8], output: &mut [u8]) -> Answer
+    ensures { NamesGivenPost words.now names.new output.new result }
+{
     let Ok(text) = str::from_utf8(words) else {
         return refuse(0, "", output);
     };

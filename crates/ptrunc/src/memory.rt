@@ -1,4 +1,4 @@
-//! Bytes in memory as a source, and room for bytes as a sink. Used by `running` and `naming`.
+//! Bytes in memory as a source, and room for bytes as a sink. Used by `files`, `running` and `naming`.
 
 ghost use Rattle.std.specs.Prelude.{◌≡◌, ◌+◌, ◌-◌, ◌≤◌, ◌<◌, ◌^◌, false, [], ◌++◌, length, min, take};
 

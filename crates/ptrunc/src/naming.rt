@@ -1,10 +1,14 @@
 //! The files that a command names. Used by `lib`.
 
-ghost use Rattle.std.specs.Prelude.{◌≡◌, false, true};
+ghost use Rattle.std.specs.Prelude.{◌++◌, ◌∷◌, [], IfSome};
+ghost use Rattle.ptlines.specs.Text.{unlines};
+ghost use Rattle.ptopts.specs.Commands.{words_view};
+ghost use Rattle.ptrunc.specs.Calls.Names.{AreNamed};
+ghost use Rattle.ptrunc.specs.Private.Rooms.{HoldsMore};
+ghost use Rattle.ptrunc.specs.Results.{Holds};
 
-use crate::answer::{Answer, refuse};
-use crate::memory::{Filling, Room};
-use ptlines::write_out;
+use crate::answer::{Answer, Part, refuse};
+use crate::memory::Room;
 use ptopts::{Command, UseFault};
 use std::alloc::Allocator;
 
@@ -15,43 +19,46 @@ pub fn write_names<A: Allocator + Copy + Drop>(
     words: &[&str],
     names: &mut [u8],
     output: &mut [u8],
-) -> Answer {
+) -> Answer
+    ensures { AreNamed (words_view words.now) names.new output.new result }
+{
     let command = match Command::read(alloc, words) {
         Ok(command) => command,
         Err(UseFault::Memory) => return refuse(4, "", output),
         Err(_) => return refuse(0, "", output),
     };
-    let mut to_names = Filling::new(alloc, Room::new(names));
-    let mut to_output = Filling::new(alloc, Room::new(output));
-    let named = append_names(&mut to_names, command.names());
+    let named = write_list(command.names(), names);
     let output_named = match command.output() {
-        Some(name) => append_names(&mut to_output, &[name]),
-        None => true,
+        Some(name) => write_list(&[name], output),
+        None => write_list(&[], output),
     };
-    let exit = if named && output_named { Some(0) } else { None };
-    Answer::new(exit, to_names.part(), to_output.part())
+    match (named, output_named) {
+        (Some(named), Some(output_named)) => Answer::new(Some(0), named, output_named),
+        _ => refuse(4, "", output),
+    }
 }
 
-// Appends names, each of which ends with byte 0. Returns whether all of them were appended.
-fn append_names<A: Allocator + Drop>(sink: &mut Filling<'_, A>, names: &[&str]) -> bool
-    requires { sink.old.rest.failed ≡ false }
-    ensures { result ≡ true → sink.new.rest.failed ≡ false }
+// Writes names, each with byte 0 after it, as far as they fit. `None` if what does not is too much to be counted.
+fn write_list(names: &[&str], room: &mut [u8]) -> Option<Part>
+    ensures { IfSome result (λ part. Holds room.new part (unlines 0 (words_view names.now))) }
 {
+    let mut room = Room::new(room);
+    let mut lacking: usize = 0;
     for name in names {
-        if !append_name(sink, name) {
-            return false;
-        }
+        lacking = lacking.checked_add(append_name(&mut room, name))?;
     }
-    true
+    Some(Part {
+        written: room.written,
+        lacking,
+    })
 }
 
-// Appends one name and byte 0.
-fn append_name<A: Allocator + Drop>(sink: &mut Filling<'_, A>, name: &str) -> bool
-    requires { sink.old.rest.failed ≡ false }
-    ensures { result ≡ true → sink.new.rest.failed ≡ false }
+// Appends a name and byte 0, as far as they fit, and returns the number of bytes that do not.
+#[tactic(auto, using(crate::proofs::NamingLemmas::name_added))]
+fn append_name(room: &mut Room<'_>, name: &str) -> usize
+    ensures { HoldsMore room.old room.new (name.now ++ 0 ∷ []) result }
 {
-    match write_out(sink, name.as_bytes()) {
-        Ok(()) => write_out(sink, b"\0").is_ok(),
-        Err(_) => false,
-    }
+    let named = room.append(name.as_bytes());
+    let ended = room.append(b"\0");
+    name.len() - named + (1 - ended)
 }

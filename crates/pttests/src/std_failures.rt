@@ -106,6 +106,19 @@ fn a_pull_is_one_read(rt: HostRuntime) {
 }
 
 #[test]
+fn the_end_is_read_once(rt: HostRuntime) {
+    let mut into = [0u8; 4];
+    let calls = CallCounter::failing_at(9);
+    let mut source = FromRead::new(FailingReader {
+        text: b"ab",
+        calls: &calls,
+    });
+    assert_same(&rt, &source.pull(&mut into), &Ok(2));
+    assert_same(&rt, &source.pull(&mut into), &Ok(0));
+    assert_calls(&rt, &calls, 2, 0);
+}
+
+#[test]
 fn a_put_is_one_write_and_a_flush_one_flush(rt: HostRuntime) {
     let mut bytes = Vec::new(rt.alloc());
     {

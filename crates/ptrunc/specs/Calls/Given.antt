@@ -1,11 +1,12 @@
 -- The contracts of the calls for C: how their arguments are split, and what they do with them.
-use Rattle.std.specs.Prelude.{◌≡◌, ◌⊎◌, ◌^◌, ◌-◌, ◌≤◌, ◌==◌, ◌&&◌, ℕ, Bool, true, false, List, [], ◌∷◌, Option, Some}
+use Rattle.std.specs.Prelude.{◌≡◌, ◌⊎◌, ◌^◌, ◌-◌, ◌==◌, ◌&&◌, ℕ, Bool, true, false, List, [], ◌∷◌, Some}
 use Rattle.std.specs.Prelude.{None, codes, drop, length, nat_le, take, if◌then◌else◌}
 use Rattle.std.specs.Str.{IsUtf8}
 use Rattle.ptlines.specs.Text.{lines}
 use Rattle.ptrun.specs.Files.{InputBytes}
 use Rattle.ptrun.specs.MessageWrites.{line_of}
 use Rattle.ptrunc.specs.Calls.Answers.{IsRefused}
+use Rattle.ptrunc.specs.Calls.Names.{AreNamed}
 use Rattle.ptrunc.specs.Inputs.{inputs_for}
 use Rattle.ptrunc.specs.Results.{IsRunInMemory}
 use Rattle.ptrunc.specs.declared.answer.Answer.{Answer}
@@ -37,3 +38,8 @@ RunGivenPost words input files ends out messages' a =
     × IsRefused 5 (line_of (codes "ptext: the ends of the files are not in order" ∷ [])) messages' a)
     ⊎ ((are_ascending 0 ends (length files) ≡ true)
     × IsRunInMemory (lines 0 words) (inputs_for (lines 0 words) input (cut_at 0 ends files)) out messages' a))
+
+-- The files of the command that these bytes are were named. Words that are not UTF-8 name none.
+abbrev pub NamesGivenPost : List ℕ → List ℕ → List ℕ → Answer → Type 0
+NamesGivenPost words names output a =
+    (¬ (IsUtf8 words) × IsRefused 0 [] output a) ⊎ AreNamed (lines 0 words) names output a

@@ -1,5 +1,5 @@
 -- Files in memory: the sources of those that are opened, and those that are created.
-use Rattle.std.specs.Prelude.{◌≡◌, ℕ, false, List, [], Option, Some, None, option_map}
+use Rattle.std.specs.Prelude.{◌≡◌, false, [], Option, Some, option_map}
 use Rattle.ptfiles.specs.Files.{FilesState}
 use Rattle.ptlines.specs.Sources.{SourceState}
 use Rattle.ptrun.specs.Files.{InputBytes, at}

@@ -1,5 +1,5 @@
 -- The model of files in memory.
-use Rattle.std.specs.Prelude.{ℕ, List, Some, map, option_map}
+use Rattle.std.specs.Prelude.{Some, map, option_map}
 use Rattle.ptfiles.specs.Files.{FilesState}
 use Rattle.ptrun.specs.Files.{at}
 use Rattle.ptrunc.specs.Inputs.{files_view}

@@ -1,10 +1,13 @@
 -- The model of a room that is filled, as a sink.
-use Rattle.std.specs.Prelude.{◌≡◌, ◌⊎◌, ℕ, Bool, true, false, List, [], ◌∷◌, ◌++◌, Option, Some, None, take, vec_len}
+use Rattle.std.specs.Prelude.{◌≡◌, ◌⊎◌, ℕ, Bool, true, false, List, [], ◌∷◌, ◌+◌, ◌++◌, Option, Some, None, take}
+use Rattle.std.specs.Prelude.{vec_len}
 use Rattle.ptlines.specs.Received.{IsPrefix}
 use Rattle.ptlines.specs.Sinks.{SinkState}
+use Rattle.ptrunc.specs.Results.{Holds}
 use Rattle.ptrunc.specs.declared.answer.Part.{Part}
 use Rattle.ptrunc.specs.declared.memory.Filling.{Filling}
 use Rattle.ptrunc.specs.declared.memory.Kept.{Kept}
+use Rattle.ptrunc.specs.declared.memory.Room.{Room}
 
 -- The state as a sink of bytes that are kept.
 abbrev pub kept_state : {A : Type 0} → Kept A → SinkState
@@ -38,6 +41,14 @@ pub record IsNewFilling {A : Type 0} (s : Filling A) : Type 0 where
 -- How much of the bytes the room has got.
 abbrev pub part_of : {A : Type 0} → Filling A → Part
 part_of s = record { written = s.room.written; lacking = vec_len s.rest.bytes }
+
+-- Bytes were added to a room, as far as they fit, and `lacking` did not: if it held a text before, it holds that text and
+-- these bytes.
+pub record HoldsMore (old new : Room) (bytes : List ℕ) (lacking : ℕ) : Type 0 where
+  pub same_room : new.bytes.ghost_name ≡ old.bytes.ghost_name
+  pub holds : (text : List ℕ) (before : ℕ)
+      → Holds old.bytes.now (record { written = old.written; lacking = before }) text
+      → Holds new.bytes.now (record { written = new.written; lacking = before + lacking }) (text ++ bytes)
 
 -- The bytes of a file.
 abbrev pub bytes_of_file : {A : Type 0} → Option (Kept A) → List ℕ

@@ -1,5 +1,5 @@
 -- The files so far, and those that the other ends give, are all files. The other ends are in order.
-use Rattle.std.proofs.Common.{◌≡◌, ◌≤◌, ◌++◌, true, drop, length}
+use Rattle.std.proofs.Common.{◌≡◌, ◌++◌, true, drop, length}
 use Rattle.ptrunc.specs.Calls.Given.{are_ascending, cut_at}
 use Rattle.ptrunc.specs.Inputs.{files_view}
 use Rattle.ptrunc.proofs.given.files_of.Given as goal
