@@ -1,3 +1,4 @@
 -- The contracts of public calls.
 pub mod Answers
 pub mod Given
+pub mod Streams
