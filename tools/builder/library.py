@@ -72,11 +72,15 @@ def link(kit, place):
     for name in ("ptext", "stream"):
         run(["gcc", *flags, "-c", "-o", f"{objects}/{name}.o", f"{TOP}/lib/{name}.c"], place)
     bind(f"{place}/{CRATE}.a", place)
+    parts = f"{place}/parts"
+    os.mkdir(parts)
     for archive in (f"{place}/{CRATE}.a", f"{kit}/{HEAP}"):
-        run(["ar", "x", archive], objects)
+        run(["ar", "x", archive], parts)
+    # (Tests compile lib/ once more, with sanitizers, and link it with these.)
+    run(["ar", "rcsD", f"{place}/parts.a", *sorted(glob.glob(f"{parts}/*.o"))], place)
     # One object, of which only the calls of ptext.h can be seen: other libraries of the toolchain have its names, too.
     one = f"{place}/libptext.o"
-    run(["ld", "-r", "-o", one, *sorted(glob.glob(f"{objects}/*.o"))], place)
+    run(["ld", "-r", "-o", one, *sorted(glob.glob(f"{objects}/*.o") + glob.glob(f"{parts}/*.o"))], place)
     run(["objcopy", *(f"--keep-global-symbol={name}" for name in EXPORTED), one], place)
     run(["ar", "rcsD", f"{place}/libptext.a", one], place)
     version = read_version()
@@ -108,5 +112,6 @@ def build(kit, place):
     make_links(f"{TOP}/build", version)
     put(f"{TOP}/lib/ptext.h", f"{TOP}/build/ptext.h")
     write_text(f"{TOP}/build/ptext.pc", SETTINGS.format(version=version))
+    put(f"{place}/parts.a", f"{TOP}/build/{CRATE}.a")
     put(f"{place}/libptext.a", f"{TOP}/build/libptext.a")
     return f"build/libptext.so.{version}"
