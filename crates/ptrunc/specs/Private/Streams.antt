@@ -1,5 +1,5 @@
 -- The streams of a host as files.
-use Rattle.std.specs.Prelude.{◌≡◌, ◌×◌, Option, Some, option_map}
+use Rattle.std.specs.Prelude.{◌≡◌, Option, Some, option_map}
 use Rattle.ptfiles.specs.Files.{Content, Input, IsContent, IsNewInput}
 use Rattle.ptlines.specs.Sinks.{SinkState}
 
