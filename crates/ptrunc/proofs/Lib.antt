@@ -4,3 +4,4 @@ pub mod GivenLemmas
 pub mod Unread
 pub mod RoomLemmas
 pub mod RunLemmas
+pub mod StreamLemmas

@@ -23,7 +23,7 @@ impl Host for Caller {
 
     ghost content = { λ host number. None };
 
-    ghost output = { λ host number. unwritten };
+    ghost output = { λ number. unwritten };
 
     fn input(&self, number: usize) -> FromRead<CallerStream> {
         FromRead::new(CallerStream::new(number))

@@ -12,7 +12,11 @@ mod naming;
 mod running;
 mod streams;
 
+ghost use Rattle.ptfiles.specs.Shell.{MayFail};
+ghost use Rattle.ptlines.specs.Private.Sinks.{hide_accepted};
+ghost use Rattle.ptlines.specs.Private.Sources.{hide_left};
 ghost use Rattle.ptrunc.specs.Calls.Given.{RunGivenPost};
+ghost use Rattle.ptrunc.specs.Calls.Streams.{GivenStreamsPost, unknown, unwritten};
 
 use answer::{Answer, refuse};
 use given::{are_ends, files_of, words_of};
@@ -99,6 +103,9 @@ fn name_given(alloc: Global, words: &[u8], names: &mut [u8], output: &mut [u8]) 
 /// Runs a command over the streams of the caller, and returns the exit status, or 4 if memory ran out. Each word ends
 /// with byte 0. `opened` has a byte for each file that the words name, which is 0 if it cannot be opened.
 #[unsafe(no_mangle)]
-pub extern "C" fn ptext_run_streams(alloc: Global, words: &[u8], opened: &[u8]) -> u8 {
+pub extern "C" fn ptext_run_streams(alloc: Global, words: &[u8], opened: &[u8]) -> u8
+    ensures { GivenStreamsPost hide_accepted words.now unknown (λ number. unwritten) opened.now result
+        (MayFail hide_left hide_left) }
+{
     run_given_streams(alloc, &Caller, words, opened)
 }

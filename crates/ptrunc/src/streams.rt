@@ -8,7 +8,8 @@ ghost use Rattle.ptlines.specs.Sources.{IsFresh};
 ghost use Rattle.ptfiles.specs.Private.Files.{IsNewOutput, opened_state};
 ghost use Rattle.ptopts.specs.Commands.{words_view};
 ghost use Rattle.ptrun.specs.Runs.{outcome};
-ghost use Rattle.ptrunc.specs.Calls.Streams.{RunStreamsPost, file_content, known, status_unless_memory, stream_files};
+ghost use Rattle.ptrunc.specs.Calls.Streams.{GivenStreamsPost, RunStreamsPost, file_content, known};
+ghost use Rattle.ptrunc.specs.Calls.Streams.{status_unless_memory, stream_files};
 ghost use Rattle.ptrunc.specs.Private.Streams.{IsStream, OpenedPost};
 
 use crate::given::words_of;
@@ -38,7 +39,7 @@ pub trait Host {
     ghost content: { Self → ℕ → Option (List ℕ) };
 
     /// The state of the stream with a number before its first write.
-    ghost output: { Self → ℕ → SinkState };
+    ghost output: { ℕ → SinkState };
 
     /// Returns the stream with this number, of which nothing was read yet.
     fn input(&self, number: usize) -> Self::Input
@@ -47,7 +48,7 @@ pub trait Host {
 
     /// Returns the stream with this number, to which nothing was written yet.
     fn output(&self, number: usize) -> Self::Output
-        ensures state { Self.Output.state result ≡ output self.now number }
+        ensures state { Self.Output.state result ≡ output number }
         ensures is_new { IsNewOutput (Some (Self.Output.state result)) };
 }
 
@@ -61,7 +62,7 @@ pub struct StreamFiles<'a, H: Host> {
     opens: Calls<Option<H::Input>>,
     creates: Calls<Option<H::Output>>,
     ghost next_is: { next ≡ min (length opens.names) (length opened.now) },
-    ghost all_output: { All (IsStream H.Output.state (H.output host.now 1)) creates.results },
+    ghost all_output: { All (IsStream H.Output.state (H.output 1)) creates.results },
 }
 
 impl<'a, H: Host> StreamFiles<'a, H> {
@@ -125,7 +126,10 @@ pub fn run_given_streams<A: Allocator + Copy, H: Host>(
     host: &H,
     words: &[u8],
     opened: &[u8],
-) -> u8 {
+) -> u8
+    ensures { GivenStreamsPost H.Output.state words.now (H.content host.now) H.output opened.now result
+        (MayFail H.Input.state H.Input.state) }
+{
     let Ok(text) = str::from_utf8(words) else {
         return refuse(host, "ptext: a word is not UTF-8", 2);
     };
@@ -152,10 +156,10 @@ pub fn run_streams<A: Allocator + Copy, H: Host>(
     words: &[&str],
     opened: &[u8],
 ) -> (u8, FilesReport<H::Output, H::Output, H::Output>)
-    ensures { RunStreamsPost (words_view words.now) (H.content host.now) (H.output host.now) opened.now result.0
+    ensures { RunStreamsPost H.Output.state (words_view words.now) (H.content host.now) H.output opened.now result.0
         (created_state H.Output.state result.1.file) result.1.out_of_memory
-        (outcome H.Output.state H.Output.state result.1.report)
-        (H.Output.state result.1.report.out ≡ H.output host.now 1) (MayFail H.Input.state H.Input.state) }
+        (outcome H.Output.state H.Output.state result.1.report) result.1.report.out
+        (MayFail H.Input.state H.Input.state) }
 {
     let mut files = StreamFiles::new(host, opened);
     let streams = Streams {
@@ -164,13 +168,12 @@ pub fn run_streams<A: Allocator + Copy, H: Host>(
         messages: host.output(MESSAGES),
     };
     let ran = run_over_files(alloc, &mut files, words, streams);
-    let status = status_of(ran.report.status, ran.out_of_memory || ran.report.denied);
-    (status, ran)
+    (status_of(ran.report.status, ran.out_of_memory, ran.report.denied), ran)
 }
 
-// Returns the status of a run, or 4 if memory ran out.
-fn status_of(status: u8, is_out_of_memory: bool) -> u8
-    ensures { result ≡ status_unless_memory status is_out_of_memory }
+// Returns the status of a run, or 4 if memory ran out before it or in it.
+fn status_of(status: u8, out_of_memory: bool, denied: bool) -> u8
+    ensures { result ≡ status_unless_memory status out_of_memory denied }
 {
-    if is_out_of_memory { 4 } else { status }
+    if out_of_memory || denied { 4 } else { status }
 }

@@ -13,7 +13,11 @@ use Rattle.ptrun.specs.Runs.{Outcome}
 abbrev pub known : Option (List ℕ) → Option Content
 known bytes = option_map Some bytes
 
--- The state of a real stream before its first write: nothing is known of its bytes.
+-- Nothing is known of the bytes of real streams.
+abbrev pub unknown : ℕ → Option (List ℕ)
+unknown number = None
+
+-- The state of a real stream before its first write.
 abbrev pub unwritten : SinkState
 unwritten = record { accepted = None; failed = false; unflushed = false; flushes = 0 }
 
@@ -36,19 +40,38 @@ stream_files content opened = record {
   content = λ count name. file_content content opened count;
 }
 
-abbrev pub status_unless_memory : ℕ → Bool → ℕ
-status_unless_memory status is_out_of_memory = if is_out_of_memory then 4 else status
+abbrev pub status_unless_memory : ℕ → Bool → Bool → ℕ
+status_unless_memory status out_of_memory denied = if out_of_memory || denied then 4 else status
 
 -- The command was run as over files: its standard input, its files, its output and its messages are the streams with
 -- these numbers. So if their bytes are known, the output and the messages are exact (`IsExactOverNames`).
-pub record RunStreamsPost (words : List (List ℕ)) (content : ℕ → Option (List ℕ)) (output : ℕ → SinkState)
-    (opened : List ℕ) (status : ℕ) (file : Output) (out_of_memory : Bool) (o : Outcome) (Unused Failing : Type 0)
-    : Type 0 where
+pub record RunStreamsPost {W : Type 0} (of : W → SinkState) (words : List (List ℕ)) (content : ℕ → Option (List ℕ))
+    (output : ℕ → SinkState) (opened : List ℕ) (status : ℕ) (file : Output) (out_of_memory : Bool) (o : Outcome)
+    (returned : W) (Failing : Type 0) : Type 0 where
   pub standard : SourceState
   pub input : IsContent (known (content 0)) (Some standard)
+  pub out : W
+  pub out_is : of out ≡ output 1
   pub after : FilesState
   pub ran : RunOverFilesInOwnStore words (stream_files content opened) after standard (output 1) (output 2) file
-      out_of_memory o Unused Failing
+      out_of_memory o (returned ≡ out) Failing
   -- a file that was created is the output
   pub created : All (λ output'. output' ≡ Some (output 1)) after.outputs
-  pub status_is : status ≡ status_unless_memory o.status (out_of_memory || o.denied)
+  pub status_is : status ≡ status_unless_memory o.status out_of_memory o.denied
+
+-- There is such a run, of which only the status is known.
+pub record HasRunStreams {W : Type 0} (of : W → SinkState) (words : List (List ℕ)) (content : ℕ → Option (List ℕ))
+    (output : ℕ → SinkState) (opened : List ℕ) (status : ℕ) (Failing : Type 0) : Type 0 where
+  pub file : Output
+  pub out_of_memory : Bool
+  pub outcome : Outcome
+  pub returned : W
+  pub run : RunStreamsPost of words content output opened status file out_of_memory outcome returned Failing
+
+-- The command that these bytes are was run over streams. The words are its lines that end with byte 0. If they are not
+-- UTF-8, or there is no memory for them, nothing was run.
+abbrev pub GivenStreamsPost : {W : Type 0} → (W → SinkState) → List ℕ → (ℕ → Option (List ℕ)) → (ℕ → SinkState)
+    → List ℕ → ℕ → Type 0 → Type 0
+GivenStreamsPost of words content output opened status Failing =
+    (¬ (IsUtf8 words) × (status ≡ 2))
+    ⊎ ((status ≡ 4) ⊎ HasRunStreams of (lines 0 words) content output opened status Failing)
