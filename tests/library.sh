@@ -27,7 +27,15 @@ gcc $flags -pthread $refuse -o "$room/refused" tests/streams.c "$built/libptext.
 parts="tests/streams.c lib/ptext.c lib/stream.c $built/ptrunc.a"
 for with in "address,undefined" "address,undefined $refuse" "thread -DNO_STEPS"; do
     if gcc $flags -g -O1 -pthread -fsanitize=$with -o "$room/checked" $parts 2>"$room/said"; then
-        "$room/checked" 2>"$room/said" || { bad=$((bad + 1)); cat "$room/said"; }
+        if ! "$room/checked" 2>"$room/said"; then
+            # (Some kernels place memory where ThreadSanitizer cannot have it.)
+            if grep -q 'unexpected memory mapping' "$room/said"; then
+                left_out "streams with -fsanitize=$with (the kernel does not let it)"
+            else
+                bad=$((bad + 1))
+                cat "$room/said"
+            fi
+        fi
     else
         left_out "streams with -fsanitize=$with (gcc has it not)"
     fi
@@ -46,7 +54,7 @@ is "filter join" "$drinks" "$(cd "$room" && ./filter join -t , - drinks <people)
 is "filter cut" "$(printf '1\ncut: none: cannot be opened\n1')" "$(cd "$room" && head -n 1 people | ./filter cut -b 1 - none 2>&1 || echo $?)"
 is "filter uniq" "$(printf '1,ann\n2,bob')" "$(cd "$room" && ./filter uniq people made && cat made)"
 is "filter, no command" 2 "$("$room/filter" cut 2>/dev/null || echo $?)"
-# ---- a gigabyte in 8 MB of memory
+# ---- half a gigabyte in 8 MB of memory
 if [ "$(uname)" = Linux ]; then
     is "a long stream" 120000000 "$(yes 'a,b,c,d' | head -n 60000000 | (ulimit -v 8192 && "$room/filter" cut -d , -f 2) | wc -c)"
 fi
