@@ -17,17 +17,17 @@ pub streamed : {W : Type 0} {of : W → SinkState} {words : List (List ℕ)} {co
     → RunStreamsPost of words content output opened status file out_of_memory o returned Failing
 streamed {W} {of} {words} {content} {output} {opened} {status} {files} {after} {standard} {out} {returned} {messages}
     {file} {out_of_memory} {o} {Failing} files_are input out_is messages_are ran created status_is = record {
-  standard = standard;
-  input = input;
-  out = out;
-  out_is = out_is;
-  after = after;
-  ran = subst (λ f. RunOverFilesInOwnStore words f after standard (output 1) (output 2) file out_of_memory o
-      (returned ≡ out) Failing) files_are
-      (subst (λ w. RunOverFilesInOwnStore words files after standard w (output 2) file out_of_memory o
-      (returned ≡ out) Failing) out_is
-      (subst (λ m. RunOverFilesInOwnStore words files after standard (of out) m file out_of_memory o
-      (returned ≡ out) Failing) messages_are ran));
-  created = created;
-  status_is = status_is;
-}
+      standard = standard;
+      input = input;
+      out = out;
+      out_is = out_is;
+      after = after;
+      ran = subst (λ f. RunOverFilesInOwnStore words f after standard (output 1) (output 2) file out_of_memory o
+          (returned ≡ out) Failing) files_are
+          (subst (λ w. RunOverFilesInOwnStore words files after standard w (output 2) file out_of_memory o
+          (returned ≡ out) Failing) out_is
+          (subst (λ m. RunOverFilesInOwnStore words files after standard (of out) m file out_of_memory o
+          (returned ≡ out) Failing) messages_are ran));
+      created = created;
+      status_is = status_is;
+    }

@@ -168,7 +168,8 @@ pub fn run_streams<A: Allocator + Copy, H: Host>(
         messages: host.output(MESSAGES),
     };
     let ran = run_over_files(alloc, &mut files, words, streams);
-    (status_of(ran.report.status, ran.out_of_memory, ran.report.denied), ran)
+    let status = status_of(ran.report.status, ran.out_of_memory, ran.report.denied);
+    (status, ran)
 }
 
 // Returns the status of a run, or 4 if memory ran out before it or in it.

@@ -11,4 +11,4 @@ returns g c =
     c.run_over_files-ran.ensures
     (All-map (λ output'. output' ≡ Some (g.H.Host.output 1)) (option_map g.H.Output.Sink.state) files.creates.results
     files.all_output)
-    c.status_of.ensures
+    c.status_of-status.ensures
