@@ -58,14 +58,25 @@ def _check_piece(what: str, piece: Any) -> Buffer:
     return piece  # type: ignore[no-any-return]
 
 
+def _count_bytes(what: str, count: Any) -> int:
+    if count is None:
+        raise BlockingIOError(f"{what} has no bytes yet: it may not be in non-blocking mode")
+    return int(count)
+
+
+def _fill_pieces(what: str, read_into: Any) -> Iterator[Buffer]:
+    # (A piece is used until the next one is wanted, so all of them can lie in one buffer.)
+    room = memoryview(bytearray(PIECE))
+    while count := _count_bytes(what, read_into(room)):
+        yield room[:count]
+
+
 def _read_pieces(what: str, file: Any) -> Iterator[Buffer]:
     # (Where there is `read1`, `read` waits for all that it was asked for.)
     read = getattr(file, "read1", None) or file.read
     while True:
         piece = read(PIECE)
-        if piece is None:
-            raise BlockingIOError(f"{what} has no bytes yet: it may not be in non-blocking mode")
-        if not len(_check_piece(what, piece)):  # type: ignore[arg-type]
+        if not _count_bytes(what, None if piece is None else len(_check_piece(what, piece))):  # type: ignore[arg-type]
             return
         yield piece
 
@@ -77,6 +88,10 @@ def list_pieces(what: str, given: Input) -> Iterator[Buffer]:
     if is_buffer(given):
         return iter((given,))  # type: ignore[arg-type]
     refuse_text(what, given)
+    if isinstance(given, io.RawIOBase):
+        return _fill_pieces(what, given.readinto)
+    if isinstance(given, io.BufferedIOBase):
+        return _fill_pieces(what, given.readinto1)
     if hasattr(given, "read"):
         return _read_pieces(what, given)
     if isinstance(given, Iterable):

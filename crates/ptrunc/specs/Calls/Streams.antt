@@ -1,5 +1,5 @@
 -- The contract of a run over numbered streams: 0 is standard input, 1 the output, 2 the messages, 3 + i the file i.
-use Rattle.std.specs.Prelude.{◌≡◌, ◌⊎◌, ◌+◌, ℕ, Bool, false, not, List, [], Option, Some, None, All, ⊤, ◌||◌, ◌==◌}
+use Rattle.std.specs.Prelude.{◌≡◌, ◌⊎◌, ◌+◌, ℕ, Bool, false, not, List, [], Option, Some, None, All, ◌||◌, ◌==◌}
 use Rattle.std.specs.Prelude.{if◌then◌else◌, option_map, slice_index_or}
 use Rattle.std.specs.Str.{IsUtf8}
 use Rattle.ptfiles.specs.Files.{Content, FilesState, IsContent, Output}
