@@ -8,7 +8,7 @@
 # make must-fail            tries the wrong bodies that the gate leaves out: before a release
 # make check-program        all tests of a built program (PROGRAM=build/ptext): nothing is proved, and no toolchain needed
 # make static               build/ptext-static: the program as one file that needs no shared libraries
-# make lib                  build/libptext.so and build/libptext.a with ptext.h: the tools over bytes in memory, for C
+# make lib                  build/libptext.so and build/libptext.a with ptext.h: the tools as a library, for C
 # make install-lib          installs them and the page ptext(3) into PREFIX
 # make python               build/dist: a wheel of the Python module, with the library in it (docs/LIBRARY.md)
 # make page                 build/page/ptext.html: the tools in a browser, as one file (docs/LIBRARY.md)
@@ -104,7 +104,7 @@ lib: build/libptext.a
 
 # (The tests take build/libptext.a as it is, too.)
 ifndef PTEXT_AS_BUILT
-build/libptext.a: lib/ptext.c lib/ptext.h $(BUILDER) $(SOURCES)
+build/libptext.a: lib/ptext.c lib/stream.c lib/ptext.h $(BUILDER) $(SOURCES)
 	@$(WITH_RT)
 	python3 tools/builder library
 endif

@@ -13,6 +13,8 @@ const HEADER_SIZE = 16;
 const KEPT_MEMORY = 2 ** 28;
 /** The most memory that a call gets, in bytes: a command that needs more ends with status 4. */
 const LIMIT = 2 ** 30;
+/** By these the module would read and write streams. No command is run over streams here. */
+const NO_STREAMS = { read: () => 0n, write: () => -1n };
 
 class NoMemory extends Error {
     constructor() {
@@ -208,7 +210,7 @@ export class Ptext {
     /** Begins a call over an empty heap. A module whose call has failed is not called again. */
     #guarded(call) {
         if (!this.exports || this.exports.memory.buffer.byteLength > KEPT_MEMORY) {
-            this.exports = new WebAssembly.Instance(this.module, { host: this.heap.imports() }).exports;
+            this.exports = new WebAssembly.Instance(this.module, { host: { ...this.heap.imports(), ...NO_STREAMS } }).exports;
         }
         this.heap.begin(this.exports.memory, Number(this.exports.__heap_base.value));
         try {

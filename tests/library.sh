@@ -1,7 +1,8 @@
 #!/bin/sh
-# Tests the library for C and the Python module over it: the example, bad arguments, too little room, two threads; and,
-# if it is in build/, that it is installed, found by pkg-config and removed, and that the wheel of `make python` has it.
-# usage: tests/library.sh [FOLDER]      FOLDER has libptext.so and libptext.a (build/)
+# Tests the library for C and the Python module over it: the examples, bad arguments, too little room, streams (also with
+# sanitizers, and each request for memory refused), threads, what it exports; and, if it is in build/, that it is
+# installed, found by pkg-config and removed, and that the wheel of `make python` has it.
+# usage: tests/library.sh [FOLDER]      FOLDER has libptext.so, libptext.a and ptrunc.a (build/)
 set -eu
 built=$(realpath "${1:-build}")
 cd "$(dirname "$0")/.."
@@ -17,6 +18,50 @@ for program in example shared; do
 done
 "$room/calls"
 "$room/pointers"
+gcc $flags -pthread -o "$room/streams" tests/streams.c "$built/libptext.a"
+"$room/streams"
+refuse="-DREFUSED -Wl,--wrap=malloc,--wrap=calloc,--wrap=realloc"
+gcc $flags -pthread $refuse -o "$room/refused" tests/streams.c "$built/libptext.a"
+"$room/refused"
+# (What is compiled anew for sanitizers is lib/ and the tests. ThreadSanitizer and valgrind know no stacks of steps.)
+parts="tests/streams.c lib/ptext.c lib/stream.c $built/ptrunc.a"
+for with in "address,undefined" "address,undefined $refuse" "thread -DNO_STEPS"; do
+    if gcc $flags -g -O1 -pthread -fsanitize=$with -o "$room/checked" $parts 2>"$room/said"; then
+        if ! "$room/checked" 2>"$room/said"; then
+            # (Some kernels place memory where ThreadSanitizer cannot have it.)
+            if grep -q 'unexpected memory mapping' "$room/said"; then
+                left_out "streams with -fsanitize=$with (the kernel does not let it)"
+            else
+                bad=$((bad + 1))
+                cat "$room/said"
+            fi
+        fi
+    else
+        left_out "streams with -fsanitize=$with (gcc has it not)"
+    fi
+done
+if has valgrind; then
+    gcc $flags -g -pthread -DNO_STEPS -o "$room/checked" tests/streams.c "$built/libptext.a"
+    valgrind -q --leak-check=full --error-exitcode=9 "$room/checked" || bad=$((bad + 1))
+else
+    left_out "streams by valgrind (it is not there)"
+fi
+# ---- lib/filter.c does as the program
+printf '1,ann\n2,bob\n' >"$room/people"
+printf '1,tea\n2,milk\n' >"$room/drinks"
+gcc $flags -o "$room/filter" lib/filter.c "$built/libptext.a"
+is "filter join" "$drinks" "$(cd "$room" && ./filter join -t , - drinks <people)"
+is "filter cut" "$(printf '1\ncut: none: cannot be opened\n1')" "$(cd "$room" && head -n 1 people | ./filter cut -b 1 - none 2>&1 || echo $?)"
+is "filter uniq" "$(printf '1,ann\n2,bob')" "$(cd "$room" && ./filter uniq people made && cat made)"
+is "filter, no command" 2 "$("$room/filter" cut 2>/dev/null || echo $?)"
+# ---- half a gigabyte in 8 MB of memory
+if [ "$(uname)" = Linux ]; then
+    is "a long stream" 120000000 "$(yes 'a,b,c,d' | head -n 60000000 | (ulimit -v 8192 && "$room/filter" cut -d , -f 2) | wc -c)"
+fi
+# ---- nothing but the calls of ptext.h is exported
+calls=$(sed -n 's/^[a-z].* \**\(ptext_[a-z_]*\)(.*/\1/p' lib/ptext.h | grep -v '^ptext_read$\|^ptext_write$' | sort)
+is "exports of libptext.so" "$calls" "$(nm -D --defined-only "$built/libptext.so" | sed -n 's/.* T \(.*\)@@.*/\1/p' | sort)"
+is "exports of libptext.a" "$calls" "$(nm -g --defined-only "$built/libptext.a" | sed -n 's/.* T //p' | sort)"
 # (The tests of make need none of its flags, and start no build.)
 unset MAKEFLAGS MFLAGS MAKELEVEL
 export PTEXT_AS_BUILT=yes

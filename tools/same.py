@@ -1,14 +1,16 @@
 #!/usr/bin/env python3
 """Compares the library with the program: the same output, messages and status on random words and inputs.
 
-  python3 tools/same.py PROGRAM [COUNT] [--page PAGE]
+  python3 tools/same.py PROGRAM [COUNT] [--by functions|steps|descriptors | --page PAGE]
 
-COUNT is 2,000. The library is build/libptext.so, through the Python module; with --page, the module of a built page, by
-node.
+COUNT is 2,000. The library is build/libptext.so, through the Python module, over bytes in memory; with --by, over streams,
+whose inputs come in random pieces: by functions that C calls, step by step, or by the descriptors of files and pipes.
+With --page it is the module of a built page, by node.
 """
 import argparse
 import base64
 import contextlib
+import ctypes
 import json
 import os
 import random
@@ -16,6 +18,7 @@ import signal
 import subprocess
 import sys
 import tempfile
+import threading
 
 sys.dont_write_bytecode = True
 TOP = os.path.dirname(os.path.dirname(os.path.realpath(__file__)))
@@ -39,6 +42,104 @@ class Library:
 
     def close(self):
         """There is nothing to end."""
+
+
+def cut_randomly(text, chance):
+    """Pieces of an input."""
+    pieces, begin = [], 0
+    while begin < len(text):
+        size = chance.choice([1, 2, 7, 100, 8192, 100000])
+        pieces.append(text[begin : begin + size])
+        begin += size
+    return pieces
+
+
+class Steps(Library):
+    """Runs over streams, step by step."""
+
+    def run_all(self, words, stdin, files):
+        import ptext
+
+        chance, out = random.Random(repr(words)), []
+        stream = ptext.stream(
+            words, cut_randomly(stdin, chance), {name: cut_randomly(text, chance) for name, text in files.items()}
+        )
+        try:
+            for piece in stream:
+                out.append(piece)
+            status = 0
+        except ptext.Error as why:
+            status = why.status
+        except MemoryError:
+            status = 4
+        return status, b"".join(out), bytes(stream._messages)
+
+
+READ = ctypes.CFUNCTYPE(ctypes.c_ssize_t, ctypes.c_void_p, ctypes.c_uint32, ctypes.c_void_p, ctypes.c_size_t)
+
+
+class Functions(Library):
+    """Runs over streams, by functions that read and write a random number of bytes."""
+
+    def run_all(self, words, stdin, files):
+        from ptext import _library, _stream
+
+        chance, given = random.Random(repr(words)), _library.encode_words(words)
+        inputs = [stdin, None, None, *map(files.get, self.names(words)[0])]
+        outputs, begins = {1: [], 2: []}, [0] * len(inputs)
+
+        def read(_, stream, into, room):
+            begin = begins[stream]
+            piece = inputs[stream][begin : begin + min(room, chance.choice([1, 2, 7, 100, room]))]
+            ctypes.memmove(into, piece, len(piece))
+            begins[stream] += len(piece)
+            return len(piece)
+
+        def write(_, stream, bytes_, size):
+            size = min(size, chance.choice([1, 7, 100, size]))
+            outputs[stream].append(ctypes.string_at(bytes_, size))
+            return size
+
+        functions = [READ(read), READ(write)]
+        opened = bytes(text is not None for text in inputs[3:])
+        options = _stream._Options(opened, len(opened), 0, None)
+        pointers = [ctypes.cast(function, ctypes.c_void_p) for function in functions]
+        status = _library.LIBRARY.ptext_stream(given, len(given), *pointers, None, options)
+        return status, b"".join(outputs[1]), b"".join(outputs[2])
+
+
+class Descriptors(Library):
+    """Runs over streams, by descriptors: standard input and the messages are pipes."""
+
+    def run_all(self, words, stdin, files):
+        from ptext import _stream
+
+        def feed(end):
+            with contextlib.suppress(BrokenPipeError), os.fdopen(end, "wb", buffering=0) as file:
+                for piece in cut_randomly(stdin, random.Random(repr(words))):
+                    file.write(piece)
+
+        with contextlib.ExitStack() as stack:
+            out, messages = (stack.enter_context(tempfile.TemporaryFile()) for _ in range(2))
+            descriptors = [0, out.fileno(), messages.fileno()]
+            for name in self.names(words)[0]:
+                descriptors.append(-1)
+                if name in files:
+                    file = stack.enter_context(tempfile.TemporaryFile(buffering=0))
+                    file.write(files[name])
+                    file.seek(0)
+                    descriptors[-1] = file.fileno()
+            descriptors[0], end = os.pipe()
+            thread = threading.Thread(target=feed, args=[end])
+            thread.start()
+            status = _stream.run_descriptors(words, descriptors)
+            os.close(descriptors[0])
+            thread.join()
+            found = []
+            for file in (out, messages):
+                file.seek(0)
+                found.append(file.read())
+        return (status, *found)
 
 
 class Page:
@@ -71,6 +172,9 @@ class Page:
         return (answer["status"], *(base64.b64decode(answer[stream]) for stream in ("out", "messages")))
 
 
+WAYS = {None: Library, "functions": Functions, "steps": Steps, "descriptors": Descriptors}
+
+
 def run_program(program, words, inputs, output, room):
     """The status, the output (also that to a file) and the messages of the program."""
     with tempfile.TemporaryDirectory(dir=room) as folder:
@@ -95,9 +199,10 @@ def main():
     takes = argparse.ArgumentParser(description="Compares the library with the program.")
     takes.add_argument("program")
     takes.add_argument("count", nargs="?", type=int, default=2000)
+    takes.add_argument("--by", choices=list(WAYS))
     takes.add_argument("--page")
     given = takes.parse_args()
-    program, other = os.path.realpath(given.program), Page(given.page) if given.page else Library()
+    program, other = os.path.realpath(given.program), Page(given.page) if given.page else WAYS[given.by]()
     tools, differences, left_out = list(FLAGS), 0, 0
     signal.signal(signal.SIGTERM, lambda *_: sys.exit(143))
     with contextlib.closing(other), tempfile.TemporaryDirectory() as room:

@@ -5,27 +5,30 @@ import ctypes
 import ctypes.util
 import os
 from collections.abc import Iterable, Mapping
-from typing import BinaryIO, Union
 
-Input = Union[bytes, bytearray, memoryview, str, BinaryIO]
-"""Bytes, a text (as UTF-8), or an open file in binary mode."""
+from ._inputs import Input, read_all
 
-WRONG, ROOM, MEMORY, ARGUMENTS = 2, 3, 4, 5
+ROOM, MEMORY, ARGUMENTS = 3, 4, 5
 NO_FILE = ctypes.c_size_t(-1).value
 FIRST_ROOM = 4096
 
 
 class Error(Exception):
-    """A command ended with a status that is not 0. `out` is its output, which may be incomplete if it names a file that
-    is not there, or if a line is out of order."""
+    """A command ended with a status that is not 0. `message` is what it says, and `out` is its output, which may be
+    incomplete if it names a file that is not there, or if a line is out of order. `unknown` are the names that `files`
+    lacks."""
 
-    def __init__(self, status: int, message: str, out: bytes) -> None:
+    def __init__(self, status: int, message: str, out: bytes, unknown: tuple[str, ...] = ()) -> None:
         super().__init__(message)
-        self.status, self.message, self.out = status, message, out
+        self.status, self.message, self.out, self.unknown = status, message, out, unknown
 
-    def __reduce__(self) -> tuple[type[Error], tuple[int, str, bytes]]:
+    def __reduce__(self) -> tuple[type[Error], tuple[int, str, bytes, tuple[str, ...]]]:
         # (A process of a pool sends what it raises by pickle.)
-        return type(self), (self.status, self.message, self.out)
+        return type(self), (self.status, self.message, self.out, self.unknown)
+
+    def __str__(self) -> str:
+        lacking = ", ".join(map(repr, self.unknown))
+        return f"{self.message} (`files` has no {lacking}: no file is opened by its name)" if lacking else self.message
 
 
 class _Part(ctypes.Structure):
@@ -48,9 +51,9 @@ def _find_library() -> ctypes.CDLL:
     return ctypes.CDLL(name)
 
 
-_LIBRARY = _find_library()
+LIBRARY = _find_library()
 _BYTES, _SIZE, _ENDS = ctypes.c_void_p, ctypes.c_size_t, ctypes.POINTER(ctypes.c_size_t)
-_RUN = _LIBRARY.ptext_run
+_RUN = LIBRARY.ptext_run
 _RUN.restype = ctypes.c_uint8
 _RUN.argtypes = [
     *[ctypes.c_char_p, _SIZE] * 3,
@@ -59,28 +62,18 @@ _RUN.argtypes = [
     *[_BYTES, _SIZE] * 2,
     ctypes.POINTER(_Answer),
 ]
-_NAMES = _LIBRARY.ptext_names
+_NAMES = LIBRARY.ptext_names
 _NAMES.restype = ctypes.c_uint8
 _NAMES.argtypes = [ctypes.c_char_p, _SIZE, *[_BYTES, _SIZE] * 2, ctypes.POINTER(_Answer)]
 
 
-def _read_bytes(given: Input) -> bytes:
-    if isinstance(given, bytes):
-        return given
-    if isinstance(given, str):
-        return given.encode()
-    if isinstance(given, (bytearray, memoryview)):
-        return bytes(given)
-    return _read_bytes(given.read())
-
-
-def _list_words(words: Iterable[str]) -> list[str]:
+def list_words(words: Iterable[str]) -> list[str]:
     if isinstance(words, (str, bytes)):
         raise TypeError("words are a list of texts, as ['cut', '-f', '1']")
     return list(words)
 
 
-def _encode_words(words: Iterable[str]) -> bytes:
+def encode_words(words: Iterable[str]) -> bytes:
     encoded = [os.fsencode(word) for word in words]
     if any(0 in word for word in encoded):
         raise ValueError("a word contains byte 0")
@@ -94,7 +87,7 @@ def _decode_names(buffer: ctypes.Array[ctypes.c_char], size: int) -> list[str]:
 def names(words: Iterable[str]) -> tuple[list[str], str | None]:
     """The names of the files that a command reads, in their order, and that of its output file, if it names one. Words
     that are no command name no file."""
-    given = _encode_words(_list_words(words))
+    given = encode_words(list_words(words))
     room = len(given)
     read, written, answer = ctypes.create_string_buffer(room + 1), ctypes.create_string_buffer(room + 1), _Answer()
     status = _NAMES(given, len(given), read, room, written, room, answer)
@@ -104,17 +97,19 @@ def names(words: Iterable[str]) -> tuple[list[str], str | None]:
     return _decode_names(read, answer.out.written), outputs[0] if outputs else None
 
 
-def reads_stdin(words: Iterable[str]) -> bool:
-    """Whether a command reads standard input. Words that are no command do not."""
-    words = _list_words(words)
-    if run_all(words)[0] == WRONG:
-        return False
-    other = "x"
-    while other in words:
-        other += "x"
-    # A word `-` is standard input if another word in its place would be the name of an input. (It may be a delimiter.)
-    replaced = ([*words[:at], other, *words[at + 1 :]] for at, word in enumerate(words) if word == "-")
-    return not names(words)[0] or any(other in names(other_words)[0] for other_words in replaced)
+def find_unknown(read: list[str], files: Mapping[str, Input]) -> tuple[str, ...]:
+    """The names of files that a command reads, and `files` lacks."""
+    return tuple(name for name in dict.fromkeys(read) if files.get(name) is None)
+
+
+def check_status(status: int, messages: bytes, out: bytes, unknown: tuple[str, ...]) -> None:
+    """Raises what a status other than 0 means."""
+    if status == MEMORY:
+        error = MemoryError("ptext: out of memory")
+        error.out = out  # type: ignore[attr-defined]
+        raise error
+    if status:
+        raise Error(status, messages.decode(errors="replace").rstrip("\n"), out, unknown if status == 1 else ())
 
 
 def run(words: Iterable[str], stdin: Input = b"", files: Mapping[str, Input] | None = None) -> bytes:
@@ -123,14 +118,10 @@ def run(words: Iterable[str], stdin: Input = b"", files: Mapping[str, Input] | N
     An open file is read once, also if its name is there twice. Raises `Error` if the status is not 0, with the status,
     the messages and the output; and `MemoryError`, of which `out` has the beginning of the output if the library raised
     it."""
-    words = _list_words(words)
+    words = list_words(words)
     status, out, messages = run_all(words, stdin, files)
-    if status == MEMORY:
-        error = MemoryError("ptext: out of memory")
-        error.out = out  # type: ignore[attr-defined]
-        raise error
     if status:
-        raise Error(status, messages.decode(errors="replace").rstrip("\n"), out)
+        check_status(status, messages, out, find_unknown(names(words)[0], files or {}))
     return out
 
 
@@ -138,10 +129,11 @@ def run_all(
     words: Iterable[str], stdin: Input = b"", files: Mapping[str, Input] | None = None
 ) -> tuple[int, bytes, bytes]:
     """The status of a command, its output and its messages. The status is MEMORY if the library ran out of memory."""
-    words = _list_words(words)
-    given, text = _encode_words(words), _read_bytes(stdin)
-    read = names(words)[0] if files else []
-    contents = {name: _read_bytes(files[name]) for name in dict.fromkeys(read) if files and files.get(name) is not None}
+    words = list_words(words)
+    given, text = encode_words(words), read_all("stdin", stdin)
+    read, files = (names(words)[0], files) if files else ([], {})
+    known = [name for name in dict.fromkeys(read) if files.get(name) is not None]
+    contents = {name: read_all(f"files[{name!r}]", files[name]) for name in known}
     parts = [contents.get(name) for name in read]
     present = [part for part in parts if part is not None]
     joined = present[0] if len(present) == 1 else b"".join(present)

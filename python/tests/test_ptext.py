@@ -1,17 +1,21 @@
 """Tests of the module. Run them in python/ with `python3 -m unittest discover tests`."""
+import array
 import concurrent.futures
 import io
+import itertools
+import mmap
 import os
+import pathlib
 import pickle
+import signal
 import subprocess
 import sys
 import tempfile
 import threading
+import time
 import unittest
-import unittest.mock
 
 import ptext
-from ptext import __main__, _library
 
 # Runs out of memory: the output is far longer than the inputs. It prints whether `out` of the exception is a beginning.
 NO_MEMORY = """
@@ -88,12 +92,6 @@ class Tools(unittest.TestCase):
         self.assertEqual(ptext.names(["uniq", "in", "out"]), (["in"], "out"))
         self.assertEqual(ptext.names(["uniq", "-q"]), ([], None))
 
-    def test_whether_standard_input_is_read(self):
-        for words in ["cut -f 1", "cut -f 1 -", "cut -f 1 a -", "paste a - b", "join -t - - a", "tr - a", "uniq - x"]:
-            self.assertTrue(_library.reads_stdin(words.split()), words)
-        for words in ["", "cut", "cut -q", "paste", "cut -d - -f 1 a", "join -t - a b", "uniq a -", "join -e - a b"]:
-            self.assertFalse(_library.reads_stdin(words.split()), words)
-
 
 class Failures(unittest.TestCase):
     def refused(self, words, **inputs):
@@ -112,6 +110,23 @@ class Failures(unittest.TestCase):
     def test_file_that_is_not_there(self):
         error = self.refused(["cut", "-b", "1", "f", "g"], files={"g": b"ab\n"})
         self.assertEqual((error.status, error.message, error.out), (1, "cut: f: cannot be opened", b"a\n"))
+
+    def test_name_that_files_lacks_is_said(self):
+        error = self.refused(["cut", "-b", "1", "/etc/passwd"])
+        self.assertIn("`files` has no '/etc/passwd'", str(error))
+        self.assertEqual(error.unknown, ("/etc/passwd",))
+        self.assertEqual(str(self.refused(["cut", "-q", "x"])), "cut: unknown option in -q")
+
+    def test_inputs_that_are_none(self):
+        for given, says in [(5, "int, and not bytes"), (io.StringIO("x"), "text mode"), ([1, 2], "gave int")]:
+            with self.assertRaisesRegex(TypeError, says):
+                ptext.cut("-b", "1", stdin=given)
+            with self.assertRaisesRegex(TypeError, says):
+                list(ptext.stream(["cut", "-b", "1", "f"], files={"f": given}))
+        with self.assertRaisesRegex(TypeError, "text mode"):
+            ptext.stream(["cut", "-b", "1"], out=io.StringIO())
+        with self.assertRaises(FileNotFoundError):
+            ptext.stream(["cut", "-b", "1"], stdin=pathlib.Path("/none/such"))
 
     def test_input_that_is_not_sorted(self):
         error = self.refused(["comm", "-", "f"], stdin=b"b\na\n", files={"f": b""})
@@ -145,6 +160,142 @@ class Threads(unittest.TestCase):
         self.assertEqual(found, [wanted] * 8)
 
 
+class Streams(unittest.TestCase):
+    """Inputs and outputs in pieces."""
+
+    def joined(self, words, **inputs):
+        return b"".join(ptext.stream(words, **inputs))
+
+    def test_all_kinds_of_inputs(self):
+        with tempfile.TemporaryFile() as file, tempfile.NamedTemporaryFile() as named:
+            for each in (file, named):
+                each.write(b"ab\ncd\n")
+                each.flush()
+                each.seek(0)
+            with mmap.mmap(named.fileno(), 0, access=mmap.ACCESS_READ) as mapped:
+                every_second = memoryview(b"a.b.\n.c.d.\n.")[::2]
+                texts = [b"ab\ncd\n", bytearray(b"ab\ncd\n"), "ab\ncd\n", array.array("B", b"ab\ncd\n"), every_second]
+                files = [file, io.BytesIO(b"ab\ncd\n"), pathlib.Path(named.name), mapped]
+                pieces = [[b"a", b"", b"b\nc", b"d\n"], iter([b"ab\n", bytearray(b"cd\n")])]
+                for given in texts + files + pieces:
+                    self.assertEqual(self.joined(["cut", "-b", "2"], stdin=given), b"b\nd\n", given)
+                for given in texts + [pathlib.Path(named.name), mapped, pieces[0]]:
+                    self.assertEqual(self.joined(["cut", "-b", "2", "f"], files={"f": given}), b"b\nd\n", given)
+                    self.assertEqual(ptext.run(["cut", "-b", "2"], stdin=given), b"b\nd\n", given)
+                    self.assertEqual(self.joined(["join", "f", "f"], files={"f": given}), b"ab\ncd\n")
+
+    def test_tools_compose(self):
+        with tempfile.TemporaryFile() as out:
+            fields = ptext.stream(["cut", "-d", ",", "-f", "2"], stdin=(b"x,%d\n" % (n // 2) for n in range(1000)))
+            ptext.stream(["uniq", "-c"], stdin=fields, out=out)
+            out.seek(0)
+            self.assertEqual(out.read(), b"".join(b"2 %d\n" % n for n in range(500)))
+
+    def test_inputs_are_read_as_they_are_needed(self):
+        taken = []
+        pieces = (taken.append(n) or b"some text\n" * 1000 for n in itertools.count())
+        with ptext.stream(["tr", "a-z", "A-Z"], stdin=pieces) as output:
+            self.assertEqual(next(output)[:10], b"SOME TEXT\n")
+            self.assertLess(len(taken), 20)
+        self.assertEqual(list(output), [])
+        self.assertLess(len(taken), 20)
+
+    def test_a_line_is_there_before_the_next_one_is_read(self):
+        begin, end = os.pipe()
+        with os.fdopen(begin, "rb") as file, ptext.stream(["cut", "-b", "1"], stdin=file) as output:
+            for letter in b"ab":
+                os.write(end, b"%cx\n" % letter)
+                self.assertEqual(next(output), b"%c\n" % letter)
+            os.close(end)
+            self.assertEqual(list(output), [])
+
+    def test_an_error_comes_after_the_output(self):
+        output = ptext.stream(["cut", "-b", "1", "f", "g"], files={"g": b"ab\n"})
+        self.assertEqual(next(output), b"a\n")
+        with self.assertRaises(ptext.Error) as caught:
+            next(output)
+        self.assertEqual((caught.exception.status, caught.exception.message), (1, "cut: f: cannot be opened"))
+        self.assertEqual(list(output), [])
+
+    def test_what_an_input_raises_comes_through(self):
+        def broken():
+            yield b"ab\n"
+            raise RuntimeError("broken")
+
+        output = ptext.stream(["cut", "-b", "1"], stdin=broken())
+        self.assertEqual(next(output), b"a\n")
+        self.assertRaisesRegex(RuntimeError, "broken", next, output)
+        self.assertEqual(list(output), [])
+        with self.assertRaises(OSError), open("/dev/full", "wb", buffering=0) as full:
+            ptext.stream(["cut", "-b", "1"], stdin=b"ab\n", out=full)
+
+    def test_what_can_be_read_once_is_named_once(self):
+        with self.assertRaisesRegex(ValueError, "named twice"):
+            ptext.stream(["paste", "f", "f"], files={"f": io.BytesIO(b"a\n")})
+
+    def test_limit_of_memory(self):
+        lines = b"k 0123456789\n" * 20_000
+        files = {"a": lines, "b": lines}
+        taken = 0
+        with self.assertRaises(MemoryError):
+            for piece in ptext.stream(["join", "a", "b"], files=files, memory=100_000):
+                taken += len(piece)
+        self.assertEqual(self.joined(["cut", "-b", "1", "a"], files=files, memory=100_000), b"k\n" * 20_000)
+
+    def test_streams_are_used_by_one_at_a_time(self):
+        def itself():
+            yield b"ab\n"
+            next(output)
+
+        output = ptext.stream(["cut", "-b", "1"], stdin=itself())
+        self.assertRaisesRegex(ValueError, "in use", lambda: list(output))
+
+    def test_streams_in_threads(self):
+        def run(number):
+            lines = (b"%d,%d\n" % (number, line) for line in range(20_000))
+            return self.joined(["cut", "-d", ",", "-f", "1"], stdin=lines) == b"%d\n" % number * 20_000
+
+        with concurrent.futures.ThreadPoolExecutor(4) as pool:
+            self.assertTrue(all(pool.map(run, range(8))))
+
+    def test_output_that_is_taken_byte_by_byte(self):
+        class Slow:
+            text = b""
+
+            def write(self, data):
+                self.text += bytes(data[:1])
+                return 1
+
+        slow = Slow()
+        ptext.stream(["cut", "-b", "1-3"], stdin=b"abcd\n", out=slow)
+        self.assertEqual(slow.text, b"abc\n")
+
+    def test_memory_and_interrupts(self):
+        code = """
+import itertools, resource, sys, ptext
+before = resource.getrusage(resource.RUSAGE_SELF).ru_maxrss
+count = sum(map(len, ptext.stream(["tr", "a", "b"], stdin=itertools.repeat(b"a" * 99_999 + b"\\n", 3000))))
+print(count, resource.getrusage(resource.RUSAGE_SELF).ru_maxrss - before < 16_000, flush=True)
+for piece in ptext.stream(["tr", "a", "b"], stdin=itertools.repeat(b"a\\n" * 50_000)):
+    pass
+"""
+        with subprocess.Popen(
+            [sys.executable, "-c", code], stdout=subprocess.PIPE, stderr=subprocess.PIPE, env=environment()
+        ) as child:
+            self.assertEqual(child.stdout.readline(), b"300000000 True\n")
+            time.sleep(0.2)
+            began = time.monotonic()
+            child.send_signal(signal.SIGINT)
+            self.assertIn(b"KeyboardInterrupt", child.communicate(timeout=60)[1])
+            self.assertLess(time.monotonic() - began, 2)
+
+
+def environment():
+    """That of a process which imports this module of ptext."""
+    path = os.pathsep.join(os.path.abspath(folder) for folder in sys.path if folder)
+    return {**os.environ, "PYTHONPATH": path}
+
+
 class Program(unittest.TestCase):
     """`python3 -m ptext`, in a folder with the files f and g."""
 
@@ -156,11 +307,17 @@ class Program(unittest.TestCase):
             with open(f"{self.room}/{name}", "wb") as file:
                 file.write(text)
 
+    def never(self):
+        """An input that never ends."""
+        begin, end = os.pipe()
+        self.addCleanup(os.close, begin)
+        self.addCleanup(os.close, end)
+        return begin
+
     def is_so(self, command, wanted, **more):
         """Runs a command by a shell. `ptext` is the module. Compares the status, the output and the messages."""
         words = command.replace("ptext", f"exec {sys.executable} -m ptext", 1)
-        path = os.pathsep.join(os.path.abspath(folder) for folder in sys.path if folder)
-        how = {"capture_output": True, "cwd": self.room, "timeout": 60, "env": {**os.environ, "PYTHONPATH": path}}
+        how = {"capture_output": True, "cwd": self.room, "timeout": 60, "env": environment()}
         did = subprocess.run(["sh", "-c", words], **how, **({"input": b""} | more))
         self.assertEqual((did.returncode, did.stdout.decode(), did.stderr.decode()), wanted, command)
 
@@ -184,15 +341,6 @@ class Program(unittest.TestCase):
         messages = "".join(f"cut: {name}: cannot be opened\n" for name in names)
         self.is_so(f"ptext cut -b 1 {' '.join(names)}", (1, "", messages))
 
-    def test_output_that_is_taken_byte_by_byte(self):
-        begin, end = os.pipe()
-        self.addCleanup(os.close, begin)
-        write = os.write
-        with unittest.mock.patch("os.write", lambda to, text: write(to, text[:1])):
-            __main__.write_all(end, b"some text\n")
-        os.close(end)
-        self.assertEqual(os.read(begin, 100), b"some text\n")
-
     def test_file_that_may_not_grow(self):
         with open(f"{self.room}/long", "wb") as file:
             file.write(b"x" * 10_000)
@@ -201,17 +349,15 @@ class Program(unittest.TestCase):
     def test_failures(self):
         self.is_so("ptext", (2, "", "ptext: first word: cut, paste, join, comm, uniq or tr\n"))
         self.is_so("ptext cut -b 1 f none", (1, "a\nc\n", "cut: none: cannot be opened\n"))
-        self.is_so("ptext cut -b 1 f .", (1, "", "cut: .: read failed\n"))
+        self.is_so("ptext cut -b 1 f .", (1, "a\nc\n", "cut: .: read failed\n"))
+        self.is_so("ptext join - none", (1, "", "join: none: cannot be opened\n"), input=None, stdin=self.never())
         self.is_so("ptext cut -b 1 <&-", (1, "", "cut: standard input: read failed\n"))
         self.is_so("ptext cut -b 1 f >&-", (1, "", "cut: output: write failed\n"))
         self.is_so("ptext cut -b 1 f >/dev/full", (1, "", "cut: output: write failed\n"))
         self.is_so("ptext cut -b 1 f none 2>&-", (1, "a\nc\n", ""))
 
     def test_does_not_wait_for_an_input_that_it_does_not_read(self):
-        begin, end = os.pipe()
-        self.addCleanup(os.close, begin)
-        self.addCleanup(os.close, end)
-        never = {"input": None, "stdin": begin}
+        never = {"input": None, "stdin": self.never()}
         self.is_so("ptext cut -q", (2, "", "cut: unknown option in -q\n"), **never)
         self.is_so("ptext cut -d - -f 1 f", (0, "ab\ncd\n", ""), **never)
 

@@ -1,8 +1,8 @@
 """The tools over bytes in memory as WebAssembly, in one page without other files, build/page/ptext.html.
 
 The gate proves the crates below `ptrunc`, or takes what it proved on this machine, as for the library for C. It has no
-place for crates of WebAssembly. So the module is made here from copies: `ptrunc` as it is, except that its heap is
-another one, and that heap, which is the toolchain's with its three calls of C taken from the host. Both copies are
+place for crates of WebAssembly. So the module is made here from copies: `ptrunc` as it is, except for its heap and its
+reads and writes; and these two, which are the toolchain's with their calls of C taken from the host. All copies are
 checked as any crate, over what an earlier run kept, before they are compiled. docs/LIBRARY.md says what that shows.
 """
 import base64
@@ -47,8 +47,28 @@ IN_PROOFS = [
     ("Rattle.libc.proofs.heap.", f"Rattle.{HEAP}.proofs.heap."),
     ("code.calls-libc::heap::", f"code.calls-{HEAP}::heap::"),
 ]
-# The change in the copy of `ptrunc`, in src/lib.rt.
-IN_CRATE = [("use std::alloc::Global;", f"use {HEAP}::Global;")]
+# The copy of the toolchain's crate `io`, of which only the functions that read and write are taken.
+IO = "hostio"
+IO_KEPT = f"{TOP}/build/{IO}-kept"
+IN_IO = [
+    ("mod number;\n", "mod calls;\n"),
+    ("pub use number::{decimal, hex, print_decimal, print_hex};\n", ""),
+    ("libc::read(", "crate::calls::read("),
+    ("libc::write(", "crate::calls::write("),
+    ("Rattle.io.", f"Rattle.{IO}."),
+]
+IO_CALLS = """ghost use Rattle.core.specs.Prelude.{length};
+ghost use Rattle.libc.specs.Io.{Moved};
+
+#[link(wasm_import_module = "host")]
+unsafe extern "C" {
+CALLS}
+"""
+# The changes in the copy of `ptrunc`, by file.
+IN_CRATE = {
+    "src/lib.rt": [("use std::alloc::Global;", f"use {HEAP}::Global;")],
+    "src/host.rt": [("use io::", f"use {IO}::")],
+}
 
 
 def copy_changed(source, to, pairs):
@@ -76,24 +96,49 @@ def make_heap(kit, place):
         for name in names:
             inside = os.path.relpath(f"{folder}/{name}", of_kit)
             write_text(f"{made}/{inside}", change_proof(read_text(f"{folder}/{name}")))
-    words = ["--crate-name", HEAP, "src/lib.rt"]
+    prove_copy(kit, place, HEAP, HEAP_KEPT)
+
+
+def make_io(kit, place):
+    """Makes the reads and writes of the module in the place, and proves them."""
+    made, of_kit = f"{place}/{IO}", f"{kit}/rattle/io"
+    declared = read_text(f"{kit}/rattle/libc/src/lib.rt")
+    calls = [re.search(rf"    pub safe fn {name}\(.*?;\n", declared, re.S) for name in ("read", "write")]
+    if None in calls:
+        raise Failed(f"{kit}/rattle/libc is another one than this script knows")
+    copy_changed(f"{of_kit}/src/lib.rt", f"{made}/src/lib.rt", IN_IO)
+    write_text(f"{made}/src/calls.rt", IO_CALLS.replace("CALLS", "\n".join(call[0] for call in calls)))
+    for name in ("specs/Counts", "proofs/write_all/Invariants", "proofs/read_full/Invariants", "proofs/Counting"):
+        text = read_text(f"{of_kit}/{name}.antt")
+        write_text(f"{made}/{name}.antt", text.replace("Rattle.io.", f"Rattle.{IO}."))
+    write_text(f"{made}/specs/Lib.antt", "pub mod Counts\n")
+    write_text(f"{made}/proofs/Lib.antt", "pub mod Counting\n")
+    prove_copy(kit, place, IO, IO_KEPT)
+
+
+def prove_copy(kit, place, crate, kept):
+    """Proves a copy of a crate of the toolchain."""
+    words = ["--crate-name", crate, "src/lib.rt"]
     for name in ("core", "libc"):
         words += ["--extern", f"{name}={kit}/rlibs/{name}.rlib"]
     words += ["-L", f"dependency={kit}/rlibs", "--antt-project", f"{kit}/rattle/logic/antt-project.json"]
-    words += ["--logic-built", f"{kit}/logic_built", "--jobs", "2", "--incremental", HEAP_KEPT]
-    run([f"{kit}/bin/rattle", "build", *words, "-o", f"{place}/rlib/{HEAP}.rlib"], made)
+    words += ["--logic-built", f"{kit}/logic_built", "--jobs", "2", "--incremental", kept]
+    run([f"{kit}/bin/rattle", "build", *words, "-o", f"{place}/rlib/{crate}.rlib"], f"{place}/{crate}")
 
 
 def make_module(kit, place, room, crates):
     """Makes ptext.wasm in the place."""
     made = f"{place}/{CRATE}"
     shutil.copytree(f"{TOP}/crates/{CRATE}", made, ignore=leave_out)
-    copy_changed(f"{TOP}/crates/{CRATE}/src/lib.rt", f"{made}/src/lib.rt", IN_CRATE)
+    for name, pairs in IN_CRATE.items():
+        copy_changed(f"{TOP}/crates/{CRATE}/{name}", f"{made}/{name}", pairs)
     # (Most of the proof is that for the library. Each of the two keeps its own.)
     if os.path.isdir(KEPT) and not os.path.isdir(MODULE_KEPT):
         shutil.copytree(KEPT, MODULE_KEPT)
     words = make_words(kit, room, crates, MODULE_KEPT)
-    words += ["--extern", f"{HEAP}={place}/rlib/{HEAP}.rlib", "--target", WASM]
+    for name in (HEAP, IO):
+        words += ["--extern", f"{name}={place}/rlib/{name}.rlib"]
+    words += ["-L", f"dependency={place}/rlib", "--target", WASM]
     run([*words, "-o", f"{place}/ptext.a"], made)
     link = ["--target", WASM, "--toolchain", f"{kit}/toolchain", "--stack", str(STACK)]
     run([f"{kit}/bin/rattle-link", *link, "-o", f"{place}/ptext.wasm", f"{place}/ptext.a"], place)
@@ -182,6 +227,7 @@ def build(kit, place):
     os.makedirs(f"{TOP}/build/page", exist_ok=True)
     os.mkdir(f"{place}/rlib")
     make_heap(kit, place)
+    make_io(kit, place)
     make_module(kit, place, room, crates)
     write_text(f"{place}/ptext.html", make_page(f"{place}/ptext.wasm"))
     put(f"{place}/ptext.html", f"{TOP}/build/page/ptext.html")

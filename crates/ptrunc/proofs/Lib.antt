@@ -5,3 +5,4 @@ pub mod NamingLemmas
 pub mod Unread
 pub mod RoomLemmas
 pub mod RunLemmas
+pub mod StreamLemmas

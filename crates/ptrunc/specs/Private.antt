@@ -3,3 +3,4 @@ pub mod Answers
 pub mod Files
 pub mod MemoryFiles
 pub mod Rooms
+pub mod Streams

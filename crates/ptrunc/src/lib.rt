@@ -1,21 +1,30 @@
-//! Whole runs over bytes in memory, for programs in C and in other languages. lib/ptext.c checks the pointers that it is
-//! given, and calls the two functions here; lib/ptext.h says what callers owe.
+//! Whole runs over bytes in memory, and over streams of the caller, for programs in C and in other languages. lib/ptext.c
+//! and lib/stream.c check the pointers that they are given, and call the functions here; lib/ptext.h says what callers
+//! owe.
 #![tactic(auto)]
 
 mod answer;
 mod files;
 mod given;
+mod host;
 mod memory;
 mod naming;
 mod running;
+mod streams;
 
+ghost use Rattle.ptfiles.specs.Shell.{MayFail};
+ghost use Rattle.ptlines.specs.Private.Sinks.{hide_accepted};
+ghost use Rattle.ptlines.specs.Private.Sources.{hide_left};
 ghost use Rattle.ptrunc.specs.Calls.Given.{NamesGivenPost, RunGivenPost};
+ghost use Rattle.ptrunc.specs.Calls.Streams.{GivenStreamsPost, unknown, unwritten};
 
 use answer::{Answer, refuse};
 use given::{are_ends, files_of, words_of};
+use host::Caller;
 use naming::write_names;
 use running::run_in_memory;
 use std::alloc::Global;
+use streams::run_given_streams;
 
 const NO_MEMORY: &str = "ptext: out of memory\n";
 
@@ -93,4 +102,14 @@ fn name_given(alloc: Global, words: &[u8], names: &mut [u8], output: &mut [u8]) 
         Ok(words) => write_names(alloc, &words, names, output),
         Err(_) => refuse(4, "", output),
     }
+}
+
+/// Runs a command over the streams of the caller, and returns the exit status, or 4 if memory ran out. Each word ends
+/// with byte 0. `opened` has a byte for each file that the words name, which is 0 if it cannot be opened.
+#[unsafe(no_mangle)]
+pub extern "C" fn ptext_run_streams(alloc: Global, words: &[u8], opened: &[u8]) -> u8
+    ensures { GivenStreamsPost hide_accepted words.now unknown (λ number. unwritten) opened.now result
+        (MayFail hide_left hide_left) }
+{
+    run_given_streams(alloc, &Caller, words, opened)
 }

@@ -1,0 +1,14 @@
+-- The streams are files of which none was used before.
+use Rattle.std.proofs.Common.{◌≡◌, Some, option_map}
+use Rattle.std.proofs.lemmas.List.Elements.{All-map}
+use Rattle.ptrunc.proofs.StreamLemmas.{streamed}
+use Rattle.ptrunc.proofs.streams.run_streams.Goals as goal
+
+pub returns : goal.returns
+returns g c =
+    let files = c.run_over_files-ran.new.files in
+    streamed c.new-files.ensures c.input.ensures.content c.output.ensures.state c.output-2.ensures.state
+    c.run_over_files-ran.ensures
+    (All-map (λ output'. output' ≡ Some (g.H.Host.output 1)) (option_map g.H.Output.Sink.state) files.creates.results
+    files.all_output)
+    c.status_of-status.ensures

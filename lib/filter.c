@@ -1,0 +1,34 @@
+/* Runs a command over standard input and the files that its words name, in constant memory, as the program does.
+ * tests/library.sh compiles and runs it. usage: filter TOOL [WORD ..] */
+#include "ptext.h"
+#include <fcntl.h>
+#include <stdlib.h>
+#include <string.h>
+
+int main(int count, char **words) {
+    size_t room = 1;
+    for (int i = 1; i < count; i++)
+        room += strlen(words[i]) + 1;
+    uint8_t *joined = malloc(room), *names = malloc(room), *output = malloc(room), *opened = calloc(room, 1);
+    int *descriptors = malloc((room + PTEXT_FILE) * sizeof *descriptors);
+    struct ptext_answer found;
+    if (!joined || !names || !output || !opened || !descriptors)
+        return PTEXT_MEMORY;
+    size_t size = 0;
+    for (int i = 1; i < count; size += strlen(words[i++]) + 1)
+        memcpy(joined + size, words[i], strlen(words[i]) + 1);
+    if (ptext_names(joined, size, names, room, output, room, &found))
+        return PTEXT_MEMORY;
+    for (int stream = 0; stream < PTEXT_FILE; stream++)
+        descriptors[stream] = stream;
+    struct ptext_options options = {.opened = opened};
+    int are_open = 1;
+    for (uint8_t *name = names; name < names + found.out.written; name += strlen((char *)name) + 1) {
+        int file = open((char *)name, O_RDONLY);
+        are_open &= opened[options.files] = file >= 0;
+        descriptors[PTEXT_FILE + options.files++] = file;
+    }
+    if (found.messages.written && are_open)
+        descriptors[PTEXT_OUTPUT] = open((char *)output, O_WRONLY | O_CREAT | O_TRUNC, 0666);
+    return ptext_stream(joined, size, ptext_read_descriptor, ptext_write_descriptor, descriptors, &options);
+}

@@ -1,0 +1,109 @@
+"""What is taken as an input, in pieces of bytes."""
+from __future__ import annotations
+
+import contextlib
+import io
+import os
+from collections.abc import Iterable, Iterator
+from typing import TYPE_CHECKING, Any, Protocol, Union
+
+if TYPE_CHECKING:
+    from typing_extensions import Buffer
+
+PIECE = 1 << 18
+TAKEN = "bytes or another buffer, a str, a pathlib.Path, a file open in binary mode, or an iterable of bytes"
+
+
+class Readable(Protocol):
+    """A file that is open in binary mode, or another object with `read`."""
+
+    def read(self, size: int, /) -> bytes: ...
+
+
+Input = Union["Buffer", str, "os.PathLike[str]", Readable, Iterable["Buffer"]]
+"""Bytes or another buffer (`bytearray`, `memoryview`, `mmap`, an array), a text (as UTF-8), a path, which is opened, an
+open file in binary mode, or an iterable of bytes in their order."""
+
+
+def is_buffer(given: object) -> bool:
+    try:
+        memoryview(given)  # type: ignore[arg-type]
+    except TypeError:
+        return False
+    return True
+
+
+def is_read_once(given: Input) -> bool:
+    """Whether the bytes of an input can be had only once."""
+    if isinstance(given, (str, os.PathLike)) or is_buffer(given):
+        return False
+    return hasattr(given, "read") or iter(given) is given  # type: ignore[arg-type]
+
+
+def refuse_text(what: str, given: object) -> None:
+    if isinstance(given, io.TextIOBase):
+        raise TypeError(f"{what} is a file in text mode: open it in binary mode ('rb', 'wb')")
+
+
+def open_path(given: Input, stack: contextlib.ExitStack) -> Input:
+    """Opens a path, until the stack is closed."""
+    if isinstance(given, os.PathLike):
+        return stack.enter_context(open(given, "rb", buffering=0))
+    return given
+
+
+def _check_piece(what: str, piece: Any) -> Buffer:
+    if not is_buffer(piece):
+        raise TypeError(f"{what} gave {type(piece).__name__}, and not bytes")
+    return piece  # type: ignore[no-any-return]
+
+
+def _count_bytes(what: str, count: Any) -> int:
+    if count is None:
+        raise BlockingIOError(f"{what} has no bytes yet: it may not be in non-blocking mode")
+    return int(count)
+
+
+def _fill_pieces(what: str, read_into: Any) -> Iterator[Buffer]:
+    # (A piece is used until the next one is wanted, so all of them can lie in one buffer.)
+    room = memoryview(bytearray(PIECE))
+    while count := _count_bytes(what, read_into(room)):
+        yield room[:count]
+
+
+def _read_pieces(what: str, file: Any) -> Iterator[Buffer]:
+    # (Where there is `read1`, `read` waits for all that it was asked for.)
+    read = getattr(file, "read1", None) or file.read
+    while True:
+        piece = read(PIECE)
+        if not _count_bytes(what, None if piece is None else len(_check_piece(what, piece))):  # type: ignore[arg-type]
+            return
+        yield piece
+
+
+def list_pieces(what: str, given: Input) -> Iterator[Buffer]:
+    """The pieces of an input that is no path. `what` is its name in messages."""
+    if isinstance(given, str):
+        return iter((given.encode(),))
+    if is_buffer(given):
+        return iter((given,))  # type: ignore[arg-type]
+    refuse_text(what, given)
+    if isinstance(given, io.RawIOBase):
+        return _fill_pieces(what, given.readinto)
+    if isinstance(given, io.BufferedIOBase):
+        return _fill_pieces(what, given.readinto1)
+    if hasattr(given, "read"):
+        return _read_pieces(what, given)
+    if isinstance(given, Iterable):
+        return (_check_piece(what, piece) for piece in given)
+    raise TypeError(f"{what} is {type(given).__name__}, and not {TAKEN}")
+
+
+def read_all(what: str, given: Input) -> bytes:
+    """All bytes of an input."""
+    if isinstance(given, bytes):
+        return given
+    with contextlib.ExitStack() as stack:
+        pieces = list_pieces(what, open_path(given, stack))
+        # (A buffer that is not contiguous cannot be joined.)
+        return b"".join(piece if isinstance(piece, bytes) else memoryview(piece).tobytes() for piece in pieces)

@@ -1,0 +1,240 @@
+"""Runs over streams, in constant memory: step by step, with neither threads nor calls from C into Python; and over the
+descriptors of a process."""
+from __future__ import annotations
+
+import contextlib
+import ctypes
+import threading
+from collections.abc import Iterable, Iterator, Mapping
+from typing import TYPE_CHECKING, Any, Protocol, overload
+
+from ._inputs import Input, is_read_once, list_pieces, open_path, refuse_text
+from ._library import LIBRARY, check_status, encode_words, find_unknown, list_words, names
+
+if TYPE_CHECKING:
+    from typing_extensions import Buffer
+
+READ, WRITE, ENDED = 1, 2, 3
+FAILED = ctypes.c_size_t(-1).value
+INPUT, OUTPUT, FIRST_FILE = 0, 1, 3
+
+
+class Writable(Protocol):
+    """A file that is open in binary mode, or another object with `write`."""
+
+    def write(self, data: bytes, /) -> Any: ...
+
+
+class _Step(ctypes.Structure):
+    _fields_ = [
+        ("wants", ctypes.c_int),
+        ("stream", ctypes.c_uint32),
+        ("bytes", ctypes.c_void_p),
+        ("size", ctypes.c_size_t),
+        ("status", ctypes.c_uint8),
+    ]
+
+
+class _Options(ctypes.Structure):
+    _fields_ = [
+        ("opened", ctypes.c_char_p),
+        ("files", ctypes.c_size_t),
+        ("memory", ctypes.c_size_t),
+        ("flush", ctypes.c_void_p),
+    ]
+
+
+_WORDS = [ctypes.c_char_p, ctypes.c_size_t]
+_STREAM, _OPEN, _NEXT, _CLOSE = LIBRARY.ptext_stream, LIBRARY.ptext_open, LIBRARY.ptext_next, LIBRARY.ptext_close
+_STREAM.restype = ctypes.c_uint8
+_STREAM.argtypes = [*_WORDS, *[ctypes.c_void_p] * 3, ctypes.POINTER(_Options)]
+_OPEN.restype = ctypes.c_void_p
+_OPEN.argtypes = [*_WORDS, ctypes.POINTER(_Options)]
+_NEXT.restype = ctypes.c_int
+_NEXT.argtypes = [ctypes.c_void_p, ctypes.POINTER(_Step)]
+_CLOSE.restype = None
+_CLOSE.argtypes = [ctypes.c_void_p]
+
+
+class _PyBuffer(ctypes.Structure):
+    """What the interpreter says of a buffer (`Py_buffer`)."""
+
+    _fields_ = [
+        ("buf", ctypes.c_void_p),
+        ("obj", ctypes.c_void_p),
+        ("len", ctypes.c_ssize_t),
+        ("itemsize", ctypes.c_ssize_t),
+        ("readonly", ctypes.c_int),
+        ("ndim", ctypes.c_int),
+        *[(name, ctypes.c_void_p) for name in ("format", "shape", "strides", "suboffsets", "internal")],
+    ]
+
+
+class _Pinned:
+    """The address and the size of the bytes of a buffer, which stay where they are until `release`."""
+
+    def __init__(self, piece: Buffer) -> None:
+        if not isinstance(piece, bytes) and not memoryview(piece).c_contiguous:
+            piece = memoryview(piece).tobytes()
+        self._buffer = _PyBuffer()
+        ctypes.pythonapi.PyObject_GetBuffer(ctypes.py_object(piece), ctypes.byref(self._buffer), 0)
+        self.address, self.size = self._buffer.buf, self._buffer.len
+
+    def release(self) -> None:
+        ctypes.pythonapi.PyBuffer_Release(ctypes.byref(self._buffer))
+
+
+class Stream(Iterator[bytes]):
+    """The output of a command, piece by piece. `stream` makes it."""
+
+    _run = None
+
+    def __init__(
+        self, words: Iterable[str], stdin: Input, files: Mapping[str, Input] | None, memory: int | None
+    ) -> None:
+        words, files = list_words(words), files or {}
+        encoded, read = encode_words(words), names(words)[0]
+        self._unknown = find_unknown(read, files)
+        self._step, self._lock, self._messages = _Step(), threading.Lock(), bytearray()
+        self._pinned: dict[int, _Pinned] = {}
+        self._stack = contextlib.ExitStack()
+        try:
+            self._pieces = {INPUT: list_pieces("stdin", open_path(stdin, self._stack))}
+            for number, name in enumerate(read, FIRST_FILE):
+                given = files.get(name)
+                if given is None:
+                    continue
+                if read.count(name) > 1 and is_read_once(given):
+                    raise ValueError(f"{name} is named twice, and what `files` has for it can be read only once")
+                self._pieces[number] = list_pieces(f"files[{name!r}]", open_path(given, self._stack))
+            opened = bytes(number in self._pieces for number in range(FIRST_FILE, FIRST_FILE + len(read)))
+            options = _Options(opened, len(opened), memory or 0, None)
+            self._run = _OPEN(encoded, len(encoded), options)
+            if not self._run:
+                raise MemoryError("ptext: out of memory")
+        except BaseException:
+            self.close()
+            raise
+
+    def __next__(self) -> bytes:
+        if not self._lock.acquire(blocking=False):
+            raise ValueError("the stream is in use: by another thread, or by one of its own inputs")
+        try:
+            while self._run:
+                wants = _NEXT(self._run, self._step)
+                if wants == READ:
+                    self._give()
+                elif wants == ENDED:
+                    self._free()
+                    check_status(self._step.status, bytes(self._messages), b"", self._unknown)
+                elif self._step.stream == OUTPUT:
+                    return ctypes.string_at(self._step.bytes, self._step.size)
+                else:
+                    self._messages += ctypes.string_at(self._step.bytes, self._step.size)
+            raise StopIteration
+        except BaseException:
+            self._free()
+            raise
+        finally:
+            self._lock.release()
+
+    def _give(self) -> None:
+        """Gives the next bytes of the input that is wanted, or its end."""
+        number = self._step.stream
+        self._release(number)
+        self._step.bytes, self._step.size = None, 0
+        for piece in self._pieces[number]:
+            self._pinned[number] = pinned = _Pinned(piece)
+            if pinned.size:
+                self._step.bytes, self._step.size = pinned.address, pinned.size
+                return
+            self._release(number)
+
+    def _release(self, number: int) -> None:
+        if number in self._pinned:
+            self._pinned.pop(number).release()
+
+    def _free(self) -> None:
+        run, self._run = self._run, None
+        if run:
+            _CLOSE(run)
+        for number in list(self._pinned):
+            self._release(number)
+        self._stack.close()
+
+    def close(self) -> None:
+        """Ends the command, if it has not ended. Nothing more is read."""
+        if not self._lock.acquire(blocking=False):
+            raise ValueError("the stream is in use: by another thread, or by one of its own inputs")
+        try:
+            self._free()
+        finally:
+            self._lock.release()
+
+    def __enter__(self) -> Stream:
+        return self
+
+    def __exit__(self, *_: object) -> None:
+        self.close()
+
+    def __del__(self) -> None:
+        # (After an error in the arguments, there may be nothing to free.)
+        if hasattr(self, "_stack"):
+            self._free()
+
+
+def write_all(out: Writable, text: bytes) -> None:
+    """Writes to a file, which may take a part of what it is given."""
+    rest = memoryview(text)
+    while rest:
+        count = out.write(rest)  # type: ignore[arg-type]
+        if count is None and hasattr(out, "fileno"):
+            raise BlockingIOError("`out` takes no bytes now: it may not be in non-blocking mode")
+        rest = rest[len(rest) if count is None else count :]
+
+
+@overload
+def stream(
+    words: Iterable[str], stdin: Input = ..., files: Mapping[str, Input] | None = ..., *, memory: int | None = ...
+) -> Stream: ...
+@overload
+def stream(
+    words: Iterable[str],
+    stdin: Input = ...,
+    files: Mapping[str, Input] | None = ...,
+    *,
+    out: Writable,
+    memory: int | None = ...,
+) -> None: ...
+def stream(
+    words: Iterable[str],
+    stdin: Input = b"",
+    files: Mapping[str, Input] | None = None,
+    *,
+    out: Writable | None = None,
+    memory: int | None = None,
+) -> Stream | None:
+    """Runs a command, the name of the tool first, over streams: yields its output in pieces, or writes it to `out`, a file
+    in binary mode. Inputs are read as they are needed, and may be the output of another command.
+
+    After the last piece it raises `Error` if the status is not 0, with the messages; and `MemoryError` if memory ran out,
+    or more than `memory` bytes were needed at a time. What an input raises comes through. `close` ends the command."""
+    running = Stream(words, stdin, files, memory)
+    if out is None:
+        return running
+    with running:
+        refuse_text("out", out)
+        for piece in running:
+            write_all(out, piece)
+    return None
+
+
+def run_descriptors(words: Iterable[str], descriptors: list[int]) -> int:
+    """Runs a command over descriptors: of standard input, the output and the messages, and those of the files that the
+    words name, where -1 is one that cannot be opened. Returns its status."""
+    encoded = encode_words(words)
+    opened = bytes(descriptor >= 0 for descriptor in descriptors[FIRST_FILE:])
+    functions = (LIBRARY.ptext_read_descriptor, LIBRARY.ptext_write_descriptor)
+    of_c = [ctypes.cast(function, ctypes.c_void_p) for function in functions]
+    numbers = (ctypes.c_int * len(descriptors))(*descriptors)
+    return int(_STREAM(encoded, len(encoded), *of_c, numbers, _Options(opened, len(opened), 0, None)))
