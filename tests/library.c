@@ -54,6 +54,8 @@ static void bad_arguments(void) {
     expect(status == 1 && answer.messages.written == 54, "no ends");
     status = ptext_run(WORDS("cut\0\377"), NULL, 0, NULL, 0, NULL, 0, out, 64, messages, 64, &answer);
     expect(status == 2 && has(messages, answer.messages, "ptext: a word is not UTF-8\n"), "words that are not UTF-8");
+    status = ptext_run(WORDS("cut\0\377"), NULL, 0, NULL, 0, NULL, 0, out, 64, messages, 5, &answer);
+    expect(status == PTEXT_ROOM && answer.messages.written == 5 && answer.messages.lacking == 22, "no room to say so");
     status = ptext_run(NULL, 0, NULL, 0, NULL, 0, NULL, 0, out, 64, messages, 64, &answer);
     expect(status == 2, "no words");
     status = ptext_run(WORDS("cut\0-b\0001"), NULL, 5, NULL, 0, NULL, 0, out, 64, messages, 64, &answer);

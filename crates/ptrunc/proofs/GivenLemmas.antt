@@ -195,7 +195,7 @@ module _ (files files' : List (Option (Bor (List ℕ)))) (begin begin' i : ℕ) 
 
 -- Memory ran out before the run, and this was all that was said.
 pub nothing_ran : (words : List (List ℕ)) (w : InputBytes) (out messages' : List ℕ) (a : Answer)
-    → IsRefused 4 (memory_message (codes "ptext")) messages' a → IsRunInMemory words w out messages' a
+    → IsRefused None (memory_message (codes "ptext")) messages' a → IsRunInMemory words w out messages' a
 nothing_ran words w out messages' a refused = record {
   is_exact = λ other. absurd (other refused.status_is);
   out_of_memory = λ four. record {

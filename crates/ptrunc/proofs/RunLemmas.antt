@@ -33,7 +33,8 @@ use Rattle.ptrunc.proofs.RoomLemmas.{bytes_added, full_if_failed, holds_of, hold
 use Rattle.ptrunc.proofs.RoomLemmas.{prefix_of_room, same_room}
 use Rattle.ptrunc.proofs.Unread.{nothing_is_read, status_is_low}
 use Rattle.ptrunc.specs.Inputs.{files_from, inputs_for}
-use Rattle.ptrunc.specs.Private.Answers.{ExitPost, StatusPost}
+use Rattle.ptrunc.specs.Calls.Answers.{StatusPost}
+use Rattle.ptrunc.specs.Private.Answers.{ExitPost}
 use Rattle.ptrunc.specs.Private.Files.{IsNewFile, source_state, unopened_files}
 use Rattle.ptrunc.specs.Private.Rooms.{AppendPost, IsNewFilling, bytes_of_file, filling_bytes, filling_state}
 use Rattle.ptrunc.specs.Private.Rooms.{has_failed, kept_state, part_of}

@@ -1,8 +1,7 @@
 //! `Answer`, the result of a call beside the bytes that it writes. Used by every module.
 
 ghost use Rattle.std.specs.Prelude.{◌≡◌};
-ghost use Rattle.ptrunc.specs.Calls.Answers.{IsRefused};
-ghost use Rattle.ptrunc.specs.Private.Answers.{StatusPost};
+ghost use Rattle.ptrunc.specs.Calls.Answers.{IsRefused, StatusPost};
 ghost use Rattle.ptrunc.specs.Results.{Holds};
 
 /// How much of a text a room has got.
@@ -47,18 +46,16 @@ impl Answer {
     }
 }
 
-/// Writes a message about a call that ran nothing.
-pub fn refuse(status: u8, text: &str, messages: &mut [u8]) -> Answer
-    ensures { IsRefused status text.now messages.new result }
+/// Writes a message about a call that ran nothing, and returns the answer with this exit status; `None` if memory ran
+/// out.
+pub fn refuse(exit: Option<u8>, text: &str, messages: &mut [u8]) -> Answer
+    ensures { IsRefused exit text.now messages.new result }
 {
-    Answer {
-        out: Part {
-            written: 0,
-            lacking: 0,
-        },
-        messages: write_text(text.as_bytes(), messages),
-        status,
-    }
+    let out = Part {
+        written: 0,
+        lacking: 0,
+    };
+    Answer::new(exit, out, write_text(text.as_bytes(), messages))
 }
 
 // Writes a text to a room, as far as it fits.

@@ -59,21 +59,21 @@ fn run_given(
 {
     let (files, ends) = given;
     let Ok(text) = str::from_utf8(words) else {
-        return refuse(2, "ptext: a word is not UTF-8\n", messages);
+        return refuse(Some(2), "ptext: a word is not UTF-8\n", messages);
     };
     if !are_ends(ends, files.len()) {
         return refuse(
-            5,
+            Some(5),
             "ptext: the ends of the files are not in order\n",
             messages,
         );
     }
     let Ok(words) = words_of(alloc, text) else {
-        return refuse(4, NO_MEMORY, messages);
+        return refuse(None, NO_MEMORY, messages);
     };
     match files_of(alloc, files, ends) {
         Ok(files) => run_in_memory(alloc, &words, input, &files, out, messages),
-        Err(_) => refuse(4, NO_MEMORY, messages),
+        Err(_) => refuse(None, NO_MEMORY, messages),
     }
 }
 
@@ -96,11 +96,11 @@ fn name_given(alloc: Global, words: &[u8], names: &mut [u8], output: &mut [u8]) 
     ensures { NamesGivenPost words.now names.new output.new result }
 {
     let Ok(text) = str::from_utf8(words) else {
-        return refuse(0, "", output);
+        return refuse(Some(0), "", output);
     };
     match words_of(alloc, text) {
         Ok(words) => write_names(alloc, &words, names, output),
-        Err(_) => refuse(4, "", output),
+        Err(_) => refuse(None, "", output),
     }
 }
 

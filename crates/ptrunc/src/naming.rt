@@ -24,8 +24,8 @@ pub fn write_names<A: Allocator + Copy + Drop>(
 {
     let command = match Command::read(alloc, words) {
         Ok(command) => command,
-        Err(UseFault::Memory) => return refuse(4, "", output),
-        Err(_) => return refuse(0, "", output),
+        Err(UseFault::Memory) => return refuse(None, "", output),
+        Err(_) => return refuse(Some(0), "", output),
     };
     let named = write_list(command.names(), names);
     let output_named = match command.output() {
@@ -34,7 +34,7 @@ pub fn write_names<A: Allocator + Copy + Drop>(
     };
     match (named, output_named) {
         (Some(named), Some(output_named)) => Answer::new(Some(0), named, output_named),
-        _ => refuse(4, "", output),
+        _ => refuse(None, "", output),
     }
 }
 

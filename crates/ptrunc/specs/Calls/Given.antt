@@ -33,13 +33,13 @@ cut_at begin (end ∷ ends) bytes =
 -- arguments are wrong, nothing was run.
 abbrev pub RunGivenPost : List ℕ → List ℕ → List ℕ → List ℕ → List ℕ → List ℕ → Answer → Type 0
 RunGivenPost words input files ends out messages' a =
-    (¬ (IsUtf8 words) × IsRefused 2 (line_of (codes "ptext: a word is not UTF-8" ∷ [])) messages' a)
+    (¬ (IsUtf8 words) × IsRefused (Some 2) (line_of (codes "ptext: a word is not UTF-8" ∷ [])) messages' a)
     ⊎ (((are_ascending 0 ends (length files) ≡ false)
-    × IsRefused 5 (line_of (codes "ptext: the ends of the files are not in order" ∷ [])) messages' a)
+    × IsRefused (Some 5) (line_of (codes "ptext: the ends of the files are not in order" ∷ [])) messages' a)
     ⊎ ((are_ascending 0 ends (length files) ≡ true)
     × IsRunInMemory (lines 0 words) (inputs_for (lines 0 words) input (cut_at 0 ends files)) out messages' a))
 
 -- The files of the command that these bytes are were named. Words that are not UTF-8 name none.
 abbrev pub NamesGivenPost : List ℕ → List ℕ → List ℕ → Answer → Type 0
 NamesGivenPost words names output a =
-    (¬ (IsUtf8 words) × IsRefused 0 [] output a) ⊎ AreNamed (lines 0 words) names output a
+    (¬ (IsUtf8 words) × IsRefused (Some 0) [] output a) ⊎ AreNamed (lines 0 words) names output a

@@ -24,4 +24,4 @@ pub record HoldNames (command : Option Command) (names output : List ℕ) (a : A
 -- out, and that no name was written.
 abbrev pub AreNamed : List (List ℕ) → List ℕ → List ℕ → Answer → Type 0
 AreNamed words names output a =
-    IsRefused 4 [] output a ⊎ HoldNames (valid_command (command_of_args words)) names output a
+    IsRefused None [] output a ⊎ HoldNames (valid_command (command_of_args words)) names output a

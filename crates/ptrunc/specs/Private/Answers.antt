@@ -1,13 +1,5 @@
--- The status of an answer.
-use Rattle.std.specs.Prelude.{◌≡◌, ◌⊎◌, ◌<◌, ℕ, true, false, Bool, Option, Some, None}
-use Rattle.ptrunc.specs.declared.answer.Part.{Part}
-
--- The status of an answer, by the exit status of the run; there is none if memory ran out.
-abbrev pub StatusPost : Option ℕ → Part → Part → ℕ → Type 0
-StatusPost None out messages' status = status ≡ 4
-StatusPost (Some exit) out messages' status =
-    (out.lacking ≡ 0 → messages'.lacking ≡ 0 → status ≡ exit)
-    × ((0 < out.lacking) ⊎ (0 < messages'.lacking) → status ≡ 3)
+-- The exit status of an answer.
+use Rattle.std.specs.Prelude.{◌≡◌, ◌⊎◌, ℕ, true, false, Bool, Option, Some, None}
 
 -- The exit status of a run, unless one of these says that memory ran out.
 abbrev pub ExitPost : ℕ → Bool → Bool → Bool → Bool → Option ℕ → Type 0
