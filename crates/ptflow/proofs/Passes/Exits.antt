@@ -19,6 +19,7 @@ use Rattle.std.specs.Prelude.{IsErrAnd}
 use Rattle.ptlines.specs.Calls.Outputs.{PushPost}
 use specs.Private.Passes.BlockLoop.{IsBlockFilter, RunBlocksPost}
 use specs.Private.Passes.StepOutput.{OutputPart}
+use Rattle.ptlines.specs.declared.sizes.TheConstants.{BLOCK}
 pub use Rattle.ptlines.proofs.MaxLength.{max_length-append, piece_le_max_length}
 use specs.Calls.Passes.{PassPre, only_input, pass_end}
 use Rattle.ptlines.specs.Calls.Engines.{terminator_after}
@@ -466,13 +467,13 @@ line_take end (suc n) (b ∷ bytes) (differs, are) = (differs, line_take end n _
 module _ {end : ℕ} {now new : Reader} {given : List ℕ} {ls : List (List ℕ)}
     (received : AreReceivedLines end now given ls)
     {piece : List ℕ} (reads : ReaderAdvance now new piece) (line behind : List ℕ)
-    (is : piece ++ new.buffered ≡ line ++ behind) (whole : IsLine end line) (short : length behind ≤ 8193) where
+    (is : piece ++ new.buffered ≡ line ++ behind) (whole : IsLine end line) (short : length behind ≤ BLOCK + 1) where
   -- the output that is decided by all but the terminator of a line that was read, and the bytes after it
   pub before_line : (tool : ToolSpec) {pushed : List ℕ}
       → ((came : Received) → known_lines end came ≡ ls → IsPrefix (tool.decided came) pushed)
       → LaggedOutput tool (received_with (given ++ piece) new) pushed
   before_line tool decided = elim received.so_far [
-    | inl (text, are) ↦ let n = length line - 8191 in record {
+    | inl (text, are) ↦ let n = length line - (BLOCK - 1) in record {
       before = λ u. record {
         earlier = record { bytes = given ++ take n line; eof = false };
         last = drop n line ++ behind;

@@ -19,6 +19,7 @@ use Rattle.ptflow.specs.Private.Passes.LineLoop.{RunLinesPre, SlotsCleared, IsSw
 use Rattle.ptflow.specs.Private.Passes.LineLoop.{IsLinesLength}
 use lemmas.List.Edits.{swap_is}
 use lemmas.List.Sums.{sum_by-drop_more, sum_by-take-drop}
+use Rattle.ptlines.specs.declared.sizes.TheConstants.{BLOCK}
 
 -- ---- the slots
 
@@ -260,7 +261,7 @@ module _ {S X E : Type 0} {tool : ToolSpec} {state : S → Slots → X} {rest_fr
       module _ (sound : IsSound reader) where
         -- at most a line and a block were read after the lines so far
         ending : {new : Reader} {piece : List ℕ} → ReaderAdvance reader new piece → (line behind : List ℕ)
-            → piece ++ new.buffered ≡ line ++ behind → IsLine end line → length behind ≤ 8193 → {after : Slots}
+            → piece ++ new.buffered ≡ line ++ behind → IsLine end line → length behind ≤ BLOCK + 1 → {after : Slots}
             → StoreBounds tool before after (received piece new) → Ending new after piece
         ending reads line behind is whole short bounded = record {
           reached = run.reached;

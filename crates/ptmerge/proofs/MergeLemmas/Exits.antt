@@ -91,7 +91,7 @@ module _ (end : ℕ) (given piece : List ℕ) (ls p : Lines) (now new : Reader) 
 
   -- complete lines, a part of a line, and `last`, which is left out
   point : (whole : Lines) (tail last : List ℕ)
-      → (given ++ piece) ++ new.buffered ≡ (unlines end whole ++ tail) ++ last → length last ≤ 8193
+      → (given ++ piece) ++ new.buffered ≡ (unlines end whole ++ tail) ++ last → length last ≤ BLOCK + 1
       → AreLines end whole → IsLine end tail → (rest : Lines) → p ≡ whole ++ rest → Point
   point whole tail last is short all line rest split = record {
     before = record {
