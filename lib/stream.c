@@ -5,6 +5,7 @@
 #include "ptext.h"
 
 #include <errno.h>
+#include <signal.h>
 #include <stdlib.h>
 #include <string.h>
 #include <sys/mman.h>
@@ -30,7 +31,7 @@ struct tried ptext_host_alloc(size_t size, size_t align);
 struct tried ptext_host_realloc(void *at, size_t kept, size_t size, size_t align);
 void ptext_host_dealloc(void *at);
 
-/* What is known of a stream that is read: it has failed, or its last read has given less than there was room for. */
+/* The state of a stream that is read: it has failed, or its last read has given less than there was room for. */
 #define HAS_FAILED 1
 #define IS_SHORT 2
 
@@ -153,7 +154,7 @@ ptrdiff_t ptext_write_descriptor(void *context, uint32_t stream, const uint8_t *
 #define STACK ((size_t)256 << 10)
 #define COLLECTED ((size_t)64 << 10)
 
-/* What is left of the bytes that the caller gave for a stream. */
+/* The rest of the bytes that the caller gave for a stream. */
 struct given {
     const uint8_t *bytes;
     size_t size;
@@ -298,6 +299,8 @@ int ptext_next(struct ptext_run *run, struct ptext_step *step) {
         running = &run->host;
         run->step = step;
         run->begun = 1;
+        /* (Otherwise the signals that were blocked at ptext_open, perhaps in another thread, would be so.) */
+        pthread_sigmask(SIG_SETMASK, NULL, &run->inside.uc_sigmask);
         swapcontext(&run->outside, &run->inside);
         running = outer;
     }
@@ -329,7 +332,7 @@ void ptext_close(struct ptext_run *run) {
  * that has given less comes a 0 that is not the end of the stream. A number with all bits changed asks about a stream
  * (crates/ptrunc/src/host.rt): one that is read must not have failed, and one that is written to is flushed. */
 
-/* What a function of the caller has returned, -1 in place of all that is a failure. */
+/* The answer of a function of the caller, -1 in place of all that is a failure. */
 static ptrdiff_t checked(struct host *host, ptrdiff_t got, size_t most) {
     if (got == PTEXT_STOP)
         host->is_stopped = 1;

@@ -1,8 +1,10 @@
 /* Runs over streams, by functions and step by step: streams that end early, come in small pieces, fail at each call in
- * turn, or break the rules; runs in runs, in threads, stopped and closed at each step; and limits of memory. */
+ * turn, or break the rules; runs in runs, in threads, stopped and closed at each step; signals; and limits of memory. */
+#define _GNU_SOURCE
 #include "ptext.h"
 
 #include <pthread.h>
+#include <signal.h>
 #include <stdio.h>
 #include <stdlib.h>
 #include <string.h>
@@ -444,6 +446,30 @@ static void moves_between_threads(void) {
     expect(!moved.step.status && has(&world, PTEXT_OUTPUT, "a\nc\n"), "a run that moves between threads");
     ptext_close(moved.run);
 }
+
+static volatile sig_atomic_t signals;
+
+static void count_signal(int number) {
+    (void)number;
+    signals++;
+}
+
+/* A step blocks the signals that its caller blocks, not those of the beginning of the run. */
+static void blocked_signals(void) {
+    struct ptext_step step = {0};
+    struct ptext_run *run = ptext_open(WORDS("tr\0a\0b"), NULL);
+    sigset_t set, before;
+    sigemptyset(&set);
+    sigaddset(&set, SIGUSR1);
+    signal(SIGUSR1, count_signal);
+    pthread_sigmask(SIG_BLOCK, &set, &before);
+    raise(SIGUSR1);
+    ptext_next(run, &step);
+    expect(!signals, "a signal that is blocked after the beginning");
+    pthread_sigmask(SIG_SETMASK, &before, NULL);
+    expect(signals == 1, "the signal afterwards");
+    ptext_close(run);
+}
 #endif
 
 int main(void) {
@@ -458,6 +484,7 @@ int main(void) {
     steps();
     bad_steps();
     moves_between_threads();
+    blocked_signals();
 #endif
 #ifdef REFUSED
     each_request_is_refused();
