@@ -74,7 +74,7 @@ uint8_t ptext_names(const uint8_t *words, size_t words_size, uint8_t *names, siz
 #define PTEXT_MESSAGES 2 /* the messages */
 #define PTEXT_FILE 3     /* the first file that the words name; the next one is 4, and so on */
 
-/* What a function of the caller returns to end the run at once, without a message. */
+/* A function of the caller returns this to end the run at once, without a message. */
 #define PTEXT_STOP PTRDIFF_MIN
 
 /*
@@ -94,14 +94,14 @@ struct ptext_options {
     size_t files;
     /* The most bytes of memory that the run may have requested at a time; 0 is any number. */
     size_t memory;
-    /* Called once the output, or all messages, are written; returns 0, or less if what was written may be lost. */
+    /* Called once the output is written, and not for messages; returns 0, or less if what was written may be lost. */
     ptrdiff_t (*flush)(void *context, uint32_t stream);
 };
 
 /*
  * Runs a command over streams, and returns the exit status of the program, 0 to 2; PTEXT_MEMORY if memory ran out,
  * PTEXT_STOPPED if a function has stopped it, and PTEXT_ARGUMENTS if a pointer is null (only `context` and `options` may
- * be), or there are 2^31 files or more.
+ * be), or there are more than 2^31 - 4 files.
  *
  * A stream is read from its beginning, one read after another, and not again once it has ended or failed. No more is
  * read ahead than one block of 8,192 bytes, in which the output is written, too.
