@@ -1,4 +1,4 @@
-"""What is taken as an input, in pieces of bytes."""
+"""The kinds of inputs, in pieces of bytes."""
 from __future__ import annotations
 
 import contextlib

@@ -57,7 +57,7 @@ _CLOSE.argtypes = [ctypes.c_void_p]
 
 
 class _PyBuffer(ctypes.Structure):
-    """What the interpreter says of a buffer (`Py_buffer`)."""
+    """A buffer as the interpreter describes it (`Py_buffer`)."""
 
     _fields_ = [
         ("buf", ctypes.c_void_p),
@@ -92,6 +92,8 @@ class Stream(Iterator[bytes]):
     def __init__(
         self, words: Iterable[str], stdin: Input, files: Mapping[str, Input] | None, memory: int | None
     ) -> None:
+        if memory is not None and memory < 1:
+            raise ValueError("`memory` is a number of bytes above 0, or None")
         words, files = list_words(words), files or {}
         encoded, read = encode_words(words), names(words)[0]
         self._unknown = find_unknown(read, files)
@@ -160,6 +162,7 @@ class Stream(Iterator[bytes]):
             _CLOSE(run)
         for number in list(self._pinned):
             self._release(number)
+        self._pieces = {}
         self._stack.close()
 
     def close(self) -> None:
@@ -185,12 +188,11 @@ class Stream(Iterator[bytes]):
 
 def write_all(out: Writable, text: bytes) -> None:
     """Writes to a file, which may take a part of what it is given."""
-    rest = memoryview(text)
-    while rest:
-        count = out.write(rest)  # type: ignore[arg-type]
+    while text:
+        count = out.write(text)
         if count is None and hasattr(out, "fileno"):
             raise BlockingIOError("`out` takes no bytes now: it may not be in non-blocking mode")
-        rest = rest[len(rest) if count is None else count :]
+        text = text[len(text) if count is None else count :]
 
 
 @overload

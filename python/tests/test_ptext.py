@@ -241,6 +241,8 @@ class Streams(unittest.TestCase):
             for piece in ptext.stream(["join", "a", "b"], files=files, memory=100_000):
                 taken += len(piece)
         self.assertEqual(self.joined(["cut", "-b", "1", "a"], files=files, memory=100_000), b"k\n" * 20_000)
+        for memory in (0, -1):
+            self.assertRaisesRegex(ValueError, "above 0", ptext.stream, ["tr", "a", "b"], memory=memory)
 
     def test_streams_are_used_by_one_at_a_time(self):
         def itself():
@@ -263,7 +265,7 @@ class Streams(unittest.TestCase):
             text = b""
 
             def write(self, data):
-                self.text += bytes(data[:1])
+                self.text += data[:1]
                 return 1
 
         slow = Slow()
