@@ -19,7 +19,7 @@ from promise import SECTIONS
 PAGE = f"{TOP}/docs/ARCHITECTURE.md"
 BEGIN, END = "<!-- tools/layers.py writes this table -->\n", "<!-- up to here -->\n"
 COMMANDS = f"{TOP}/crates/ptopts/src/command.rt"
-# What an engine uses if its loop is shared: how that is called, and how its definition begins.
+# The loops that engines share: how each is called, and how its definition begins.
 LOOPS = {
     "run_lines": ("run_lines(", "fn run_lines<"),
     "run_blocks": ("run_blocks(", "fn run_blocks<"),

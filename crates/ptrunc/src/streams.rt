@@ -35,7 +35,7 @@ pub trait Host {
     /// A stream that is written to.
     type Output: Sink;
 
-    /// What is known of the bytes of the stream with a number: nothing of those of a real one.
+    /// The bytes of the stream with a number, if they are known: those of a real one are not.
     ghost content: { Self → ℕ → Option (List ℕ) };
 
     /// The state of the stream with a number before its first write.

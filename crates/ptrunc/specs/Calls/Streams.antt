@@ -25,7 +25,7 @@ unwritten = record { accepted = None; failed = false; unflushed = false; flushes
 abbrev pub is_opened : List ℕ → ℕ → Bool
 is_opened opened index = not (slice_index_or opened index 0 == 0)
 
--- What is known of the file with this index: that it cannot be opened, or what is known of the stream 3 + index.
+-- The file with this index, as far as it is known: one that cannot be opened, or the stream 3 + index.
 abbrev pub file_content : (ℕ → Option (List ℕ)) → List ℕ → ℕ → Option Content
 file_content content opened index = if is_opened opened index then known (content (3 + index)) else Some None
 
