@@ -2,6 +2,8 @@
  * tests/library.sh compiles and runs it. usage: filter TOOL [WORD ..] */
 #include "ptext.h"
 #include <fcntl.h>
+#include <signal.h>
+#include <stdio.h>
 #include <stdlib.h>
 #include <string.h>
 
@@ -28,7 +30,14 @@ int main(int count, char **words) {
         are_open &= opened[options.files] = file >= 0;
         descriptors[PTEXT_FILE + options.files++] = file;
     }
-    if (found.messages.written && are_open)
+    if (found.messages.written && are_open) {
         descriptors[PTEXT_OUTPUT] = open((char *)output, O_WRONLY | O_CREAT | O_TRUNC, 0666);
+        if (descriptors[PTEXT_OUTPUT] < 0) {
+            fprintf(stderr, "%s: %s: cannot be opened\n", words[1], (char *)output);
+            return 1;
+        }
+    }
+    /* (A pipe that nobody reads is then a failed write.) */
+    signal(SIGPIPE, SIG_IGN);
     return ptext_stream(joined, size, ptext_read_descriptor, ptext_write_descriptor, descriptors, &options);
 }
