@@ -1,12 +1,17 @@
 -- Counterexamples for `BoundedLag`: an output that is held back for more than two blocks of input, or in more than one
 -- block of output, does not have it.
-use Rattle.std.proofs.Common.{◌≡◌, ℕ, false, List, [], Option, Some, length, sym, ◌∙◌, ap, arith, length-append}
+use Rattle.std.proofs.Common.{◌≡◌, ℕ, false, List, [], Option, Some, length, refl, sym, ◌∙◌, ap, arith, length-append}
 use Rattle.std.specs.Io.KnownBytes.{append_known}
 use Rattle.std.specs.Prelude.{replicate}
 use Rattle.std.proofs.lemmas.List.{length-replicate}
 use Rattle.ptlines.specs.Calls.Outputs.{Output}
 use Rattle.ptlines.specs.Calls.Lag.{BoundedLag}
 use Rattle.ptlines.proofs.Lag.{known_length}
+use Rattle.ptlines.specs.declared.sizes.TheConstants.{BLOCK}
+
+-- The bounds of the contracts name the block, whose size they do not say.
+size_of_a_block : BLOCK ≡ 8192
+size_of_a_block = refl
 
 -- nothing was pushed although 20,000 bytes of decided output were received
 nothing_pushed : (was is : Output) → BoundedLag {I = Unit {0}} (λ given. (given tt).bytes)
