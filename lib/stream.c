@@ -299,8 +299,8 @@ int ptext_next(struct ptext_run *run, struct ptext_step *step) {
         running = &run->host;
         run->step = step;
         run->begun = 1;
-        /* (Otherwise the signals that were blocked at ptext_open, perhaps in another thread, would be so.) */
-        pthread_sigmask(SIG_SETMASK, NULL, &run->inside.uc_sigmask);
+        /* (Else the signals that were blocked at ptext_open, perhaps in another thread, would be blocked in the step.) */
+        sigprocmask(SIG_SETMASK, NULL, &run->inside.uc_sigmask);
         swapcontext(&run->outside, &run->inside);
         running = outer;
     }
