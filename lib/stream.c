@@ -299,7 +299,7 @@ int ptext_next(struct ptext_run *run, struct ptext_step *step) {
         running = &run->host;
         run->step = step;
         run->begun = 1;
-        /* (Else the signals that were blocked at ptext_open, perhaps in another thread, would be blocked in the step.) */
+        /* (Otherwise a step would have the mask of signals of ptext_open, perhaps that of another thread.) */
         sigprocmask(SIG_SETMASK, NULL, &run->inside.uc_sigmask);
         swapcontext(&run->outside, &run->inside);
         running = outer;
