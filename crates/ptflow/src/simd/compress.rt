@@ -58,7 +58,7 @@ impl CompressTable {
     // new count. The bytes of `into` after these may change.
     #[inline(always)]
     pub(crate) fn compress16(&self, v: u8x16, keep: u64, into: &mut PaddedBlock, at: usize) -> usize
-        requires { at ≤ 8200 }
+        requires { at + 24 ≤ PADDED }
         ensures packed { (flags : List Bool) → length flags ≡ 16 → keep ≡ mask_l flags
             → take result into.new ≡ take at into.old ++ select_by flags v }
         ensures end { (at ≤ result) × (result ≤ at + 16) }

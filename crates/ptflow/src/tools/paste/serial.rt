@@ -107,7 +107,7 @@ impl<'a> SerialFormat<'a> {
         requires some { (0 < length block.now) × (length block.now ≤ BLOCK) }
         ensures copied { (more : List ℕ) → serial_rest self.now cell (block.now ++ more)
             ≡ take result.0 into.new ++ serial_rest self.now result.1 more }
-        ensures size_bound { result.0 ≤ 8200 }
+        ensures size_bound { result.0 ≤ BLOCK + 8 }
         ensures index { result.1.index < length self.now.delims.now }
     {
         let held = [self.terminator];
