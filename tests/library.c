@@ -1,10 +1,12 @@
-/* Calls of the library with bad arguments, with rooms that overlap and with too little room. */
+/* Calls of the library with bad arguments, with rooms that overlap, with too little room and with a long input. */
+#define _GNU_SOURCE
 #include "ptext.h"
 
 #include <pthread.h>
 #include <stdio.h>
 #include <stdlib.h>
 #include <string.h>
+#include <sys/mman.h>
 
 static int failed;
 
@@ -226,8 +228,22 @@ static void two_threads(void) {
     }
 }
 
+/* An input of 5 GiB. (Its pages are only read, so all are one page of zeros in memory.) */
+static void a_long_input(void) {
+    const size_t size = (size_t)5 << 30;
+    uint8_t *input = mmap(NULL, size, PROT_READ, MAP_PRIVATE | MAP_ANONYMOUS | MAP_NORESERVE, -1, 0);
+    if (input == MAP_FAILED) {
+        expect(0, "5 GiB of addresses");
+        return;
+    }
+    uint8_t status = ptext_run(WORDS("tr\0-d\0\\0"), input, size, NULL, 0, NULL, 0, out, 64, messages, 64, &answer);
+    expect(status == 0 && has(out, answer.out, ""), "an input of 5 GiB");
+    munmap(input, size);
+}
+
 int main(void) {
     too_little_room();
+    a_long_input();
     bad_arguments();
     spans_of_calls();
     two_threads();

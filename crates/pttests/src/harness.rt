@@ -238,7 +238,8 @@ fn counting_input(
     LineReader::standard(CountedSource::new(ChunkedSource::whole(b"never read\n"), pulls))
 }
 
-/// Runs arguments that are no command: `message` is written, and nothing is read, written to the output or flushed.
+/// Runs arguments that are no command: `message` is written, nothing is read, written to the output or flushed, and no
+/// memory is requested.
 pub fn expect_usage_error(
     rt: &impl Abort,
     alloc: Global,
@@ -252,8 +253,10 @@ pub fn expect_usage_error(
     let pulls = Cell::new(0);
     let standard = counting_input(&pulls);
     let (out, messages) = (VecSink::new(alloc), VecSink::new(alloc));
-    let report = run(alloc, command, &*words, &mut [standard], out, messages);
+    let counted = FailingAlloc::after(alloc, u64::MAX);
+    let report = run(&counted, command, &*words, &mut [standard], out, messages);
     assert_nothing_done(rt, &*words, &report, pulls.get(), (message, 2));
+    assert_same_for(rt, &words, &counted.left(), &u64::MAX);
     Ok(())
 }
 
