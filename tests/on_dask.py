@@ -176,7 +176,7 @@ def check_failures(client):
     expect_failure("has to be given", lambda: dask.run(client, ["uniq"], "result"))
     # (A limit on the size of files is like a full disk.)
     client.run(limit_files, 1 << 20)
-    expect_failure("cut was ended by signal", lambda: dask.run(client, ["cut", "-c", "1-", "log"], "result"))
+    expect_failure("of 16: File too large", lambda: dask.run(client, ["cut", "-c", "1-", "log"], "result"))
     client.run(limit_files, resource.RLIM_INFINITY)
 
 

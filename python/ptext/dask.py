@@ -5,9 +5,8 @@
     >>> for chunk in ptext.dask.read(client, ["tr", "a-z", "A-Z"], stdin="log", parts=20):
     ...     file.write(chunk)
 
-The client cuts the files by offsets, as ptext-parts(1) does, so nothing is copied. Each part is a process of the
-program `ptext`, which each worker has in its PATH: the range comes by a pipe, so that a part need not fit into memory,
-and a tool that is killed does not end the worker.
+The client cuts the files by offsets, as ptext-parts(1) does, so nothing is copied. On a worker, a part is a stream of
+the library, so that it need not fit into memory.
 """
 from __future__ import annotations
 
@@ -15,34 +14,59 @@ import contextlib
 import os
 import tempfile
 from collections.abc import Iterable, Iterator
-from typing import TYPE_CHECKING
+from typing import IO, TYPE_CHECKING
 
-from . import Error, parts as _parts
+from . import Error, parts as _parts, stream
 
 if TYPE_CHECKING:
     from distributed import Client, Future
 
 __all__ = ["PartsError", "read", "run"]
 PartsError = _parts.PartsError
+PIECE = 1 << 20
 _Plan = _parts.Plan
+
+
+def _read_range(path: str, begin: int, end: int) -> Iterator[bytes]:
+    """The bytes of a range of a file, in pieces."""
+    with open(path, "rb", buffering=0) as file:
+        file.seek(begin)
+        while begin < end:
+            piece = file.read(min(end - begin, PIECE))
+            if not piece:
+                raise PartsError(f"{path}: it ended before its part did")
+            begin += len(piece)
+            yield piece
+
+
+def _run_part(plan: _Plan, part: int, out: IO[bytes]) -> None:
+    """On a worker: runs the tool over the ranges of a part. (Each has a name of its own, also if a file is named twice.)"""
+    _parts.check_unchanged(plan)
+    command = _parts.read_words(plan.words)
+    names = {at: "-" if name == "-" else f"/part/{at}" for at, name in command.inputs.items()}
+    ranges = zip(plan.inputs, plan.parts[part - 1])
+    given = {name: _read_range(file.path, *offsets) for name, (file, offsets) in zip(names.values(), ranges)}
+    try:
+        stream(command.name_inputs(names), stdin=given.pop("-", b""), files=given, out=out)
+        out.flush()
+    except Error as why:
+        raise Error(why.status, _parts.describe_failure(plan, part, why.message, names), b"") from why
+    except OSError as why:
+        what = f"{why.filename}: {why.strerror}" if why.filename else why.strerror
+        raise PartsError(f"{_parts.describe_part(plan, part)}: {what}") from why
+    _parts.check_unchanged(plan)
 
 
 def _put(plan: _Plan, part: int, folder: str) -> int:
     """On a worker: puts a part into the folder."""
-    try:
-        _parts.put_part(plan, part, folder)
-    except _parts.ToolError as why:
-        raise Error(why.status, why.message, b"") from why
+    _parts.put_part(plan, part, folder, _run_part)
     return part
 
 
 def _read(plan: _Plan, part: int) -> bytes:
     """On a worker: the output of a part."""
     with tempfile.TemporaryFile() as file:
-        try:
-            _parts.run_part(plan, part, file)
-        except _parts.ToolError as why:
-            raise Error(why.status, why.message, b"") from why
+        _run_part(plan, part, file)
         file.seek(0)
         return file.read()
 

@@ -555,13 +555,13 @@ def put_whole(path: str, write: Callable[[BinaryIO], None]) -> None:
         raise
 
 
-def put_part(plan: Plan, part: int, folder: str) -> None:
+def put_part(plan: Plan, part: int, folder: str, run: Callable[[Plan, int, BinaryIO], None] = run_part) -> None:
     """Puts the output of a part into the folder, unless it is there already: then the files were the same."""
     path = f"{folder}/{plan.name_part(part)}"
     if os.path.exists(path):
         check_unchanged(plan)
     else:
-        put_whole(path, lambda file: run_part(plan, part, file))
+        put_whole(path, lambda file: run(plan, part, file))
 
 
 def put_together(plan: Plan, folder: str, result: str) -> None:
