@@ -129,7 +129,7 @@ fn check_example(rt: &impl Abort, alloc: Global, example: &Example) {
 }
 
 // `count` bytes, with all values in order.
-fn each_value(alloc: Global, count: u16) -> Result<Vec<u8>, AllocError> {
+fn each_value(alloc: Global, count: usize) -> Result<Vec<u8>, AllocError> {
     let mut bytes = Vec::new(alloc);
     for value in 0..count {
         bytes.push((value % 256) as u8)?;
