@@ -12,7 +12,7 @@
 # make install-lib          installs them and the page ptext(3) into PREFIX
 # make python               build/dist: a wheel of the Python module, with the library in it (docs/LIBRARY.md)
 # make page                 build/page/ptext.html: the tools in a browser, as one file (docs/LIBRARY.md)
-# make bench                ratios to the system's tools, by the length of a line and by work: tables, data and chart in
+# make bench                ratios to the system's tools, by tool, work and length of a line: tables, data and chart in
 #                           bench/; and the tools over parts of their input, on all processors
 # make compare N=5000       random words and inputs, against the definitions and the system's tools; AGAINST=busybox,
 #                           toybox, uutils, 9base, all, or a path, compares with others (docs/POSIX.md)

@@ -119,3 +119,66 @@ def make_words_of_a_text(size):
     """All words of a text in order: half of the different ones are there once, and few a thousand times."""
     given = random.Random(1)
     return ["".join(word * min(int(1 / (1 - given.random())), 1000) for word in make_dictionary(size // 64))]
+
+
+def make_wide_line(separator, count):
+    """Makers of lines of so many fields."""
+
+    def make(number):
+        fields = [str((number + place) * 7919 % 65536) for place in range(count - 1)]
+        return separator.join([f"{number:08}", *fields]) + "\n"
+
+    return make
+
+
+def make_password_line(number):
+    name = choose_name(number)
+    return f"{name}{number}:x:{1000 + number % 60000}:100:{name.title()} {number % 97}:/home/{name}{number}:/bin/bash\n"
+
+
+def make_quoted_line(number):
+    """A line of the log of a server of pages."""
+    time = f"{number // 3600 % 24:02}:{number // 60 % 60:02}:{number % 60:02}"
+    return (
+        f"10.{number % 251}.{number % 83}.{number % 17} - - [22/Nov/2026:{time} +0000] "
+        f'"GET /items/{number} HTTP/1.1" {200 + number % 5} {number * 7919 % 65536}\n'
+    )
+
+
+def make_stamped_line(number):
+    """Two lines each are the same but for the time before them."""
+    return f"{1700000000 + number} {choose_name(number // 2)} {number // 2 % 100}\n"
+
+
+def make_short_person_line(number):
+    return f"{number:08} {choose_name(number)} {number * 7919 % 65536}\n"
+
+
+@functools.cache
+def make_long_words(count):
+    """So many words of six to nine syllables, in order."""
+    given = random.Random(3)
+    return sorted({"".join(given.choices(SYLLABLES, k=given.randint(6, 9))) + "\n" for _ in range(count)})
+
+
+def make_dictionary_file(size):
+    return ["".join(make_long_words(size // 16))]
+
+
+def make_runs(size):
+    """Lines of eight bytes of which 1 to 12 each are the same."""
+    given = random.Random(2)
+    return ["".join(f"{number:07}\n" * given.randint(1, 12) for number in range(size // 52))]
+
+
+def make_groups(first, second):
+    """Makers of two files, with so many lines of each key."""
+
+    def make(size):
+        keys = range(size // (15 * (first + second)))
+        return [
+            "".join(f"{key:07} {name}{line}\n" for key in keys for line in range(count))
+            for name, count in (("left", first), ("right", second))
+        ]
+
+    return make

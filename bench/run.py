@@ -1,9 +1,10 @@
 #!/usr/bin/env python3
 """Ratios of ptext to the system's tools, by user and system time, measured side by side in one run.
 
-  bench/run.py PTEXT                       both of these; writes README.md's tables, speed.tsv and speed.svg, all beside
-                                           this file; --quick over a tenth of the lines, or less, and once each, to see
-                                           that it runs; --to FOLDER writes into another folder
+  bench/run.py PTEXT                       all of these; writes README.md's tables, means.tsv, speed.tsv and speed.svg,
+                                           all beside this file; --quick over a tenth of the lines, or less, and once
+                                           each, to see that it runs; --to FOLDER writes into another folder
+  bench/run.py PTEXT tool                  the mean of each tool (means.py)
   bench/run.py PTEXT length                by the length of a line (lengths.py)
   bench/run.py PTEXT work                  by work (works.py)
 
@@ -22,14 +23,15 @@ HERE = os.path.dirname(os.path.realpath(__file__))
 sys.path.insert(1, f"{os.path.dirname(HERE)}/tools")
 
 import lengths
+import means
 import works
 from project import run_script
 
-PARTS = {"length": lengths.run, "work": works.run}
+PARTS = {"tool": means.run, "length": lengths.run, "work": works.run}
 
 
 def keep_table(path, part, text):
-    """Puts the table of this part between its two marks; a file without them gets both at its end."""
+    """Puts the table of this part between its two marks; a file without them gets them at its end."""
     begin, end = f"<!-- begin by {part}: written by bench/run.py -->\n", f"<!-- end by {part} -->\n"
     old = ""
     if os.path.exists(path):
@@ -46,7 +48,7 @@ def main():
     parser.add_argument("--quick", action="store_true", help="few lines, each command once")
     parser.add_argument("--to", metavar="FOLDER", default=HERE, help="where tables, data and chart are written")
     parser.add_argument("ptext", help="the program")
-    parser.add_argument("part", nargs="?", choices=PARTS, help="none: both")
+    parser.add_argument("part", nargs="?", choices=PARTS, help="none: all")
     given = parser.parse_args()
     ptext = os.path.abspath(given.ptext)
     other = [os.path.abspath(given.against)] if given.against else []
