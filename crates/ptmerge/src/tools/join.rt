@@ -68,9 +68,7 @@ fn write_unpaired_entry<B: Allocator, W: Sink>(
     write_alone(job, side, key, line, terminator, out)
 }
 
-// Writes the output lines of the first input's current line with each line of the group. Not inlined, so that the loop
-// of the merge stays short.
-#[inline(never)]
+// Writes the output lines of the first input's current line with each line of the group.
 #[tactic(auto, using(crate::proofs::JoinLemmas::Group::pair_steps))]
 fn write_pair_entries<K: KeyOrder, A: Allocator + Copy, B: Allocator, W: Sink>(
     merge: &Merge<K>,
