@@ -82,14 +82,22 @@ if [ "$built" = "$PWD/build" ]; then
     fi
     is "the installed library" "$drinks" "$(LD_LIBRARY_PATH="$room/a b/lib64" "$room/installed")"
     is "its page" yes "$([ -s "$room/a b/share/man/man3/ptext.3" ] && echo yes)"
+    is "its licenses" "LICENSE-APACHE LICENSE-MIT NOTICES " \
+        "$(find "$room/a b/share/doc/libptext" -type f -size +0 -printf '%f\n' | LC_ALL=C sort | tr '\n' ' ')"
     at uninstall
     is "nothing is left" "" "$(ls -A "$room/a b")"
     if [ -e /usr/lib/python3/dist-packages/setuptools ] && [ -e /usr/lib/python3/dist-packages/wheel ]; then
         make -s python >"$room/said" 2>&1 || cat "$room/said"
         # (A wheel is an archive of what is installed.)
-        /usr/bin/python3 -m zipfile -e build/dist/ptext-*.whl "$room/wheel"
+        wheel=$(echo build/dist/ptext-*.whl)
+        is "its name" "" "$(echo "$wheel" | grep -v -- '-py3-none-manylinux_2_[0-9]*_x86_64[.]whl$')"
+        /usr/bin/python3 -m zipfile -e "$wheel" "$room/wheel"
         is "the wheel" "a c" "$(cd "$room/wheel" && echo 'a b c' | /usr/bin/python3 -m ptext cut -d ' ' -f 1,3)"
         is "its library" same "$(cmp -s "$room/wheel/ptext/libptext.so" "$built/libptext.so" && echo same)"
+        about=$room/wheel/ptext-$(cat VERSION).dist-info
+        is "its licenses" "LICENSE-APACHE LICENSE-MIT NOTICES " \
+            "$(cd "$about" && find . -name '[LN]*' -size +0 -printf '%f\n' | LC_ALL=C sort | tr '\n' ' ')"
+        is "its description" 1 "$(grep -c '^    >>> ptext.join(' "$about/METADATA")"
     else
         left_out "the wheel of the Python module (there is no setuptools, or no wheel)"
     fi
