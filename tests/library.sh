@@ -18,7 +18,8 @@ for program in example shared; do
 done
 "$room/calls"
 "$room/pointers"
-gcc $flags -pthread -o "$room/streams" tests/streams.c "$built/libptext.a"
+painted="-DPAINTED -Wl,--wrap=mmap,--wrap=munmap"
+gcc $flags -pthread $painted -o "$room/streams" tests/streams.c "$built/libptext.a"
 "$room/streams"
 refuse="-DREFUSED -Wl,--wrap=malloc,--wrap=calloc,--wrap=realloc"
 gcc $flags -pthread $refuse -o "$room/refused" tests/streams.c "$built/libptext.a"
@@ -105,4 +106,10 @@ fi
 cd python
 export PTEXT_LIBRARY="$built/libptext.so" PYTHONDONTWRITEBYTECODE=1
 timeout --foreground 600 python3 -m unittest discover -s tests || bad=$((bad + 1))
+if has mypy; then
+    words="--strict --follow-imports=silent --no-error-summary --cache-dir $room/mypy"
+    is "the types of a program" "" "$(MYPYPATH=. mypy $words tests/user.py 2>&1)"
+else
+    left_out "the types of a program by mypy (it is not there)"
+fi
 [ "$bad" = 0 ]
