@@ -358,6 +358,13 @@ class Program(unittest.TestCase):
         self.is_so("ptext cut -b 1 f >/dev/full", (1, "", "cut: output: write failed\n"))
         self.is_so("ptext cut -b 1 f none 2>&-", (1, "a\nc\n", ""))
 
+    def test_user(self):
+        user = os.path.join(os.path.dirname(os.path.abspath(__file__)), "user.py")
+        how = {"cwd": self.room, "capture_output": True, "text": True, "env": environment()}
+        did = subprocess.run([sys.executable, user, "g"], **how)
+        wanted = "1 x\n21 b'xabcdxxef\\n' 1: comm: x: line 2 is out of order (['in'], 'out')\n"
+        self.assertEqual(did.stdout, wanted, did.stderr)
+
     def test_does_not_wait_for_an_input_that_it_does_not_read(self):
         never = {"input": None, "stdin": self.never()}
         self.is_so("ptext cut -q", (2, "", "cut: unknown option in -q\n"), **never)
