@@ -17,6 +17,8 @@ if TYPE_CHECKING:
 READ, WRITE, ENDED = 1, 2, 3
 FAILED = ctypes.c_size_t(-1).value
 INPUT, OUTPUT, FIRST_FILE = 0, 1, 3
+# The most bytes that a step is given: between two steps, Python sees to Ctrl-C.
+MOST = 1 << 20
 
 
 class Writable(Protocol):
@@ -71,14 +73,20 @@ class _PyBuffer(ctypes.Structure):
 
 
 class _Pinned:
-    """The address and the size of the bytes of a buffer, which stay where they are until `release`."""
+    """The bytes of a buffer, which stay where they are until `release`."""
 
     def __init__(self, piece: Buffer) -> None:
         if not isinstance(piece, bytes) and not memoryview(piece).c_contiguous:
             piece = memoryview(piece).tobytes()
         self._buffer = _PyBuffer()
         ctypes.pythonapi.PyObject_GetBuffer(ctypes.py_object(piece), ctypes.byref(self._buffer), 0)
-        self.address, self.size = self._buffer.buf, self._buffer.len
+        self._taken = 0
+
+    def take(self) -> tuple[int, int]:
+        """The address and the number of the next bytes, which is 0 if all were taken."""
+        begin, count = self._taken, min(self._buffer.len - self._taken, MOST)
+        self._taken += count
+        return (self._buffer.buf or 0) + begin, count
 
     def release(self) -> None:
         ctypes.pythonapi.PyBuffer_Release(ctypes.byref(self._buffer))
@@ -143,14 +151,17 @@ class Stream(Iterator[bytes]):
     def _give(self) -> None:
         """Gives the next bytes of the input that is wanted, or its end."""
         number = self._step.stream
-        self._release(number)
-        self._step.bytes, self._step.size = None, 0
-        for piece in self._pieces[number]:
-            self._pinned[number] = pinned = _Pinned(piece)
-            if pinned.size:
-                self._step.bytes, self._step.size = pinned.address, pinned.size
+        while True:
+            if number in self._pinned:
+                self._step.bytes, self._step.size = self._pinned[number].take()
+                if self._step.size:
+                    return
+                self._release(number)
+            piece = next(self._pieces[number], None)
+            if piece is None:
+                self._step.bytes, self._step.size = None, 0
                 return
-            self._release(number)
+            self._pinned[number] = _Pinned(piece)
 
     def _release(self, number: int) -> None:
         if number in self._pinned:

@@ -273,12 +273,19 @@ class Streams(unittest.TestCase):
         self.assertEqual(slow.text, b"abc\n")
 
     def test_memory_and_interrupts(self):
-        code = """
-import itertools, resource, sys, ptext
+        # (An input of 64 GiB: its pages are only read, so all are one page of zeros in memory.)
+        long = "mmap.mmap(-1, 1 << 36, mmap.MAP_PRIVATE, mmap.PROT_READ)"
+        for command in ('"a", "b"], stdin=itertools.repeat(b"a\\n" * 50_000)', f'"-d", r"\\0"], stdin={long}'):
+            with self.subTest(command):
+                self.is_interrupted(command)
+
+    def is_interrupted(self, command):
+        code = f"""
+import itertools, mmap, resource, sys, ptext
 before = resource.getrusage(resource.RUSAGE_SELF).ru_maxrss
 count = sum(map(len, ptext.stream(["tr", "a", "b"], stdin=itertools.repeat(b"a" * 99_999 + b"\\n", 3000))))
 print(count, resource.getrusage(resource.RUSAGE_SELF).ru_maxrss - before < 16_000, flush=True)
-for piece in ptext.stream(["tr", "a", "b"], stdin=itertools.repeat(b"a\\n" * 50_000)):
+for piece in ptext.stream(["tr", {command}):
     pass
 """
         with subprocess.Popen(

@@ -1,4 +1,4 @@
-"""A program that uses the module as most do: test_ptext.py runs it, and mypy has nothing to say of it (tests/library.sh).
+"""A program that uses the module as most do: test_ptext.py runs it, and mypy has nothing to say of it.
 
 usage: python3 user.py FILE
 """
@@ -55,4 +55,5 @@ def find_disorder() -> str:
 
 if __name__ == "__main__":
     count_first_bytes(pathlib.Path(sys.argv[1]))
-    print(join_tables(), paste_all_kinds(pathlib.Path(sys.argv[1])), find_disorder(), ptext.names(["uniq", "in", "out"]))
+    pasted = paste_all_kinds(pathlib.Path(sys.argv[1]))
+    print(join_tables(), pasted, find_disorder(), ptext.names(["uniq", "in", "out"]))
