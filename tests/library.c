@@ -232,7 +232,8 @@ static void two_threads(void) {
     }
 }
 
-/* An input of 5 GiB. (Its pages are only read, so all are one page of zeros in memory.) */
+#ifndef SANITIZED
+/* An input of 5 GiB. (Its pages are only read, so all are one page of zeros in memory. ThreadSanitizer notes each.) */
 static void a_long_input(void) {
     const size_t size = (size_t)5 << 30;
     uint8_t *input = mmap(NULL, size, PROT_READ, MAP_PRIVATE | MAP_ANONYMOUS | MAP_NORESERVE, -1, 0);
@@ -244,10 +245,13 @@ static void a_long_input(void) {
     expect(status == 0 && has(out, answer.out, ""), "an input of 5 GiB");
     munmap(input, size);
 }
+#endif
 
 int main(void) {
     too_little_room();
+#ifndef SANITIZED
     a_long_input();
+#endif
     bad_arguments();
     spans_of_calls();
     two_threads();

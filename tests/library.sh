@@ -25,20 +25,22 @@ refuse="-DREFUSED -Wl,--wrap=malloc,--wrap=calloc,--wrap=realloc"
 gcc $flags -pthread $refuse -o "$room/refused" tests/streams.c "$built/libptext.a"
 "$room/refused"
 # (What is compiled anew for sanitizers is lib/ and the tests. ThreadSanitizer and valgrind know no stacks of steps.)
-parts="tests/streams.c lib/ptext.c lib/stream.c $built/ptrunc.a"
-for with in "address,undefined" "address,undefined $refuse" "thread -DNO_STEPS"; do
-    if gcc $flags -g -O1 -pthread -fsanitize=$with -o "$room/checked" $parts 2>"$room/said"; then
+parts="lib/ptext.c lib/stream.c $built/ptrunc.a"
+calls="tests/library.c" streams="tests/streams.c"
+for with in "address,undefined $calls" "thread $calls" "address,undefined $streams" "address,undefined $refuse $streams" \
+    "thread -DNO_STEPS $streams"; do
+    if gcc $flags -DSANITIZED -g -O1 -pthread -fsanitize=$with -o "$room/checked" $parts 2>"$room/said"; then
         if ! "$room/checked" 2>"$room/said"; then
             # (Some kernels place memory where ThreadSanitizer cannot have it.)
             if grep -q 'unexpected memory mapping' "$room/said"; then
-                left_out "streams with -fsanitize=$with (the kernel does not let it)"
+                left_out "the library with -fsanitize=$with (the kernel does not let it)"
             else
                 bad=$((bad + 1))
                 cat "$room/said"
             fi
         fi
     else
-        left_out "streams with -fsanitize=$with (gcc has it not)"
+        left_out "the library with -fsanitize=$with (gcc has it not)"
     fi
 done
 if has valgrind; then
