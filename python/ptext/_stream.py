@@ -8,7 +8,7 @@ import threading
 from collections.abc import Iterable, Iterator, Mapping
 from typing import TYPE_CHECKING, Any, Protocol, overload
 
-from ._inputs import Input, is_read_once, list_pieces, open_path, refuse_text
+from ._inputs import Input, check_files, is_read_once, list_pieces, open_path, refuse_text
 from ._library import LIBRARY, check_status, encode_words, find_unknown, list_words, names
 
 if TYPE_CHECKING:
@@ -102,7 +102,7 @@ class Stream(Iterator[bytes]):
     ) -> None:
         if memory is not None and memory < 1:
             raise ValueError("`memory` is a number of bytes above 0, or None")
-        words, files = list_words(words), files or {}
+        words, files = list_words(words), check_files(files)
         encoded, read = encode_words(words), names(words)[0]
         self._unknown = find_unknown(read, files)
         self._step, self._lock, self._messages = _Step(), threading.Lock(), bytearray()
@@ -232,11 +232,12 @@ def stream(
 
     After the last piece it raises `Error` if the status is not 0, with the messages; and `MemoryError` if memory ran out,
     or more than `memory` bytes were needed at a time. What an input raises comes through. `close` ends the command."""
-    running = Stream(words, stdin, files, memory)
     if out is None:
-        return running
-    with running:
-        refuse_text("out", out)
+        return Stream(words, stdin, files, memory)
+    refuse_text("out", out)
+    if not hasattr(out, "write"):
+        raise TypeError(f"out is {type(out).__name__}, and not a file open in binary mode")
+    with Stream(words, stdin, files, memory) as running:
         for piece in running:
             write_all(out, piece)
     return None

@@ -123,8 +123,12 @@ class Failures(unittest.TestCase):
                 ptext.cut("-b", "1", stdin=given)
             with self.assertRaisesRegex(TypeError, says):
                 list(ptext.stream(["cut", "-b", "1", "f"], files={"f": given}))
-        with self.assertRaisesRegex(TypeError, "text mode"):
-            ptext.stream(["cut", "-b", "1"], out=io.StringIO())
+        for out, says in [(io.StringIO(), "text mode"), ("f", "str, and not a file open in binary mode")]:
+            with self.assertRaisesRegex(TypeError, says):
+                ptext.stream(["cut", "-b", "1"], out=out)
+        for call in (ptext.run, ptext.stream):
+            with self.assertRaisesRegex(TypeError, "list, and not a mapping"):
+                call(["cut", "-b", "1", "f"], files=["f"])
         with self.assertRaises(FileNotFoundError):
             ptext.stream(["cut", "-b", "1"], stdin=pathlib.Path("/none/such"))
 
