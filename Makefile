@@ -9,7 +9,7 @@
 # make check-program        all tests of a built program (PROGRAM=build/ptext): nothing is proved, and no toolchain needed
 # make static               build/ptext-static: the program as one file that needs no shared libraries
 # make lib                  build/libptext.so and build/libptext.a with ptext.h: the tools as a library, for C
-# make install-lib          installs them, the page ptext(3) and the licenses into PREFIX
+# make install-lib          installs them and the page ptext(3) into PREFIX
 # make python               build/dist: a wheel of the Python module, with the library in it (docs/LIBRARY.md)
 # make page                 build/page/ptext.html: the tools in a browser, as one file (docs/LIBRARY.md)
 # make bench                ratios to the system's tools, by tool, work and length of a line: tables, data and chart in
