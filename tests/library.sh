@@ -27,8 +27,8 @@ gcc $flags -pthread $refuse -o "$room/refused" tests/streams.c "$built/libptext.
 # (What is compiled anew for sanitizers is lib/ and the tests. ThreadSanitizer and valgrind know no stacks of steps.)
 parts="lib/ptext.c lib/stream.c $built/ptrunc.a"
 calls="tests/library.c" streams="tests/streams.c"
-for with in "address,undefined $calls" "thread $calls" "address,undefined $streams" "address,undefined $refuse $streams" \
-    "thread -DNO_STEPS $streams"; do
+for with in "address,undefined $calls" "thread $calls" "address,undefined $streams" \
+    "address,undefined $refuse $streams" "thread -DNO_STEPS $streams"; do
     if gcc $flags -DSANITIZED -g -O1 -pthread -fsanitize=$with -o "$room/checked" $parts 2>"$room/said"; then
         if ! "$room/checked" 2>"$room/said"; then
             # (Some kernels place memory where ThreadSanitizer cannot have it.)

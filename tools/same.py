@@ -3,9 +3,9 @@
 
   python3 tools/same.py PROGRAM [COUNT] [--by functions|steps|descriptors|python | --page PAGE]
 
-COUNT is 2,000. The library is build/libptext.so, through the Python module, over bytes in memory; with --by, over streams,
-whose inputs come in random pieces: by functions that C calls, step by step, by the descriptors of files and pipes, or by
-`ptext.stream` from inputs of random kinds. With --page it is the module of a built page, by node.
+COUNT is 2,000. The library is build/libptext.so, through the Python module, over bytes in memory; with --by, over
+streams, whose inputs come in random pieces: by functions that C calls, step by step, by the descriptors of files and
+pipes, or by `ptext.stream` from inputs of random kinds. With --page it is the module of a built page, by node.
 """
 import argparse
 import array
