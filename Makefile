@@ -117,6 +117,9 @@ PYTHON ?= /usr/bin/python3
 python: build/libptext.a
 	rm -rf build/python && cp -r python build/python
 	cp build/libptext.so.$(shell cat VERSION) build/python/ptext/libptext.so
+	cp docs/LIBRARY.md LICENSE-MIT LICENSE-APACHE build/python && cp debian/copyright build/python/NOTICES
+	@# (In build/dist is one wheel only, whatever its platforms.)
+	rm -f build/dist/ptext-*.whl
 	@# (setuptools warns of `setup.py install`, which this runs for a folder that goes into the wheel.)
 	cd build/python && $(PYTHON) -W ignore setup.py -q bdist_wheel -d ../dist
 	@python3 tools/dist.py sums build/dist

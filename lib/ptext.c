@@ -61,14 +61,16 @@ static int can_be_written(const struct span *spans, size_t count) {
     return is_span(spans[MESSAGES]);
 }
 
-/* Says what is wrong with the arguments of ptext_run, as far as `room` allows. */
-static uint8_t refused(uint8_t *messages, size_t room, struct ptext_answer *answer) {
+/* Says what is wrong with the arguments of ptext_run, in the room for messages if `is_sound`. If that is too little, a call
+ * with enough gets the status, as for what the crate refuses. */
+static uint8_t refused(uint8_t *messages, size_t room, int is_sound, struct ptext_answer *answer) {
     static const char text[] = "ptext: a pointer is null, or rooms overlap\n";
-    size_t size = sizeof text - 1, written = room < size ? room : size;
+    size_t size = sizeof text - 1, written = !is_sound ? 0 : room < size ? room : size;
     if (written)
         memcpy(messages, text, written);
-    *answer = (struct ptext_answer){{0, 0}, {written, size - written}, PTEXT_ARGUMENTS};
-    return PTEXT_ARGUMENTS;
+    uint8_t status = is_sound && written < size ? PTEXT_ROOM : PTEXT_ARGUMENTS;
+    *answer = (struct ptext_answer){{0, 0}, {written, size - written}, status};
+    return status;
 }
 
 uint8_t ptext_run(const uint8_t *words, size_t words_size, const uint8_t *input, size_t input_size,
@@ -84,7 +86,7 @@ uint8_t ptext_run(const uint8_t *words, size_t words_size, const uint8_t *input,
     if (!answer)
         return PTEXT_ARGUMENTS;
     if (!are_apart(spans, 3, count))
-        return refused(messages, can_be_written(spans, count) ? messages_room : 0, answer);
+        return refused(messages, messages_room, can_be_written(spans, count), answer);
     ptext_run_in_memory(given(words), words_size, given(input), input_size, given(files), files_size, given(ends),
                         ends_count, (uint8_t *)given(out), out_room, (uint8_t *)given(messages), messages_room, answer);
     return answer->status;

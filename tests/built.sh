@@ -51,7 +51,7 @@ if is_current build/libptext.a "make lib"; then
     test_of "the library" sh tests/library.sh build
     test_of "parts by Dask" /usr/bin/python3 tests/on_dask.py "$program"
     test_of "the library and the program" python3 tools/same.py "$program" 500
-    for way in functions steps descriptors; do
+    for way in functions steps descriptors python; do
         test_of "the library over streams, by $way" python3 tools/same.py "$program" 300 --by "$way"
     done
 fi

@@ -18,26 +18,29 @@ for program in example shared; do
 done
 "$room/calls"
 "$room/pointers"
-gcc $flags -pthread -o "$room/streams" tests/streams.c "$built/libptext.a"
+painted="-DPAINTED -Wl,--wrap=mmap,--wrap=munmap"
+gcc $flags -pthread $painted -o "$room/streams" tests/streams.c "$built/libptext.a"
 "$room/streams"
 refuse="-DREFUSED -Wl,--wrap=malloc,--wrap=calloc,--wrap=realloc"
 gcc $flags -pthread $refuse -o "$room/refused" tests/streams.c "$built/libptext.a"
 "$room/refused"
 # (What is compiled anew for sanitizers is lib/ and the tests. ThreadSanitizer and valgrind know no stacks of steps.)
-parts="tests/streams.c lib/ptext.c lib/stream.c $built/ptrunc.a"
-for with in "address,undefined" "address,undefined $refuse" "thread -DNO_STEPS"; do
-    if gcc $flags -g -O1 -pthread -fsanitize=$with -o "$room/checked" $parts 2>"$room/said"; then
+parts="lib/ptext.c lib/stream.c $built/ptrunc.a"
+calls="tests/library.c" streams="tests/streams.c"
+for with in "address,undefined $calls" "thread $calls" "address,undefined $streams" \
+    "address,undefined $refuse $streams" "thread -DNO_STEPS $streams"; do
+    if gcc $flags -DSANITIZED -g -O1 -pthread -fsanitize=$with -o "$room/checked" $parts 2>"$room/said"; then
         if ! "$room/checked" 2>"$room/said"; then
             # (Some kernels place memory where ThreadSanitizer cannot have it.)
             if grep -q 'unexpected memory mapping' "$room/said"; then
-                left_out "streams with -fsanitize=$with (the kernel does not let it)"
+                left_out "the library with -fsanitize=$with (the kernel does not let it)"
             else
                 bad=$((bad + 1))
                 cat "$room/said"
             fi
         fi
     else
-        left_out "streams with -fsanitize=$with (gcc has it not)"
+        left_out "the library with -fsanitize=$with (gcc has it not)"
     fi
 done
 if has valgrind; then
@@ -82,14 +85,22 @@ if [ "$built" = "$PWD/build" ]; then
     fi
     is "the installed library" "$drinks" "$(LD_LIBRARY_PATH="$room/a b/lib64" "$room/installed")"
     is "its page" yes "$([ -s "$room/a b/share/man/man3/ptext.3" ] && echo yes)"
+    is "its licenses" "LICENSE-APACHE LICENSE-MIT NOTICES " \
+        "$(find "$room/a b/share/doc/libptext" -type f -size +0 -printf '%f\n' | LC_ALL=C sort | tr '\n' ' ')"
     at uninstall
     is "nothing is left" "" "$(ls -A "$room/a b")"
     if [ -e /usr/lib/python3/dist-packages/setuptools ] && [ -e /usr/lib/python3/dist-packages/wheel ]; then
         make -s python >"$room/said" 2>&1 || cat "$room/said"
         # (A wheel is an archive of what is installed.)
-        /usr/bin/python3 -m zipfile -e build/dist/ptext-*.whl "$room/wheel"
+        wheel=$(echo build/dist/ptext-*.whl)
+        is "its name" "" "$(echo "$wheel" | grep -v -- '-py3-none-manylinux_2_[0-9]*_x86_64[.]whl$')"
+        /usr/bin/python3 -m zipfile -e "$wheel" "$room/wheel"
         is "the wheel" "a c" "$(cd "$room/wheel" && echo 'a b c' | /usr/bin/python3 -m ptext cut -d ' ' -f 1,3)"
         is "its library" same "$(cmp -s "$room/wheel/ptext/libptext.so" "$built/libptext.so" && echo same)"
+        about=$room/wheel/ptext-$(cat VERSION).dist-info
+        is "its licenses" "LICENSE-APACHE LICENSE-MIT NOTICES " \
+            "$(cd "$about" && find . -name '[LN]*' -size +0 -printf '%f\n' | LC_ALL=C sort | tr '\n' ' ')"
+        is "its description" 1 "$(grep -c '^    >>> ptext.join(' "$about/METADATA")"
     else
         left_out "the wheel of the Python module (there is no setuptools, or no wheel)"
     fi
@@ -97,4 +108,10 @@ fi
 cd python
 export PTEXT_LIBRARY="$built/libptext.so" PYTHONDONTWRITEBYTECODE=1
 timeout --foreground 600 python3 -m unittest discover -s tests || bad=$((bad + 1))
+if has mypy; then
+    words="--strict --follow-imports=silent --no-error-summary --cache-dir $room/mypy"
+    is "the types of a program" "" "$(MYPYPATH=. mypy $words tests/user.py 2>&1)"
+else
+    left_out "the types of a program by mypy (it is not there)"
+fi
 [ "$bad" = 0 ]

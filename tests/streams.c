@@ -1,5 +1,6 @@
 /* Runs over streams, by functions and step by step: streams that end early, come in small pieces, fail at each call in
- * turn, or break the rules; runs in runs, in threads, stopped and closed at each step; signals; and limits of memory. */
+ * turn, or break the rules; runs in runs, in threads, stopped and closed at each step; signals; limits of memory; and how
+ * deep stacks get. */
 #define _GNU_SOURCE
 #include "ptext.h"
 
@@ -8,6 +9,8 @@
 #include <stdio.h>
 #include <stdlib.h>
 #include <string.h>
+#include <sys/mman.h>
+#include <unistd.h>
 
 static int failed;
 
@@ -283,6 +286,42 @@ static void each_request_is_refused(void) {
 }
 #endif
 
+/* ---- how much of its stack a run leaves alone (linked with --wrap=mmap,--wrap=munmap) */
+
+#ifdef PAINTED
+#define PAINT 0xa5
+
+static size_t untouched = SIZE_MAX;
+
+void *__real_mmap(void *at, size_t size, int protection, int flags, int descriptor, off_t offset);
+void *__wrap_mmap(void *at, size_t size, int protection, int flags, int descriptor, off_t offset);
+void *__wrap_mmap(void *at, size_t size, int protection, int flags, int descriptor, off_t offset) {
+    void *got = __real_mmap(at, size, protection, flags, descriptor, offset);
+    if (got != MAP_FAILED && flags & MAP_STACK)
+        memset(got, PAINT, size);
+    return got;
+}
+
+int __real_munmap(void *at, size_t size);
+int __wrap_munmap(void *at, size_t size);
+int __wrap_munmap(void *at, size_t size) {
+    /* (The lowest page cannot be read.) */
+    size_t page = (size_t)sysconf(_SC_PAGESIZE), count = page;
+    while (count < size && ((const uint8_t *)at)[count] == PAINT)
+        count++;
+    untouched = least(untouched, count - page);
+    return __real_munmap(at, size);
+}
+
+/* All tools have run by now. A handler of a signal has what they leave. */
+static void stacks(void) {
+    if (untouched < 64 << 10 || untouched > 200 << 10) {
+        printf("FAILED: %zu bytes of a stack are left, and not 64 KiB\n", untouched);
+        failed = 1;
+    }
+}
+#endif
+
 /* ---- runs in runs, and threads */
 
 /* Gives the output of a run of its own in each read. */
@@ -485,6 +524,9 @@ int main(void) {
     bad_steps();
     moves_between_threads();
     blocked_signals();
+#endif
+#ifdef PAINTED
+    stacks();
 #endif
 #ifdef REFUSED
     each_request_is_refused();

@@ -4,7 +4,7 @@ was installed.
 
   python3 tools/install.py install PREFIX [DESTDIR] [NAME=VALUE..]     the programs, their pages and completion
   python3 tools/install.py tools PREFIX [DESTDIR] [NAME=VALUE..]       each tool by its own name, page and completion
-  python3 tools/install.py library PREFIX [DESTDIR] [NAME=VALUE..]     the library for C, its header and its page
+  python3 tools/install.py library PREFIX [DESTDIR] [NAME=VALUE..]     the library for C, its header, page and licenses
   python3 tools/install.py uninstall PREFIX [DESTDIR] [NAME=VALUE..]   all of it, and the folders that were made for it
 
 The names are those of other projects: bindir (PREFIX/bin), libexecdir (PREFIX/libexec), datadir (PREFIX/share), mandir
@@ -52,6 +52,8 @@ OTHERS_OF_TOOLS = [
 VARIABLES = ("bindir", "libexecdir", "datadir", "mandir", "libdir", "includedir", "INSTALL_PROGRAM", "STATIC")
 # The program that needs the system's C library, and the one that contains one.
 DYNAMIC, STATIC = f"{TOP}/build/ptext", f"{TOP}/build/ptext-static"
+# The licenses of this source and of the code that is linked with it, as archives have them too.
+LICENSES = [("LICENSE-MIT",) * 2, ("LICENSE-APACHE",) * 2, ("NOTICES", "debian/copyright")]
 # The license of the C library, where Debian keeps it.
 LGPL = "/usr/share/common-licenses/LGPL-2.1"
 
@@ -294,6 +296,7 @@ def list_files_of_library(where, prefix):
         (f"{lib}/pkgconfig/ptext.pc", 0o644, make_settings(where, prefix)),
         (f"{where['includedir']}/ptext.h", 0o644, read_bytes(f"{TOP}/lib/ptext.h")),
         (f"{where['mandir']}/man3/ptext.3", 0o644, make_page("ptext.3")),
+        *((f"{where['datadir']}/doc/libptext/{name}", 0o644, read_bytes(f"{TOP}/{source}")) for name, source in LICENSES),
     ]
 
 
@@ -341,7 +344,8 @@ def install_library(place):
     lib = describe_folder(place, "libdir")
     print(
         f"installed in {place.root}: {lib}/libptext.a, {lib}/libptext.so.{read_version()}, {lib}/pkgconfig/ptext.pc, "
-        f"{describe_folder(place, 'includedir')}/ptext.h, the page ptext(3)"
+        f"{describe_folder(place, 'includedir')}/ptext.h, the page ptext(3), and the licenses in "
+        f"{describe_folder(place, 'datadir')}/doc/libptext"
     )
 
 

@@ -1,18 +1,21 @@
 #!/usr/bin/env python3
 """Compares the library with the program: the same output, messages and status on random words and inputs.
 
-  python3 tools/same.py PROGRAM [COUNT] [--by functions|steps|descriptors | --page PAGE]
+  python3 tools/same.py PROGRAM [COUNT] [--by functions|steps|descriptors|python | --page PAGE]
 
-COUNT is 2,000. The library is build/libptext.so, through the Python module, over bytes in memory; with --by, over streams,
-whose inputs come in random pieces: by functions that C calls, step by step, or by the descriptors of files and pipes.
-With --page it is the module of a built page, by node.
+COUNT is 2,000. The library is build/libptext.so, through the Python module, over bytes in memory; with --by, over
+streams, whose inputs come in random pieces: by functions that C calls, step by step, by the descriptors of files and
+pipes, or by `ptext.stream` from inputs of random kinds. With --page it is the module of a built page, by node.
 """
 import argparse
+import array
 import base64
 import contextlib
 import ctypes
+import io
 import json
 import os
+import pathlib
 import random
 import signal
 import subprocess
@@ -54,25 +57,69 @@ def cut_randomly(text, chance):
     return pieces
 
 
-class Steps(Library):
-    """Runs over streams, step by step."""
+class Streams(Library):
+    """Runs over streams, by `ptext.stream`."""
+
+    def make_input(self, text, chance, is_read_again, stack):
+        """An input of a random kind with these bytes. Some kinds can be read only once."""
+        pieces = cut_randomly(text, chance)
+        kinds = [text, bytearray(text), array.array("B", text), pieces, tuple(map(memoryview, pieces))]
+        if not is_read_again:
+            kinds += [iter(pieces), io.BytesIO(text), (piece for piece in pieces)]
+        kind = chance.randrange(len(kinds) + 2)
+        if kind < len(kinds):
+            return kinds[kind]
+        file = stack.enter_context(tempfile.NamedTemporaryFile())
+        file.write(text)
+        file.flush()
+        file.seek(0)
+        return pathlib.Path(file.name) if is_read_again or kind % 2 else file
 
     def run_all(self, words, stdin, files):
         import ptext
 
-        chance, out = random.Random(repr(words)), []
-        stream = ptext.stream(
-            words, cut_randomly(stdin, chance), {name: cut_randomly(text, chance) for name, text in files.items()}
-        )
-        try:
-            for piece in stream:
-                out.append(piece)
-            status = 0
-        except ptext.Error as why:
-            status = why.status
-        except MemoryError:
-            status = 4
-        return status, b"".join(out), bytes(stream._messages)
+        chance, out, read = random.Random(repr(words)), io.BytesIO(), self.names(words)[0]
+        with contextlib.ExitStack() as stack:
+            given = {name: self.make_input(text, chance, read.count(name) > 1, stack) for name, text in files.items()}
+            stream = ptext.stream(words, self.make_input(stdin, chance, False, stack), given)
+            try:
+                out.writelines(stream)
+                status = 0
+            except ptext.Error as why:
+                status = why.status
+            except MemoryError:
+                status = 4
+            return status, out.getvalue(), bytes(stream._messages)
+
+
+def make_options(library, words, stdin, files):
+    """The words of a command as C takes them, its options, and the bytes of its inputs, by their numbers."""
+    from ptext import _library, _stream
+
+    inputs = [stdin, None, None, *map(files.get, library.names(words)[0])]
+    opened = bytes(text is not None for text in inputs[3:])
+    return _library.encode_words(words), _stream._Options(opened, len(opened), 0, None), inputs
+
+
+class Steps(Library):
+    """Runs over streams, step by step."""
+
+    def run_all(self, words, stdin, files):
+        from ptext import _stream
+
+        given, options, inputs = make_options(self, words, stdin, files)
+        chance = random.Random(repr(words))
+        pieces = [iter(cut_randomly(text or b"", chance)) for text in inputs]
+        outputs, kept, step = {1: [], 2: []}, {}, _stream._Step()
+        run = _stream._OPEN(given, len(given), options)
+        while _stream._NEXT(run, step) != _stream.ENDED:
+            if step.wants == _stream.READ:
+                kept[step.stream] = piece = next(pieces[step.stream], b"")
+                step.bytes, step.size = ctypes.cast(piece, ctypes.c_void_p), len(piece)
+            else:
+                outputs[step.stream].append(ctypes.string_at(step.bytes, step.size))
+        _stream._CLOSE(run)
+        return step.status, b"".join(outputs[1]), b"".join(outputs[2])
 
 
 READ = ctypes.CFUNCTYPE(ctypes.c_ssize_t, ctypes.c_void_p, ctypes.c_uint32, ctypes.c_void_p, ctypes.c_size_t)
@@ -82,10 +129,10 @@ class Functions(Library):
     """Runs over streams, by functions that read and write a random number of bytes."""
 
     def run_all(self, words, stdin, files):
-        from ptext import _library, _stream
+        from ptext import _library
 
-        chance, given = random.Random(repr(words)), _library.encode_words(words)
-        inputs = [stdin, None, None, *map(files.get, self.names(words)[0])]
+        given, options, inputs = make_options(self, words, stdin, files)
+        chance = random.Random(repr(words))
         outputs, begins = {1: [], 2: []}, [0] * len(inputs)
 
         def read(_, stream, into, room):
@@ -101,8 +148,6 @@ class Functions(Library):
             return size
 
         functions = [READ(read), READ(write)]
-        opened = bytes(text is not None for text in inputs[3:])
-        options = _stream._Options(opened, len(opened), 0, None)
         pointers = [ctypes.cast(function, ctypes.c_void_p) for function in functions]
         status = _library.LIBRARY.ptext_stream(given, len(given), *pointers, None, options)
         return status, b"".join(outputs[1]), b"".join(outputs[2])
@@ -172,7 +217,7 @@ class Page:
         return (answer["status"], *(base64.b64decode(answer[stream]) for stream in ("out", "messages")))
 
 
-WAYS = {None: Library, "functions": Functions, "steps": Steps, "descriptors": Descriptors}
+WAYS = {None: Library, "functions": Functions, "steps": Steps, "descriptors": Descriptors, "python": Streams}
 
 
 def run_program(program, words, inputs, output, room):

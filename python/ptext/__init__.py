@@ -6,6 +6,10 @@ r"""cut, paste, join, comm, uniq and tr over bytes in memory and over streams, b
     b'1,ann,tea\n'
     >>> lines = ptext.stream(["cut", "-d", ":", "-f", "1"], stdin=pathlib.Path("/etc/passwd"))
     >>> ptext.stream(["uniq", "-c"], stdin=lines, out=sys.stdout.buffer)
+
+The functions of the tools take all inputs, and return all output, in memory; `stream` is for inputs of any length, for
+output as it comes, and for what Ctrl-C shall end. Its inputs may come in pieces of any size. Pieces that are run one by
+one have another output: `uniq -c` counts a run of equal lines twice.
 """
 from collections.abc import Mapping
 

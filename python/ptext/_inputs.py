@@ -4,7 +4,7 @@ from __future__ import annotations
 import contextlib
 import io
 import os
-from collections.abc import Iterable, Iterator
+from collections.abc import Iterable, Iterator, Mapping
 from typing import TYPE_CHECKING, Any, Protocol, Union
 
 if TYPE_CHECKING:
@@ -25,6 +25,12 @@ Input = Union["Buffer", str, "os.PathLike[str]", Readable, Iterable["Buffer"]]
 open file in binary mode, or an iterable of bytes in their order."""
 
 
+def check_files(files: Mapping[str, Input] | None) -> Mapping[str, Input]:
+    if not isinstance(files, (Mapping, type(None))):
+        raise TypeError(f"files is {type(files).__name__}, and not a mapping from names to inputs")
+    return files or {}
+
+
 def is_buffer(given: object) -> bool:
     try:
         memoryview(given)  # type: ignore[arg-type]
@@ -37,7 +43,7 @@ def is_read_once(given: Input) -> bool:
     """Whether the bytes of an input can be had only once."""
     if isinstance(given, (str, os.PathLike)) or is_buffer(given):
         return False
-    return hasattr(given, "read") or iter(given) is given  # type: ignore[arg-type]
+    return hasattr(given, "read") or isinstance(given, Iterator)
 
 
 def refuse_text(what: str, given: object) -> None:

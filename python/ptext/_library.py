@@ -6,7 +6,7 @@ import ctypes.util
 import os
 from collections.abc import Iterable, Mapping
 
-from ._inputs import Input, read_all
+from ._inputs import Input, check_files, read_all
 
 ROOM, MEMORY, ARGUMENTS = 3, 4, 5
 NO_FILE = ctypes.c_size_t(-1).value
@@ -121,7 +121,7 @@ def run(words: Iterable[str], stdin: Input = b"", files: Mapping[str, Input] | N
     words = list_words(words)
     status, out, messages = run_all(words, stdin, files)
     if status:
-        check_status(status, messages, out, find_unknown(names(words)[0], files or {}))
+        check_status(status, messages, out, find_unknown(names(words)[0], check_files(files)))
     return out
 
 
@@ -129,9 +129,9 @@ def run_all(
     words: Iterable[str], stdin: Input = b"", files: Mapping[str, Input] | None = None
 ) -> tuple[int, bytes, bytes]:
     """The status of a command, its output and its messages. The status is MEMORY if the library ran out of memory."""
-    words = list_words(words)
+    words, files = list_words(words), check_files(files)
     given, text = encode_words(words), read_all("stdin", stdin)
-    read, files = (names(words)[0], files) if files else ([], {})
+    read = names(words)[0] if files else []
     known = [name for name in dict.fromkeys(read) if files.get(name) is not None]
     contents = {name: read_all(f"files[{name!r}]", files[name]) for name in known}
     parts = [contents.get(name) for name in read]

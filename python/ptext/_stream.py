@@ -8,7 +8,7 @@ import threading
 from collections.abc import Iterable, Iterator, Mapping
 from typing import TYPE_CHECKING, Any, Protocol, overload
 
-from ._inputs import Input, is_read_once, list_pieces, open_path, refuse_text
+from ._inputs import Input, check_files, is_read_once, list_pieces, open_path, refuse_text
 from ._library import LIBRARY, check_status, encode_words, find_unknown, list_words, names
 
 if TYPE_CHECKING:
@@ -17,6 +17,8 @@ if TYPE_CHECKING:
 READ, WRITE, ENDED = 1, 2, 3
 FAILED = ctypes.c_size_t(-1).value
 INPUT, OUTPUT, FIRST_FILE = 0, 1, 3
+# The most bytes that a step is given: between two steps, Python sees to Ctrl-C.
+MOST = 1 << 20
 
 
 class Writable(Protocol):
@@ -71,14 +73,20 @@ class _PyBuffer(ctypes.Structure):
 
 
 class _Pinned:
-    """The address and the size of the bytes of a buffer, which stay where they are until `release`."""
+    """The bytes of a buffer, which stay where they are until `release`."""
 
     def __init__(self, piece: Buffer) -> None:
         if not isinstance(piece, bytes) and not memoryview(piece).c_contiguous:
             piece = memoryview(piece).tobytes()
         self._buffer = _PyBuffer()
         ctypes.pythonapi.PyObject_GetBuffer(ctypes.py_object(piece), ctypes.byref(self._buffer), 0)
-        self.address, self.size = self._buffer.buf, self._buffer.len
+        self._taken = 0
+
+    def take(self) -> tuple[int, int]:
+        """The address and the number of the next bytes, which is 0 if all were taken."""
+        begin, count = self._taken, min(self._buffer.len - self._taken, MOST)
+        self._taken += count
+        return (self._buffer.buf or 0) + begin, count
 
     def release(self) -> None:
         ctypes.pythonapi.PyBuffer_Release(ctypes.byref(self._buffer))
@@ -94,7 +102,7 @@ class Stream(Iterator[bytes]):
     ) -> None:
         if memory is not None and memory < 1:
             raise ValueError("`memory` is a number of bytes above 0, or None")
-        words, files = list_words(words), files or {}
+        words, files = list_words(words), check_files(files)
         encoded, read = encode_words(words), names(words)[0]
         self._unknown = find_unknown(read, files)
         self._step, self._lock, self._messages = _Step(), threading.Lock(), bytearray()
@@ -143,14 +151,17 @@ class Stream(Iterator[bytes]):
     def _give(self) -> None:
         """Gives the next bytes of the input that is wanted, or its end."""
         number = self._step.stream
-        self._release(number)
-        self._step.bytes, self._step.size = None, 0
-        for piece in self._pieces[number]:
-            self._pinned[number] = pinned = _Pinned(piece)
-            if pinned.size:
-                self._step.bytes, self._step.size = pinned.address, pinned.size
+        while True:
+            if number in self._pinned:
+                self._step.bytes, self._step.size = self._pinned[number].take()
+                if self._step.size:
+                    return
+                self._release(number)
+            piece = next(self._pieces[number], None)
+            if piece is None:
+                self._step.bytes, self._step.size = None, 0
                 return
-            self._release(number)
+            self._pinned[number] = _Pinned(piece)
 
     def _release(self, number: int) -> None:
         if number in self._pinned:
@@ -221,11 +232,12 @@ def stream(
 
     After the last piece it raises `Error` if the status is not 0, with the messages; and `MemoryError` if memory ran out,
     or more than `memory` bytes were needed at a time. What an input raises comes through. `close` ends the command."""
-    running = Stream(words, stdin, files, memory)
     if out is None:
-        return running
-    with running:
-        refuse_text("out", out)
+        return Stream(words, stdin, files, memory)
+    refuse_text("out", out)
+    if not hasattr(out, "write"):
+        raise TypeError(f"out is {type(out).__name__}, and not a file open in binary mode")
+    with Stream(words, stdin, files, memory) as running:
         for piece in running:
             write_all(out, piece)
     return None

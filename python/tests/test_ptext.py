@@ -123,8 +123,12 @@ class Failures(unittest.TestCase):
                 ptext.cut("-b", "1", stdin=given)
             with self.assertRaisesRegex(TypeError, says):
                 list(ptext.stream(["cut", "-b", "1", "f"], files={"f": given}))
-        with self.assertRaisesRegex(TypeError, "text mode"):
-            ptext.stream(["cut", "-b", "1"], out=io.StringIO())
+        for out, says in [(io.StringIO(), "text mode"), ("f", "str, and not a file open in binary mode")]:
+            with self.assertRaisesRegex(TypeError, says):
+                ptext.stream(["cut", "-b", "1"], out=out)
+        for call in (ptext.run, ptext.stream):
+            with self.assertRaisesRegex(TypeError, "list, and not a mapping"):
+                call(["cut", "-b", "1", "f"], files=["f"])
         with self.assertRaises(FileNotFoundError):
             ptext.stream(["cut", "-b", "1"], stdin=pathlib.Path("/none/such"))
 
@@ -273,12 +277,19 @@ class Streams(unittest.TestCase):
         self.assertEqual(slow.text, b"abc\n")
 
     def test_memory_and_interrupts(self):
-        code = """
-import itertools, resource, sys, ptext
+        # (An input of 64 GiB: its pages are only read, so all are one page of zeros in memory.)
+        long = "mmap.mmap(-1, 1 << 36, mmap.MAP_PRIVATE, mmap.PROT_READ)"
+        for command in ('"a", "b"], stdin=itertools.repeat(b"a\\n" * 50_000)', f'"-d", r"\\0"], stdin={long}'):
+            with self.subTest(command):
+                self.is_interrupted(command)
+
+    def is_interrupted(self, command):
+        code = f"""
+import itertools, mmap, resource, sys, ptext
 before = resource.getrusage(resource.RUSAGE_SELF).ru_maxrss
 count = sum(map(len, ptext.stream(["tr", "a", "b"], stdin=itertools.repeat(b"a" * 99_999 + b"\\n", 3000))))
 print(count, resource.getrusage(resource.RUSAGE_SELF).ru_maxrss - before < 16_000, flush=True)
-for piece in ptext.stream(["tr", "a", "b"], stdin=itertools.repeat(b"a\\n" * 50_000)):
+for piece in ptext.stream(["tr", {command}):
     pass
 """
         with subprocess.Popen(
@@ -357,6 +368,13 @@ class Program(unittest.TestCase):
         self.is_so("ptext cut -b 1 f >&-", (1, "", "cut: output: write failed\n"))
         self.is_so("ptext cut -b 1 f >/dev/full", (1, "", "cut: output: write failed\n"))
         self.is_so("ptext cut -b 1 f none 2>&-", (1, "a\nc\n", ""))
+
+    def test_user(self):
+        user = os.path.join(os.path.dirname(os.path.abspath(__file__)), "user.py")
+        how = {"cwd": self.room, "capture_output": True, "text": True, "env": environment()}
+        did = subprocess.run([sys.executable, user, "g"], **how)
+        wanted = "1 x\n21 b'xabcdxxef\\n' 1: comm: x: line 2 is out of order (['in'], 'out')\n"
+        self.assertEqual(did.stdout, wanted, did.stderr)
 
     def test_does_not_wait_for_an_input_that_it_does_not_read(self):
         never = {"input": None, "stdin": self.never()}
