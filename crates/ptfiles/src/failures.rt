@@ -1,4 +1,4 @@
-//! When a reader has failed. Used by `shell`.
+//! A law: a reader fails only if a source of its type can fail. Its function does nothing; `shell` calls it.
 
 ghost use Rattle.std.specs.Prelude.{All};
 ghost use Rattle.ptfiles.specs.Private.Failures.{FailedAsSource};

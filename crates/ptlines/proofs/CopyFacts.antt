@@ -29,7 +29,7 @@ pub copied_ends : (at last n : ℕ) (was between is bytes : List ℕ) → at ≤
     → take (at + length bytes) is ≡ take at was ++ bytes
 copied_ends at _ n was _ is _ within less whole first second = grind (usual, copied_prefix)
 
--- a vector that is stored changes no byte behind it
+-- a vector that is stored changes no byte after it
 pub behind_chunk : (at n : ℕ) (was bytes : List ℕ) → length bytes ≡ n → at + n ≤ length was
     → drop (at + n) (put_chunk at was bytes) ≡ drop (at + n) was
 behind_chunk at n was bytes long room =

@@ -1,9 +1,9 @@
 //! The sizes of blocks of bytes. Used by the reader, the output and the tools.
 
-/// How many bytes a reader or an output buffers: a source is read, and a sink written, by so many bytes at most.
+/// The size of a block of bytes, which a reader or an output buffers. No more are read or written at once.
 pub const BLOCK: usize = 8192;
 
-/// How many bytes stand after a block, so that a vector of up to so many can be loaded or stored at any index of it.
+/// The count of bytes after a block. So a vector of `PAD` bytes can be loaded or stored at any index of the block.
 pub const PAD: usize = 64;
 
 /// The size of a block and the bytes after it.

@@ -1,4 +1,4 @@
-//! Runs of `comm`.
+//! Tests of whole runs of `comm`.
 
 use crate::harness::Input::{Failing, Text, Unopened};
 use crate::harness::{

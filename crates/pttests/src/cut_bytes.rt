@@ -1,4 +1,4 @@
-//! Runs of `cut` by bytes.
+//! Tests of whole runs of `cut` by bytes.
 
 use crate::harness::Input::{Failing, Text, Unopened};
 use crate::harness::{

@@ -1,4 +1,4 @@
-//! Runs of `cut` by fields.
+//! Tests of whole runs of `cut` by fields.
 
 use crate::harness::Input::{Failing, Text, Unopened};
 use crate::harness::{

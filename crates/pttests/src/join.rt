@@ -1,4 +1,4 @@
-//! Runs of `join`.
+//! Tests of whole runs of `join`.
 
 use crate::harness::Input::{Failing, Text, Unopened};
 use crate::harness::{

@@ -1,4 +1,4 @@
-//! Runs of `paste`.
+//! Tests of whole runs of `paste`.
 
 use crate::harness::Input::{Failing, Text, Unopened};
 use crate::harness::{

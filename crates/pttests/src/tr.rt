@@ -1,4 +1,4 @@
-//! Runs of `tr`.
+//! Tests of whole runs of `tr`.
 
 use crate::harness::Input::{Failing, Text};
 use crate::harness::{

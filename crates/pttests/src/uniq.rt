@@ -1,4 +1,4 @@
-//! Runs of `uniq`.
+//! Tests of whole runs of `uniq`.
 
 use crate::harness::Input::{Failing, Text, Unopened};
 use crate::harness::{

@@ -1,5 +1,6 @@
-//! The segments of the array that a string of `tr` denotes, one for each element of the string. `bytes` iterates over
-//! their bytes, so that no array is kept in memory.
+//! The array of bytes that a string of `tr` denotes, as segments: one for each element of the string, such as `a-z` or
+//! `[:alpha:]`. `bytes` iterates over their bytes, so that no array is kept in memory.
+
 ghost use Rattle.std.specs.Prelude.{◌≡◌, ◌+◌, ◌^◌, ◌<◌, ◌≤◌, length, replicate, slice_get, IfOk, IfSome};
 ghost use Rattle.ptlangs.specs.TrPlan.{segment, is_fill, members};
 ghost use Rattle.ptlangs.specs.Private.TrParsing.{class_of, marked_members, plain_members};

@@ -1,4 +1,4 @@
--- A reader is what its model shows of some fields. That is known of each reader behind the slice, so the body, which
+-- A reader is what its model shows of some fields. That is known of each reader in the slice, so the body, which
 -- does nothing, is walked only for this fact.
 use Rattle.std.proofs.Common.{◌≡◌, Bool, false, ℕ, ◌<◌, [], ◌∷◌, refl, sym, ap, ◌∙◌, ◌⊎◌, inl, inr, get_or, length}
 use Rattle.std.proofs.lemmas.Bool.{true≢false}
