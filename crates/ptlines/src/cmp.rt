@@ -34,8 +34,7 @@ fn read_u32(bytes: &[u8], at: usize) -> u32
     u32::from_be_bytes([bytes[at], bytes[at + 1], bytes[at + 2], bytes[at + 3]])
 }
 
-// Compares with the standard library. It is out of line, so that short lines are compared without a call.
-#[inline(never)]
+// Compares with the standard library.
 fn compare_long(a: &[u8], b: &[u8]) -> Ordering
     ensures { result ≡ byte_cmp a.now b.now }
 {
@@ -79,7 +78,6 @@ fn compare_short(a: &[u8], b: &[u8]) -> Ordering
 }
 
 // Compares slices whose first 8 bytes are equal: 8 more bytes at a time, of which the last 8 may overlap those before.
-#[inline(never)]
 fn compare_tail(a: &[u8], b: &[u8]) -> Ordering
     requires { HaveCommonPrefix 8 a.now b.now }
     ensures { result ≡ byte_cmp a.now b.now }

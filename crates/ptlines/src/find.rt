@@ -136,9 +136,7 @@ fn find_after_16(byte: u8, bytes: &[u8]) -> Option<usize>
     find_in_chunk::<16>(byte, bytes, 48)
 }
 
-// Searches bytes of which the first 16 have no match, with `memchr` from index 64 on, or if there are fewer than 64. It is
-// out of line, so that a match among the first 16 bytes is found without a call.
-#[inline(never)]
+// Searches bytes of which the first 16 have no match, with `memchr` from index 64 on, or if there are fewer than 64.
 fn find_long(byte: u8, bytes: &[u8]) -> Option<usize>
     requires { Nowhere (Passes (is_byte byte) bytes.now) 0 16 }
     ensures { IsFirstByte (is_byte byte) bytes.now result }

@@ -404,7 +404,6 @@ impl<S: Source, R: Source> LineReader<S, R> {
     }
 
     // Writes the buffered output, unless a complete line is buffered in the reader.
-    #[inline(never)]
     fn write_out_unless_line<W: Sink>(&self, out: &mut Out<W>) -> Result<(), WriteFault>
         requires { out.old.write_failed ≡ false }
         ensures pushed { PushPost out.old out.new [] result }

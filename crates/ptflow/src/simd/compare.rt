@@ -29,9 +29,7 @@ fn is_same_chunk(a: &[u8], b: &[u8], at: usize) -> bool
     a.simd_ne(b).to_bitmask() == 0
 }
 
-// Whether two slices of one length are equal: 16 bytes at a time, of which the last 16 may overlap those before. Out of
-// line, so that slices of different lengths are compared without a call.
-#[inline(never)]
+// Whether two slices of one length are equal: 16 bytes at a time, of which the last 16 may overlap those before.
 fn is_equal_long(a: &[u8], b: &[u8]) -> bool
     requires { (16 ≤ length a.now) × (length a.now ≡ length b.now) }
     ensures { result ≡ bytes_eq a.now b.now }

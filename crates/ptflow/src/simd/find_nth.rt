@@ -36,7 +36,6 @@ pub(crate) fn nth_bit(mask: u64, count: u64) -> usize
 }
 
 // The index of the match after `before` others in `from..to`, byte by byte. For the last bytes.
-#[inline(never)]
 #[tactic(auto, using(crate::proofs::Vectors::FindNth::count_up_to))]
 fn nth_tail(byte: u8, bytes: &[u8], from: usize, to: usize, before: u64) -> Option<usize>
     requires { to ≤ length bytes.now }
@@ -57,7 +56,6 @@ fn nth_tail(byte: u8, bytes: &[u8], from: usize, to: usize, before: u64) -> Opti
 
 /// The index of the match after `before` others, among the first `to` bytes, 64 at a time. May read bytes after these,
 /// since a whole vector is as cheap as a part of it.
-#[inline(never)]
 pub(crate) fn nth_index(byte: u8, bytes: &[u8], to: usize, before: u64) -> Option<usize>
     requires { to ≤ length bytes.now }
     ensures { IsNthResult (is_byte byte) before (take to bytes.now) result }
@@ -188,8 +186,7 @@ pub(crate) fn find_by_mask(byte: u8, bytes: &[u8]) -> Option<usize>
     ByteMatches::new(byte, bytes).first()
 }
 
-// Finds a byte that is not among the first 16. Out of line, so that a near match is found without a call.
-#[inline(never)]
+// Finds a byte that is not among the first 16.
 fn find_far(byte: u8, bytes: &[u8]) -> Option<usize>
     requires none { Nowhere (Passes (is_byte byte) bytes.now) 0 16 }
     requires long { 64 ≤ length bytes.now }

@@ -76,7 +76,6 @@ impl Cycle {
 
     // Copies the 64 bytes at index `at`, with their terminators replaced from the byte at `index` on. Returns the index
     // of the next byte of the cycle.
-    #[inline(never)]
     fn replace_chunk(&self, index: usize, from: &[u8], at: usize, to: &mut [u8]) -> usize
         requires index { index < self.now.len }
         requires room { at + 64 ≤ length from.now }

@@ -67,8 +67,6 @@ fn write_unpaired_entry<B: Allocator, W: Sink>(
 }
 
 // Writes the output line of `line` with each line of the group, which is in the slots from `from` to before `end`.
-// Not inlined, so that the loop of the merge stays short.
-#[inline(never)]
 #[tactic(auto, using(crate::proofs::JoinLemmas::Group::pair_steps))]
 fn write_pair_entries<A: Allocator + Copy, B: Allocator, W: Sink>(
     job: &JoinJob<B>,

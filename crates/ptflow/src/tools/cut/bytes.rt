@@ -140,9 +140,7 @@ impl Selection<'_> {
     }
 
     // Copies the output of the lines that end among the 64 bytes from `from` on, which are followed by 16 more. `mask`
-    // is the match mask of their terminators. Returns the first line after them. Out of line, to keep the loop's values
-    // in registers.
-    #[inline(never)]
+    // is the match mask of their terminators. Returns the first line after them.
     fn cut_chunk(
         &self,
         block: &[u8],
@@ -202,7 +200,6 @@ impl Selection<'_> {
 
     // Copies the output of a block. The first line begins `line_offset` bytes before it. Returns the index after the
     // output, and how many bytes of the unfinished last line were read.
-    #[inline(never)]
     fn cut_block(&self, line_offset: u64, block: &[u8], into: &mut PaddedBlock) -> (usize, u64)
         requires { HasRoom line_offset 0 (length block.now) }
         ensures cut { IsCutPart self.now.terminator self.now.selected.now line_offset block.now result.1 []

@@ -188,8 +188,7 @@ fn copy_fields<A: Allocator + Copy>(
 }
 
 // The length of the complete lines before index `up_to`, or of the first line, which ends at `to`, if that is longer.
-// Out of line, since it is needed only for lines without the delimiter.
-#[inline(never)]
+// It is needed only for lines without the delimiter.
 fn whole_lines_len(terminator: u8, bytes: &[u8], to: usize, up_to: usize) -> usize
     requires first { IsFirstByte (is_byte terminator) bytes.now (Some to) }
     requires within { up_to ≤ length bytes.now }
@@ -272,8 +271,6 @@ impl<'a, A: Allocator + Copy> LineFilter for FieldCut<'a, A> {
     }
 
     // The output of fields is never longer than the input, so all of it is copied into one buffer and pushed at once.
-    // Out of line, to keep the loop's values in registers.
-    #[inline(never)]
     fn process_lines<B: Allocator + Copy, W: Sink>(
         &mut self,
         block: &[u8],

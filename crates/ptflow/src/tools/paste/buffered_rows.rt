@@ -203,8 +203,7 @@ fn copy_row<S: Source, R: Source>(
     copy_columns(row, readers, into, begun)
 }
 
-// Copies rows like `copy_rows`, column by column. Out of line, so that the loop has all registers.
-#[inline(never)]
+// Copies rows like `copy_rows`, column by column.
 fn copy_rows_by_columns<S: Source, R: Source>(
     row: RowFormat,
     readers: &mut [LineReader<S, R>],
@@ -230,7 +229,7 @@ fn copy_rows_by_columns<S: Source, R: Source>(
     }
 }
 
-// Copies rows like `copy_rows`, each by these segments first. Out of line too.
+// Copies rows like `copy_rows`, each by these segments first.
 #[inline(never)]
 fn copy_rows_by_segments<S: Source, R: Source>(
     row: RowFormat,

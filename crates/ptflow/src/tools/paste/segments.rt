@@ -92,8 +92,7 @@ fn segment_at<S: Source, R: Source>(
     }
 }
 
-// The segments of a row, or of its first columns if there are many. Out of line, since they are seldom made.
-#[inline(never)]
+// The segments of a row, or of its first columns if there are many.
 pub(crate) fn segments<S: Source, R: Source>(
     row: RowFormat,
     readers: &[LineReader<S, R>],

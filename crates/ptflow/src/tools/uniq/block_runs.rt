@@ -28,8 +28,7 @@ fn has_output(show: Show, count: u64) -> bool
 }
 
 // Pushes the deferred output `before`, and then the count that is written before a run's line, if there is one. Most
-// counts have one digit, which needs no buffer. Out of line, since most output is pushed without a count.
-#[inline(never)]
+// counts have one digit, which needs no buffer.
 fn flush_with_count<W: Sink>(
     show: Show,
     count: u64,
@@ -146,9 +145,7 @@ impl RunWriter<'_> {
     }
 
     // Pushes the output of the runs of the lines that end in the block, except for the last run. The current run has
-    // `carried` lines before the block, of which `first` is the first. Out of line, to keep the loop's values in
-    // registers.
-    #[inline(never)]
+    // `carried` lines before the block, of which `first` is the first.
     pub(crate) fn write_runs<W: Sink>(
         &self,
         carried: u64,

@@ -28,7 +28,6 @@ fn ends_word(byte: u8, rest: &[u8]) -> bool
 }
 
 // Skips `fields` fields, byte by byte. For few bytes.
-#[inline(never)]
 fn skip_fields_short(fields: u64, line: &[u8]) -> &[u8]
     ensures { result.now ≡ after_fields fields line.now }
 {
@@ -66,9 +65,7 @@ fn field_ends(bytes: &[u8], at: usize) -> u64
     (0xffff - blanks) & blanks >> 1
 }
 
-// Skips `fields` fields of the line `bytes[..to]`, 15 bytes at a time. May read bytes after the line. Out of line, since
-// few jobs skip fields.
-#[inline(never)]
+// Skips `fields` fields of the line `bytes[..to]`, 15 bytes at a time. May read bytes after the line.
 fn skip_fields_cold(fields: u64, bytes: &[u8], to: usize) -> &[u8]
     requires some { 0 < fields }
     requires within { to ≤ length bytes.now }

@@ -84,8 +84,6 @@ fn span_of_word(line: &[u8], word: &[u8], remainder: Option<&[u8]>) -> Span
 }
 
 // Returns the span of the word with this number, counted from 1, in a line of any length, or `None` if there is none.
-// Not inlined, so that finding a word of a short line stays small.
-#[inline(never)]
 #[tactic(auto, using(crate::proofs::JoinLemmas::Fields::remaining_steps))]
 fn find_word_long(number: u64, line: &[u8]) -> Option<Span>
     ensures { IsFieldFound None number line.now result }
@@ -192,7 +190,6 @@ fn first_piece_end(separator: Option<u8>, bytes: &[u8]) -> usize
 
 // Returns the span of the field with this number, or an empty span if there is none. This is the general case of
 // `field_span`.
-#[inline(never)]
 fn field_span_slow(separator: Option<u8>, number: u64, line: &[u8]) -> Span
     ensures { IsKeySpan line.now (nth_field number (remaining_fields separator (Some line.now))) result }
 {

@@ -45,7 +45,6 @@ fn write_words<W: Sink>(line: Option<&[u8]>, out: &mut Out<W>) -> Result<(), Wri
 }
 
 // Writes all words of a line except the one with this number, each with a space before it.
-#[inline(never)]
 fn write_other_words<W: Sink>(number: u64, line: &[u8], out: &mut Out<W>) -> Result<(), WriteFault>
     ensures { let words = remaining_fields None (Some line.now) in
         WriteBytesPost out.old out.new (with_prefix 32 (other_fields number words)) result }
@@ -241,9 +240,7 @@ fn write_fields<A: Allocator, W: Sink>(
     }
 }
 
-// Writes an output line field by field, and its terminator. Not inlined, so that the code for canonical lines stays
-// short.
-#[inline(never)]
+// Writes an output line field by field, and its terminator.
 fn write_entry<A: Allocator, W: Sink>(
     entry: &Entry<'_, A>,
     terminator: u8,
@@ -312,9 +309,7 @@ pub(crate) fn write_pair<'a, A: Allocator, W: Sink>(
     write_entry(&entry, terminator, out)
 }
 
-// Writes the output line of an unpaired line, whose join field is `key`, and its terminator. Not inlined, so that the
-// loop of the merge stays short.
-#[inline(never)]
+// Writes the output line of an unpaired line, whose join field is `key`, and its terminator.
 pub(crate) fn write_alone<'a, A: Allocator, W: Sink>(
     job: &'a JoinJob<A>,
     side: Side,

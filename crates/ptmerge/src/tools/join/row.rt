@@ -62,8 +62,7 @@ impl Row {
         Ok(())
     }
 
-    // Pushes the row, and a field and the bytes before it. Not inlined, since most lines fit into a row.
-    #[inline(never)]
+    // Pushes the row, and a field and the bytes before it. Most lines fit into a row.
     fn push_with<W: Sink>(
         &mut self,
         prefix: &[u8],

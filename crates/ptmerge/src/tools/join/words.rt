@@ -78,9 +78,7 @@ fn find_blank_short(bytes: &[u8]) -> Option<usize>
     Some(mask.trailing_zeros() as usize)
 }
 
-// Returns the index of the first blank, with `memchr2` from index 64 on. Not inlined, so that the common case of
-// `find_blank` is small.
-#[inline(never)]
+// Returns the index of the first blank, with `memchr2` from index 64 on.
 fn find_blank_long(bytes: &[u8]) -> Option<usize>
     ensures { IsFirstByte is_blank bytes.now result }
 {
@@ -136,7 +134,6 @@ fn ends_single_spaced(bytes: &[u8], blanks: Blanks, before: u64) -> bool
 }
 
 // Checks a line of any length, like `is_single_spaced`.
-#[inline(never)]
 fn is_single_spaced_long(bytes: &[u8]) -> bool
     ensures { result ≡ is_single_spaced true bytes.now }
 {
