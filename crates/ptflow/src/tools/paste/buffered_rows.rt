@@ -47,7 +47,8 @@ fn copy_line_in<const N: usize, S: Source, R: Source>(
 }
 
 // Like `copy_line_in`, for a line of any length, with fast paths for lines of at most 63 bytes; `None` if it is not
-// complete in the buffer or does not fit. Out of line, so that the loop over columns is short.
+// complete in the buffer or does not fit. Out of line, so that the loop over columns is short (`paste` of 2 files:
+// 44.9 for 51.2 a line).
 #[inline(never)]
 fn copy_line_long<S: Source, R: Source>(
     terminator: u8,
@@ -229,7 +230,7 @@ fn copy_rows_by_columns<S: Source, R: Source>(
     }
 }
 
-// Copies rows like `copy_rows`, each by these segments first.
+// Copies rows like `copy_rows`, each by these segments first. Out of line (`paste` of 50 files: 44.2 for 45.1 a line).
 #[inline(never)]
 fn copy_rows_by_segments<S: Source, R: Source>(
     row: RowFormat,
