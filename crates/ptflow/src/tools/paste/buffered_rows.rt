@@ -19,7 +19,7 @@ use std::simd::prelude::*;
 
 // Copies the next line of a reader to `at` and consumes it, if it ends within the next `N` bytes: the vector that is
 // searched for the terminator is stored as it is. Returns the offset after the copy. The line is consumed before the
-// vector is stored, so that the position of the reader is not loaded again.
+// vector is stored, so that the position of the reader is not loaded again (`paste` of 2 files: 44.9 for 45.9 a line).
 #[inline(always)]
 fn copy_line_in<const N: usize, S: Source, R: Source>(
     terminator: u8,
