@@ -320,7 +320,8 @@ impl<S: Source, R: Source> LineReader<S, R> {
         true
     }
 
-    // Copies the next line to a slot piece by piece, wherever its terminator is. It has the contract of `fill`.
+    // Copies the next line to a slot piece by piece, wherever its terminator is. It has the contract of `fill`. Out
+    // of line (`comm`: 169 for 197 a line).
     #[inline(never)]
     fn fill_slow<A: Allocator + Copy>(
         &mut self,

@@ -107,8 +107,8 @@ fn filter_tail(
     count
 }
 
-// Appends the bytes that are kept, 64 at a time. Returns the new count. (It is inlined, since bytes that are compared
-// with themselves need no comparison.)
+// Appends the bytes that are kept, 64 at a time. Returns the new count. Inlined, since bytes that are compared with
+// themselves need no comparison (`tr -d 0-9` of a log: 2.5 for 2.8 a byte).
 #[inline(always)]
 fn filter_pairs(by: Filter, pairs: Pairs, into: &mut PaddedBlock, mut count: usize) -> usize
     requires { FilterPre pairs.bytes.now 0 count }

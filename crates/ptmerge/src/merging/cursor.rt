@@ -25,7 +25,7 @@ pub enum CursorStatus {
 // `current_slot` and `previous_slot` are the slots of these two lines, `number` is the count of lines read, and `key`
 // is the span of the key in the current line. The reader is passed to each call that reads. (`same` comes first for
 // speed: the compiler splits the first field of a merge, since a result of `Merge::start` keeps a fault in the same
-// bytes.)
+// bytes. `comm`: 169 for 175 a line.)
 #[derive(Clone, Copy, Drop)]
 pub struct Sorted {
     pub same: bool,

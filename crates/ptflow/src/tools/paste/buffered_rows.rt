@@ -19,7 +19,7 @@ use std::simd::prelude::*;
 
 // Copies the next line of a reader to `at` and consumes it, if it ends within the next `N` bytes: the vector that is
 // searched for the terminator is stored as it is. Returns the offset after the copy. The line is consumed before the
-// vector is stored, so that the position of the reader is not loaded again.
+// vector is stored, so that the position of the reader is not loaded again (`paste` of 2 files: 44.9 for 45.9 a line).
 #[inline(always)]
 fn copy_line_in<const N: usize, S: Source, R: Source>(
     terminator: u8,
@@ -47,7 +47,8 @@ fn copy_line_in<const N: usize, S: Source, R: Source>(
 }
 
 // Like `copy_line_in`, for a line of any length, with fast paths for lines of at most 63 bytes; `None` if it is not
-// complete in the buffer or does not fit. Out of line, so that the loop over columns is short.
+// complete in the buffer or does not fit. Out of line, so that the loop over columns is short (`paste` of 2 files:
+// 44.9 for 51.2 a line).
 #[inline(never)]
 fn copy_line_long<S: Source, R: Source>(
     terminator: u8,
@@ -227,7 +228,7 @@ fn copy_rows_by_columns<S: Source, R: Source>(
     }
 }
 
-// Copies rows like `copy_rows`, each by these segments first.
+// Copies rows like `copy_rows`, each by these segments first. Out of line (`paste` of 50 files: 44.2 for 45.1 a line).
 #[inline(never)]
 fn copy_rows_by_segments<S: Source, R: Source>(
     row: RowFormat,

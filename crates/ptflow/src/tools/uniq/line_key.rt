@@ -86,8 +86,7 @@ fn skip_fields_cold(fields: u64, bytes: &[u8], to: usize) -> &[u8]
     skip_fields_short(left, &bytes[at.min(to)..to])
 }
 
-// Skips `fields` fields of the line `bytes[..to]`. Inline if no fields are skipped.
-#[inline(always)]
+// Skips `fields` fields of the line `bytes[..to]`.
 fn skip_fields(fields: u64, bytes: &[u8], to: usize) -> &[u8]
     requires { to ≤ length bytes.now }
     ensures { result.now ≡ after_fields fields (take to bytes.now) }

@@ -48,7 +48,7 @@ fn copy_to_group<A: Allocator + Copy>(
 
 // Advances the second input, and copies its previous line to the group's slots, if a group is to be kept and that line
 // is not the only one of its key. Returns the slot after the copied lines. Not inlined, so that the merge stays in
-// memory and is not moved between registers in each iteration.
+// memory and is not moved between registers in each iteration (`join`: 266 for 283 a line).
 #[inline(never)]
 pub(crate) fn read_group_line<K: KeyOrder, A: Allocator + Copy, S: Source, R: Source, W: Sink>(
     merge: &mut Merge<K>,

@@ -50,8 +50,6 @@ pub(crate) fn find_separated(separator: u8, number: u64, line: &[u8], mask: u64)
 }
 
 // Returns the span of the field with this number, counted from 1, in a line of any length, or `None` if there is none.
-// Not inlined, so that finding a field of a short line stays small.
-#[inline(never)]
 pub(crate) fn find_separated_long(separator: u8, number: u64, line: &[u8]) -> Option<Span>
     ensures { IsFieldFound (Some separator) number line.now result }
 {
