@@ -1,5 +1,5 @@
 -- The sink of a command that does not write to standard output.
-use Rattle.std.specs.Prelude.{Bool, false, [], ◌∷◌, Option, Some, None, option_map}
+use Rattle.std.specs.Prelude.{Bool, false, [], ◌∷◌, Some}
 use Rattle.ptlines.specs.Sinks.{SinkState}
 
 -- of a closed sink each call fails, so it never accepts a byte

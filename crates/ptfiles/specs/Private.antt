@@ -3,3 +3,4 @@ pub mod Failures
 pub mod Files
 pub mod Outputs
 pub mod Shell
+pub mod Streams

@@ -1,1 +1,2 @@
+pub mod KnownLemmas
 pub mod NamedLemmas

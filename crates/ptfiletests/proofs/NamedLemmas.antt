@@ -15,9 +15,10 @@ use Rattle.ptlines.specs.Sources.{SourceState}
 use Rattle.ptopts.specs.Commands.{Command, command_of_args}
 use Rattle.ptrun.specs.Runs.{IsExact, Outcome, sinks}
 use Rattle.ptrun.specs.SpecOfArgs.{spec_of_args}
-use Rattle.ptfiletests.specs.NamedFiles.{RunNamedPost, bytes_state, content_of, new_sink, unopened_files}
+use Rattle.ptfiles.specs.Calls.Bytes.{bytes_state}
+use Rattle.ptfiletests.specs.NamedFiles.{RunNamedPost, content_of, new_sink, unopened_files}
 
-no_read_fails : MayFail bytes_state bytes_state → ⊥
+pub no_read_fails : MayFail bytes_state bytes_state → ⊥
 no_read_fails (inl x) = false≢true x.1
 no_read_fails (inr x) = false≢true x.1
 
@@ -26,7 +27,7 @@ contents_are : (of : List ℕ → Content) (first : ℕ) (names : List (List ℕ
 contents_are of first [] = refl
 contents_are of first (name ∷ names) = (refl, contents_are of (suc first) names)
 
-no_output : (command : Option Command) (readers : List Reader) (name : List ℕ) → has_standard_output command ≡ true
+pub no_output : (command : Option Command) (readers : List Reader) (name : List ℕ) → has_standard_output command ≡ true
     → output_names command readers ≡ name ∷ [] → ⊥
 no_output None readers name standard is = false≢true standard
 no_output (Some command) readers name standard is =

@@ -1,1 +1,2 @@
+pub mod KnownStreams
 pub mod NamedFiles

@@ -4,15 +4,9 @@ use Rattle.std.specs.Borrow.{Bor}
 use Rattle.ptfiles.specs.Files.{Content, FilesState}
 use Rattle.ptfiles.specs.Shell.{has_standard_output, input_names, valid_command}
 use Rattle.ptlines.specs.Sinks.{SinkState}
-use Rattle.ptlines.specs.Sources.{SourceState}
 use Rattle.ptopts.specs.Commands.{command_of_args}
 use Rattle.ptrun.specs.Runs.{IsExact, Outcome, sinks}
 use Rattle.ptrun.specs.SpecOfArgs.{spec_of_args}
-use Rattle.ptfiletests.specs.declared.named_files.Bytes.{Bytes}
-
--- The bytes that are left. No read has failed, since none fails.
-abbrev pub bytes_state : Bytes → SourceState
-bytes_state s = record { left = Some s.left.now; eof = s.eof; failed = false }
 
 -- The bytes of the first file with this name. A file with any other name cannot be opened.
 abbrev pub content_of : List (Bor (List ℕ) × Bor (List ℕ)) → List ℕ → Content

@@ -1,47 +1,13 @@
-//! `NamedFiles`, files in memory by their names, and `Bytes`, their sources.
+//! `NamedFiles`, files in memory by their names.
 
-ghost use Rattle.std.specs.Prelude.{◌≡◌, ◌<◌, ◌^◌, Some, false, length, option_map};
-ghost use Rattle.ptfiletests.specs.NamedFiles.{bytes_state, content_of, unopened_files};
+ghost use Rattle.std.specs.Prelude.{◌≡◌, Some, option_map};
+ghost use Rattle.ptfiles.specs.Calls.Bytes.{bytes_state};
 ghost use Rattle.ptfiles.specs.Files.{IsContent};
+ghost use Rattle.ptfiletests.specs.NamedFiles.{content_of, unopened_files};
 
 use ptfakes::VecSink;
-use ptfiles::{Calls, Files};
-use ptlines::{Failed, Source};
+use ptfiles::{Bytes, Calls, Files};
 use std::alloc::Global;
-
-/// A source that gives bytes from memory. No read fails.
-#[derive(Drop)]
-pub struct Bytes<'a> {
-    left: &'a [u8],
-    eof: bool,
-}
-
-impl<'a> Bytes<'a> {
-    /// Gives all of these bytes.
-    pub fn new(bytes: &'a [u8]) -> Self
-        ensures all { result ≡ record { left = bytes.entry; eof = false } }
-        ensures short { length bytes.entry.now < 2 ^ 63 }
-    {
-        Bytes {
-            left: bytes,
-            eof: false,
-        }
-    }
-}
-
-impl Source for Bytes<'_> {
-    ghost use Rattle.ptfiletests.specs.NamedFiles.{bytes_state};
-
-    ghost state = { λ s. bytes_state s };
-
-    fn pull(&mut self, into: &mut [u8]) -> Result<usize, Failed> {
-        let count = self.left.len().min(into.len());
-        into[..count].copy_from_slice(&self.left[..count]);
-        self.left = &self.left[count..];
-        self.eof = self.eof || count == 0;
-        Ok(count)
-    }
-}
 
 /// Files in memory, by their names. Any other name cannot be opened, and only `out` can be created.
 #[derive(Drop)]
@@ -68,7 +34,8 @@ impl<'a> NamedFiles<'a> {
 impl<'a> Files for NamedFiles<'a> {
     ghost use Rattle.std.specs.Prelude.{Some, map, option_map};
     ghost use Rattle.ptfakes.specs.FakeSink.{sink_state};
-    ghost use Rattle.ptfiletests.specs.NamedFiles.{bytes_state, content_of};
+    ghost use Rattle.ptfiles.specs.Calls.Bytes.{bytes_state};
+    ghost use Rattle.ptfiletests.specs.NamedFiles.{content_of};
 
     type Input = Bytes<'a>;
 

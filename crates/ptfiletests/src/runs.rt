@@ -5,9 +5,9 @@ ghost use Rattle.ptfiletests.specs.NamedFiles.{RunNamedPost};
 ghost use Rattle.ptopts.specs.Commands.{words_view};
 ghost use Rattle.ptrun.specs.Runs.{outcome};
 
-use crate::named_files::{Bytes, NamedFiles};
+use crate::named_files::NamedFiles;
 use ptfakes::VecSink;
-use ptfiles::{FilesReport, Streams, run_over_files};
+use ptfiles::{Bytes, FilesReport, Streams, run_over_files};
 use std::alloc::Global;
 use std::process::Abort;
 

@@ -7,8 +7,8 @@ use Rattle.ptfiles.specs.Files.{FilesState, Content, Input, IsContent, IsNewInpu
 use Rattle.ptfiles.specs.Private.Files.{OpenPost}
 use Rattle.ptrun.specs.Files.{at}
 use Rattle.ptrunc.specs.Inputs.{files_view}
-use Rattle.ptrunc.specs.Private.Files.{source_state}
-use Rattle.ptrunc.specs.declared.memory.Bytes.{Bytes}
+use Rattle.ptfiles.specs.Calls.Bytes.{bytes_state}
+use Rattle.ptfiles.specs.declared.bytes.Bytes.{Bytes}
 
 at_drop : (files : List (Option (Bor (List ℕ)))) (n : ℕ) → at (files_view (drop n files)) 0 ≡ at (files_view files) n
 at_drop files zero = refl
@@ -26,7 +26,7 @@ module _ (files : List (Option (Bor (List ℕ)))) (created : List (List ℕ)) (o
   abbrev state : List (List ℕ) → List (Option Bytes) → FilesState
   state names results = record {
     opened = names;
-    inputs = map (option_map source_state) results;
+    inputs = map (option_map bytes_state) results;
     created = created;
     outputs = outputs;
     content = λ count name. Some (at (files_view files) count);
@@ -35,18 +35,18 @@ module _ (files : List (Option (Bor (List ℕ)))) (created : List (List ℕ)) (o
   pub opened_next : (left : List (Option (Bor (List ℕ)))) (names names' : List (List ℕ))
       (results results' : List (Option Bytes)) (name : List ℕ) (file : Option Bytes)
       → names' ≡ names ++ name ∷ [] → results' ≡ results ++ file ∷ [] → left ≡ drop (length names) files
-      → IsContent (Some (at (files_view left) 0)) (option_map source_state file)
-      → OpenPost (state names results) (state names' results') name (option_map source_state file)
+      → IsContent (Some (at (files_view left) 0)) (option_map bytes_state file)
+      → OpenPost (state names results) (state names' results') name (option_map bytes_state file)
   opened_next left names names' results results' name file names_are results_are left_is content = record {
     opened = λ i. record {
       opened = names_are i;
-      inputs = (ap (map (option_map source_state)) results_are
-          ∙ map-append (option_map source_state) results (file ∷ [])) i;
+      inputs = (ap (map (option_map bytes_state)) results_are
+          ∙ map-append (option_map bytes_state) results (file ∷ [])) i;
       created = created;
       outputs = outputs;
       content = λ count name. Some (at (files_view files) count);
     };
-    content = subst (λ c. IsContent (Some c) (option_map source_state file))
+    content = subst (λ c. IsContent (Some c) (option_map bytes_state file))
         (ap (λ l. at (files_view l) 0) left_is ∙ at_drop files (length names)) content;
-    is_new = new_input (at (files_view left) 0) (option_map source_state file) content.0;
+    is_new = new_input (at (files_view left) 0) (option_map bytes_state file) content.0;
   }

@@ -5,4 +5,3 @@ pub mod NamingLemmas
 pub mod Unread
 pub mod RoomLemmas
 pub mod RunLemmas
-pub mod StreamLemmas

@@ -35,7 +35,8 @@ use Rattle.ptrunc.proofs.Unread.{nothing_is_read, status_is_low}
 use Rattle.ptrunc.specs.Inputs.{files_from, inputs_for}
 use Rattle.ptrunc.specs.Calls.Answers.{StatusPost}
 use Rattle.ptrunc.specs.Private.Answers.{ExitPost}
-use Rattle.ptrunc.specs.Private.Files.{IsNewFile, source_state, unopened_files}
+use Rattle.ptfiles.specs.Calls.Bytes.{bytes_state}
+use Rattle.ptrunc.specs.Private.Files.{IsNewFile, unopened_files}
 use Rattle.ptrunc.specs.Private.Rooms.{AppendPost, IsNewFilling, bytes_of_file, filling_bytes, filling_state}
 use Rattle.ptrunc.specs.Private.Rooms.{has_failed, kept_state, part_of}
 use Rattle.ptrunc.specs.Results.{IsBeforeRun, IsExactInMemory, IsFull, IsRunInMemory}
@@ -79,7 +80,7 @@ not_too_long r (Some g) None consistent bytes long = consistent
 not_too_long r (Some g) (Some b) consistent bytes long =
     absurd (omega (arith, bytes.2, long, ap length consistent.is, length-append g.bytes consistent.rest))
 
-no_read_fails : MayFail source_state source_state → ⊥
+no_read_fails : MayFail bytes_state bytes_state → ⊥
 no_read_fails (inl x) = false≢true x.1
 no_read_fails (inr x) = false≢true x.1
 
@@ -221,7 +222,7 @@ module _ {A : Type 0} (words : List (List ℕ)) (input : List ℕ) (files : Inpu
   w out_of_memory = Some input ∷ files_from files 0 (length (input_names (command_to_run words out_of_memory)))
 
   module _ (out_of_memory : Bool)
-      (h : HasRun words b (a out_of_memory) (out ≡ to_out) (MayFail source_state source_state)) where
+      (h : HasRun words b (a out_of_memory) (out ≡ to_out) (MayFail bytes_state bytes_state)) where
     abbrev names : List (List ℕ)
     names = input_names (command_to_run words out_of_memory)
 
@@ -275,7 +276,7 @@ module _ {A : Type 0} (words : List (List ℕ)) (input : List ℕ) (files : Inpu
     directed = by_direction (has_standard_output (command_to_run words out_of_memory)) refl
         (output_names (command_to_run words out_of_memory) old) refl
 
-  module _ (h : HasRun words b (a false) (out ≡ to_out) (MayFail source_state source_state))
+  module _ (h : HasRun words b (a false) (out ≡ to_out) (MayFail bytes_state bytes_state))
       (exact : IsExactOverNames words b (a false) h) where
     abbrev m : CommandSpec
     m = spec_of_args words
@@ -329,7 +330,7 @@ module _ {A : Type 0} (words : List (List ℕ)) (input : List ℕ) (files : Inpu
     }
 
   -- Memory ran out while the words were parsed: nothing was read or written.
-  module _ (h : HasRun words b (a true) (out ≡ to_out) (MayFail source_state source_state)) where
+  module _ (h : HasRun words b (a true) (out ≡ to_out) (MayFail bytes_state bytes_state)) where
     unparsed : Ran words (w false) (filling_bytes out ++ bytes_of_file file) (filling_bytes messages') o.status true
         o.denied out.rest.failed (has_failed file) messages'.rest.failed
     unparsed = record {
@@ -359,7 +360,7 @@ module _ {A : Type 0} (words : List (List ℕ)) (input : List ℕ) (files : Inpu
         text_of n (Some (Read p)) ends = absurd cc
 
   by_memory : (out_of_memory : Bool)
-      → RunOverFilesPost words b (a out_of_memory) (out ≡ to_out) (MayFail source_state source_state)
+      → RunOverFilesPost words b (a out_of_memory) (out ≡ to_out) (MayFail bytes_state bytes_state)
       → Ran words (w false) (filling_bytes out ++ bytes_of_file file) (filling_bytes messages') o.status out_of_memory
       o.denied out.rest.failed (has_failed file) messages'.rest.failed
   by_memory false (inl run) = ran_over run.0 run.1
@@ -468,7 +469,7 @@ pub answer_of_run : {A : Type 0} (words : List (List ℕ)) (input : List ℕ) (f
     → old ≡ unopened_files files → standard ≡ source_of input → place.outputs ≡ map (option_map kept_state) results
     → o.out ≡ filling_state out → o.messages ≡ filling_state messages'
     → RunOverFilesInOwnStore words old place standard (filling_state to_out) (filling_state to_messages)
-    (option_map kept_state file) out_of_memory o (out ≡ to_out) (MayFail source_state source_state)
+    (option_map kept_state file) out_of_memory o (out ≡ to_out) (MayFail bytes_state bytes_state)
     → {failed : Bool} → AppendPost out final file failed
     → (exit : Option ℕ) → ExitPost o.status out_of_memory o.denied failed messages'.rest.failed exit
     → (a : Answer) (p q : Part) → p ≡ part_of final → q ≡ part_of messages' → a.out ≡ p → a.messages ≡ q
@@ -479,9 +480,9 @@ answer_of_run words input files short to_out to_messages out messages' final out
     q_is out_is messages_are told =
     let run = subst (λ s. RunOverFilesPost words (before (unopened_files files) s (filling_state to_out)
     (filling_state to_messages) empty_store) (after place post.0 (option_map kept_state file) out_of_memory o)
-    (out ≡ to_out) (MayFail source_state source_state)) is
+    (out ≡ to_out) (MayFail bytes_state bytes_state)) is
     (subst (λ f. RunOverFilesPost words (before f standard (filling_state to_out) (filling_state to_messages) empty_store)
-    (after place post.0 (option_map kept_state file) out_of_memory o) (out ≡ to_out) (MayFail source_state source_state))
+    (after place post.0 (option_map kept_state file) out_of_memory o) (out ≡ to_out) (MayFail bytes_state bytes_state))
     unopened post.1) in
     answer_is words (inputs_for words input files) out final messages' file o.status out_of_memory o.denied _
     (by_memory words input files short to_out to_messages out messages' out_new messages_new file results

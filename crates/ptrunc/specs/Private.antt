@@ -3,4 +3,3 @@ pub mod Answers
 pub mod Files
 pub mod MemoryFiles
 pub mod Rooms
-pub mod Streams

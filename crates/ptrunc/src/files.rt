@@ -1,13 +1,14 @@
 //! Files in memory, which a run opens in place of those of the system. Used by `running`.
 
 ghost use Rattle.std.specs.Prelude.{◌≡◌, All, Some, drop, length, option_map};
+ghost use Rattle.ptfiles.specs.Calls.Bytes.{bytes_state};
 ghost use Rattle.ptfiles.specs.Files.{IsContent};
 ghost use Rattle.ptrunc.specs.Inputs.{files_view};
-ghost use Rattle.ptrunc.specs.Private.Files.{IsNewFile, source_state, unopened_files};
+ghost use Rattle.ptrunc.specs.Private.Files.{IsNewFile, unopened_files};
 ghost use Rattle.ptrun.specs.Files.{at};
 
-use crate::memory::{Bytes, Kept};
-use ptfiles::{Calls, Files};
+use crate::memory::Kept;
+use ptfiles::{Bytes, Calls, Files};
 use std::alloc::Allocator;
 
 /// Files in memory, in the order in which they are opened: each call of `open` opens the next one, regardless of its
@@ -63,7 +64,7 @@ impl<'a, A: Allocator + Copy + Drop> Files for MemoryFiles<'a, '_, A> {
 
 // Returns the source of the first of these files, unless it cannot be opened or is not given.
 fn first_source<'a>(files: &[Option<&'a [u8]>]) -> Option<Bytes<'a>>
-    ensures { IsContent (Some (at (files_view files.now) 0)) (option_map source_state result) }
+    ensures { IsContent (Some (at (files_view files.now) 0)) (option_map bytes_state result) }
 {
     match files.first() {
         Some(Some(bytes)) => Some(Bytes::new(bytes)),

@@ -1,8 +1,6 @@
 //! The arguments of a call as C gives them. Used by `lib`.
 
 ghost use Rattle.std.specs.Prelude.{◌≡◌, IfOk, length, true};
-ghost use Rattle.ptlines.specs.Text.{lines};
-ghost use Rattle.ptopts.specs.Commands.{words_view};
 ghost use Rattle.ptrunc.specs.Calls.Given.{are_ascending, cut_at};
 ghost use Rattle.ptrunc.specs.Inputs.{files_view};
 
@@ -10,13 +8,6 @@ use std::alloc::{AllocError, Allocator};
 
 // The end of a file that cannot be opened.
 const NO_FILE: usize = usize::MAX;
-
-/// Splits words, each of which ends with byte 0.
-pub fn words_of<A: Allocator + Copy>(alloc: A, text: &str) -> Result<Vec<&str, A>, AllocError>
-    ensures { IfOk result (λ words. words_view words.items ≡ lines 0 text.now) }
-{
-    text.split_terminator('\0').collect(alloc)
-}
 
 /// Returns whether these can be the ends of files that lie one after another in `size` bytes.
 pub fn are_ends(ends: &[usize], size: usize) -> bool

@@ -8,8 +8,8 @@
 ghost use Rattle.std.specs.Prelude.{None};
 ghost use Rattle.ptrunc.specs.Calls.Streams.{unwritten};
 
-use crate::streams::Host;
 use io::{read_full, write_all};
+use ptfiles::Host;
 use ptlines::{FromRead, FromWrite};
 use std::io::{ErrorKind, Read, Result, Write};
 

@@ -10,21 +10,21 @@ mod host;
 mod memory;
 mod naming;
 mod running;
-mod streams;
 
+ghost use Rattle.ptfiles.specs.Calls.Streams.{HasGivenRun};
 ghost use Rattle.ptfiles.specs.Shell.{MayFail};
 ghost use Rattle.ptlines.specs.Private.Sinks.{hide_accepted};
 ghost use Rattle.ptlines.specs.Private.Sources.{hide_left};
 ghost use Rattle.ptrunc.specs.Calls.Given.{NamesGivenPost, RunGivenPost};
-ghost use Rattle.ptrunc.specs.Calls.Streams.{GivenStreamsPost, unknown, unwritten};
+ghost use Rattle.ptrunc.specs.Calls.Streams.{unknown, unwritten};
 
 use answer::{Answer, refuse};
-use given::{are_ends, files_of, words_of};
+use given::{are_ends, files_of};
 use host::Caller;
 use naming::write_names;
+use ptfiles::{run_given_streams, words_of};
 use running::run_in_memory;
 use std::alloc::Global;
-use streams::run_given_streams;
 
 const NO_MEMORY: &str = "ptext: out of memory\n";
 
@@ -108,8 +108,8 @@ fn name_given(alloc: Global, words: &[u8], names: &mut [u8], output: &mut [u8]) 
 /// with byte 0. `opened` has a byte for each file that the words name, which is 0 if it cannot be opened.
 #[unsafe(no_mangle)]
 pub extern "C" fn ptext_run_streams(alloc: Global, words: &[u8], opened: &[u8]) -> u8
-    ensures { GivenStreamsPost hide_accepted words.now unknown (λ number. unwritten) opened.now result
+    ensures { HasGivenRun hide_accepted words.now unknown (λ number. unwritten) opened.now result
         (MayFail hide_left hide_left) }
 {
-    run_given_streams(alloc, &Caller, words, opened)
+    run_given_streams(alloc, &Caller, words, opened).0
 }

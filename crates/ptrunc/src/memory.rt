@@ -1,44 +1,10 @@
-//! Bytes in memory as a source, and room for bytes as a sink. Used by `files`, `running` and `naming`.
+//! Room for bytes as a sink. Used by `files`, `running` and `naming`.
 
 ghost use Rattle.std.specs.Prelude.{◌≡◌, ◌+◌, ◌-◌, ◌≤◌, ◌<◌, ◌^◌, false, [], ◌++◌, length, min, take};
 
 use crate::answer::Part;
-use ptlines::{Failed, Sink, Source};
+use ptlines::{Failed, Sink};
 use std::alloc::Allocator;
-
-/// A source that gives bytes from memory. No read fails.
-#[derive(Drop)]
-pub struct Bytes<'a> {
-    left: &'a [u8],
-    eof: bool,
-}
-
-impl<'a> Bytes<'a> {
-    /// Gives all of these bytes.
-    pub fn new(bytes: &'a [u8]) -> Self
-        ensures all { result ≡ record { left = bytes.entry; eof = false } }
-        ensures short { length bytes.entry.now < 2 ^ 63 }
-    {
-        Bytes {
-            left: bytes,
-            eof: false,
-        }
-    }
-}
-
-impl Source for Bytes<'_> {
-    ghost use Rattle.ptrunc.specs.Private.Files.{source_state};
-
-    ghost state = { λ s. source_state s };
-
-    fn pull(&mut self, into: &mut [u8]) -> Result<usize, Failed> {
-        let count = self.left.len().min(into.len());
-        into[..count].copy_from_slice(&self.left[..count]);
-        self.left = &self.left[count..];
-        self.eof = self.eof || count == 0;
-        Ok(count)
-    }
-}
 
 /// Room for bytes, which is filled from its beginning.
 #[derive(Drop)]

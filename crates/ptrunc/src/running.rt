@@ -9,8 +9,8 @@ ghost use Rattle.ptrunc.specs.Results.{IsRunInMemory};
 
 use crate::answer::Answer;
 use crate::files::MemoryFiles;
-use crate::memory::{Bytes, Filling, Kept, Room};
-use ptfiles::{FilesReport, Streams, run_over_files};
+use crate::memory::{Filling, Kept, Room};
+use ptfiles::{Bytes, FilesReport, Streams, run_over_files};
 use ptlines::write_out;
 use std::alloc::Allocator;
 use std::mem;

@@ -1,5 +1,5 @@
 -- The sink of a command that does not write to standard output.
-use Rattle.std.specs.Prelude.{Bool, false, [], ◌∷◌, Option, Some, None, option_map}
+use Rattle.std.specs.Prelude.{Option, Some, None}
 use Rattle.ptfiles.specs.declared.output.Output.{Output}
 use Rattle.ptfiles.specs.declared.output.Output.TheVariants.{Closed, File}
 

@@ -1,6 +1,6 @@
 -- The model of `Files`: the names that were opened and created, and what is known of the files.
-use Rattle.std.specs.Prelude.{◌≡◌, ℕ, suc, ◌^◌, ◌<◌, true, false, List, [], ◌∷◌, ◌++◌, Option, Some, None, ⊤}
-use Rattle.std.specs.Prelude.{length, map, option_map}
+use Rattle.std.specs.Prelude.{◌≡◌, ℕ, false, List, [], ◌∷◌, Option, Some, None, ⊤}
+use Rattle.std.specs.Prelude.{length, option_map}
 use Rattle.ptfiles.specs.Files.{FilesState, Input, IsContent, IsNewInput, Output, with_created, with_opened}
 use Rattle.ptlines.specs.Sources.{SourceState}
 

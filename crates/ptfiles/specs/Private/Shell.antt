@@ -1,7 +1,6 @@
 -- The contract of a run over files: which names are opened and created, and the run over them.
-use Rattle.std.specs.Prelude.{◌≡◌, ◌⊎◌, ℕ, Bool, true, false, List, [], ◌∷◌, Option, Some, None, Result, Ok, Err}
-use Rattle.std.specs.Prelude.{All, codes, is_none, length, if◌then◌else◌}
-use Rattle.std.specs.List.{list_any}
+use Rattle.std.specs.Prelude.{◌≡◌, ◌⊎◌, ℕ, true, false, List, [], ◌∷◌, Option, Some, None, Result, Ok, Err}
+use Rattle.std.specs.Prelude.{All, length}
 use Rattle.ptfiles.specs.Files.{AreContents, FilesState, Input, IsNewInput, new_readers, with_opened}
 use Rattle.ptfiles.specs.Shell.{After, Before, HasRunOver, IsNotCreated, has_standard_output, output_names}
 use Rattle.ptfiles.specs.declared.shell.Destination.{Destination}

@@ -1,14 +1,8 @@
--- Files in memory: the sources of those that are opened, and those that are created.
-use Rattle.std.specs.Prelude.{◌≡◌, false, [], Option, Some, option_map}
+-- Files in memory, and those that are created.
+use Rattle.std.specs.Prelude.{◌≡◌, [], Option, Some, option_map}
 use Rattle.ptfiles.specs.Files.{FilesState}
-use Rattle.ptlines.specs.Sources.{SourceState}
 use Rattle.ptrun.specs.Files.{InputBytes, at}
-use Rattle.ptrunc.specs.declared.memory.Bytes.{Bytes}
 use Rattle.ptrunc.specs.declared.memory.Kept.{Kept}
-
--- The bytes that are left. No read has failed, since none fails.
-abbrev pub source_state : Bytes → SourceState
-source_state s = record { left = Some s.left.now; eof = s.eof; failed = false }
 
 -- The file was created, and nothing was written to it yet.
 abbrev pub IsNewFile : {A : Type 0} → Option (Kept A) → Type 0

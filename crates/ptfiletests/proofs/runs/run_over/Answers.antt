@@ -2,9 +2,8 @@
 use Rattle.std.proofs.Common.{ap}
 use Rattle.ptfakes.specs.FakeSink.{sink_state}
 use Rattle.ptfiletests.proofs.NamedLemmas.{named_run}
-use Rattle.ptfiletests.specs.NamedFiles.{bytes_state}
 use Rattle.ptfiletests.proofs.runs.run_over.Goals as goal
 
 pub returns : goal.returns
-returns c = named_run c.args.files.now c.args.standard.now c.new-named.ensures (ap bytes_state c.new.ensures.all)
-    c.new.ensures.short (ap sink_state c.new-2.ensures) (ap sink_state c.new-3.ensures) c.run_over_files.ensures
+returns c = named_run c.args.files.now c.args.standard.now c.new-named.ensures c.new.ensures.all c.new.ensures.short
+    (ap sink_state c.new-2.ensures) (ap sink_state c.new-3.ensures) c.run_over_files.ensures

@@ -5,7 +5,7 @@ use Rattle.ptfiles.specs.Shell.{RunOverFilesInOwnStore}
 use Rattle.ptlines.specs.Sinks.{SinkState}
 use Rattle.ptlines.specs.Sources.{SourceState}
 use Rattle.ptrun.specs.Runs.{Outcome}
-use Rattle.ptrunc.specs.Calls.Streams.{RunStreamsPost, known, status_unless_memory, stream_files}
+use Rattle.ptfiles.specs.Calls.Streams.{RunStreamsPost, known, status_unless_memory, stream_files}
 
 pub streamed : {W : Type 0} {of : W → SinkState} {words : List (List ℕ)} {content : ℕ → Option (List ℕ)}
     {output : ℕ → SinkState} {opened : List ℕ} {status : ℕ} {files after : FilesState} {standard : SourceState}

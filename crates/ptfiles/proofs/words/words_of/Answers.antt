@@ -1,7 +1,7 @@
 -- The words are the lines that end with byte 0.
 use Rattle.std.proofs.lemmas.Iterator.Consumers.{map_from_collect}
-use Rattle.ptrunc.proofs.GivenLemmas.{words_come}
-use Rattle.ptrunc.proofs.given.words_of.Goals as goal
+use Rattle.ptfiles.proofs.WordLemmas.{words_come}
+use Rattle.ptfiles.proofs.words.words_of.Goals as goal
 
 pub returns : goal.returns
 returns g c =

@@ -1,19 +1,23 @@
-//! A run over numbered streams, of any host. `ptext_run_streams` calls it.
+//! A run over numbered streams, of any host. The library for C calls it.
 
-ghost use Rattle.std.specs.Prelude.{◌≡◌, ℕ, List, Option, Some, All, length, min};
+ghost use Rattle.std.specs.Prelude.{◌≡◌, ℕ, List, [], ◌∷◌, Option, Some, All, false, length, min};
 ghost use Rattle.ptfiles.specs.Files.{IsContent, created_state};
 ghost use Rattle.ptfiles.specs.Shell.{MayFail};
 ghost use Rattle.ptlines.specs.Sinks.{SinkState};
 ghost use Rattle.ptlines.specs.Sources.{IsFresh};
 ghost use Rattle.ptfiles.specs.Private.Files.{IsNewOutput, opened_state};
 ghost use Rattle.ptopts.specs.Commands.{words_view};
+ghost use Rattle.ptrun.specs.MessageWrites.{HasSaid, line_of};
 ghost use Rattle.ptrun.specs.Runs.{outcome};
-ghost use Rattle.ptrunc.specs.Calls.Streams.{GivenStreamsPost, RunStreamsPost, file_content, known};
-ghost use Rattle.ptrunc.specs.Calls.Streams.{status_unless_memory, stream_files};
-ghost use Rattle.ptrunc.specs.Private.Streams.{IsStream, OpenedPost};
+ghost use Rattle.ptfiles.specs.Calls.Streams.{GivenStreamsPost, RunStreamsPost, file_content, known};
+ghost use Rattle.ptfiles.specs.Calls.Streams.{status_unless_memory, stream_files};
+ghost use Rattle.ptfiles.specs.Private.Streams.{IsStream, OpenedPost};
 
-use crate::given::words_of;
-use ptfiles::{Calls, Files, FilesReport, Streams, run_over_files};
+use crate::calls::Calls;
+use crate::files::Files;
+use crate::report::FilesReport;
+use crate::shell::{Streams, run_over_files};
+use crate::words::words_of;
 use ptlines::{Sink, Source};
 use ptrun::say;
 use std::alloc::Allocator;
@@ -119,32 +123,51 @@ fn open_stream<H: Host>(host: &H, opened: &[u8], index: usize) -> Option<H::Inpu
     }
 }
 
-/// Runs a command whose words each end with byte 0 over the streams of a host, and returns the exit status. If they are
-/// not UTF-8, or there is no memory for them, only a message is written, and the status is 2 or 4.
+/// The end of a run over streams whose words are bytes.
+#[derive(Drop)]
+pub enum GivenRun<O> {
+    /// The command was run.
+    Ran(FilesReport<O, O, O>),
+    /// The words were not run. A message about them was written to this stream, and nothing to another one.
+    Refused(O),
+}
+
+/// Runs a command whose words each end with byte 0 over the streams of a host, like `run_streams`, and returns the exit
+/// status. If the words are not UTF-8, or there is no memory for them, only a message is written, and the status is 2 or
+/// 4.
 pub fn run_given_streams<A: Allocator + Copy, H: Host>(
     alloc: A,
     host: &H,
     words: &[u8],
     opened: &[u8],
-) -> u8
-    ensures { GivenStreamsPost H.Output.state words.now (H.content host.now) H.output opened.now result
+) -> (u8, GivenRun<H::Output>)
+    ensures { GivenStreamsPost H.Output.state words.now (H.content host.now) H.output opened.now result.0 result.1
         (MayFail H.Input.state H.Input.state) }
 {
     let Ok(text) = str::from_utf8(words) else {
-        return refuse(host, "ptext: a word is not UTF-8", 2);
+        let said = refuse(host.output(MESSAGES), "ptext: a word is not UTF-8");
+        return (2, GivenRun::Refused(said));
     };
     match words_of(alloc, text) {
-        Ok(words) => run_streams(alloc, host, &words, opened).0,
-        Err(_) => refuse(host, "ptext: out of memory", 4),
+        Ok(words) => {
+            let (status, report) = run_streams(alloc, host, &words, opened);
+            (status, GivenRun::Ran(report))
+        }
+        Err(_) => {
+            let said = refuse(host.output(MESSAGES), "ptext: out of memory");
+            (4, GivenRun::Refused(said))
+        }
     }
 }
 
-// Writes a message about words that are not run, and returns this status.
-fn refuse<H: Host>(host: &H, text: &str, status: u8) -> u8
-    ensures { result ≡ status }
+// Writes a message about words that are not run, and returns its stream.
+fn refuse<W: Sink>(messages: W, text: &str) -> W
+    requires { (W.state messages).failed ≡ false }
+    ensures { HasSaid (W.state messages) (W.state result) (line_of (text.now ∷ [])) }
 {
-    let _ = say(&mut host.output(MESSAGES), &[text]);
-    status
+    let mut messages = messages;
+    let _ = say(&mut messages, &[text]);
+    messages
 }
 
 /// Runs a command over the streams of a host, as `run_over_files` does, and returns the exit status, or 4 if memory ran

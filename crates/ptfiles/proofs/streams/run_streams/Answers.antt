@@ -1,8 +1,8 @@
 -- The streams are files of which none was used before.
 use Rattle.std.proofs.Common.{◌≡◌, Some, option_map}
 use Rattle.std.proofs.lemmas.List.Elements.{All-map}
-use Rattle.ptrunc.proofs.StreamLemmas.{streamed}
-use Rattle.ptrunc.proofs.streams.run_streams.Goals as goal
+use Rattle.ptfiles.proofs.StreamLemmas.{streamed}
+use Rattle.ptfiles.proofs.streams.run_streams.Goals as goal
 
 pub returns : goal.returns
 returns g c =
