@@ -1,6 +1,6 @@
 -- The flags of a set, counted byte by byte: one that is set alone is the last one.
 use Rattle.ptflow.proofs
-use proofs.Common.{◌≡◌, ◌≤◌, ◌<◌, ◌+◌, ℕ, Bool, true, false, List, get_or, eqb, arith, ◌∙◌, sym, ⊎_elim}
+use proofs.Common.{◌≡◌, ◌≤◌, ◌<◌, ◌+◌, ℕ, Bool, true, false, List, get_or, eqb, arith, ⊎_elim}
 use proofs.Common.{cases_eq, eq-eqb, ne_eqb}
 
 -- `count` of the first `n` flags are set, and `last` is the index of the last of them

@@ -2,18 +2,18 @@
 -- to the front. Then filters: a byte is kept or removed by itself and the byte that it is compared with, so a text can
 -- be processed in pieces.
 use Rattle.ptflow.proofs
-use proofs.Common.{usual, ◌≡◌, ℕ, zero, suc, ◌+◌, ◌*◌, ◌^◌, ◌/◌, ◌%◌, ◌<◌, ◌≤◌, Bool, true, false, cond, List, ℤ, []}
+use proofs.Common.{usual, ◌≡◌, ℕ, zero, suc, ◌+◌, ◌*◌, ◌^◌, ◌/◌, ◌%◌, ◌<◌, ◌≤◌, Bool, true, false, cond, List, []}
 use proofs.Common.{◌∷◌, ◌++◌, map, length, take, drop, set, get_or, length-drop, drop-cons, append_assoc, add-one}
 use proofs.Common.{length-append, refl, ap, arith, w8, All, nat_eq, range_with_len, mask_l, put_chunk, chunk, pick_l}
 use proofs.Common.{Each1, take_more_put_chunk, bit_mask_l, mask_l-lt, Each1-from_get_or, swz_l, ones-mask_l_cons}
 use proofs.Common.{pick_l-range_with_len, take-map, take-append-le, drop-append-le, length-take-le, take-append-add}
 use proofs.Common.{length-range_with_len, get_or-range_with_len, and_numeral, not, eqb, filter, append-nil}
-use proofs.Common.{take-append-drop, take-add, zip2, drop-drop, drop_all, length-chunk, length-zip2, bit_and, top}
-use proofs.Common.{cast_unsigned, mask_of, is_not_repeat, keep_flags, kept_bytes, FilterPre, bit_or, ◌-◌, rules}
+use proofs.Common.{take-append-drop, take-add, zip2, drop-drop, drop_all, length-chunk, length-zip2, bit_and}
+use proofs.Common.{keep_flags, kept_bytes, FilterPre, bit_or, rules}
 use proofs.Common.{slice_index_or, count_ones, sym, ◌∙◌, take_all}
 pub use proofs.Vectors.Lanes.{shuffle_result}
 use Rattle.ptlines.proofs.MatchMasks.{mask_append}
-use Rattle.std.proofs.lemmas.Nat.{and_le_l, and_le_r, le_or_l, le_or_r}
+use Rattle.std.proofs.lemmas.Nat.{le_or_l, le_or_r}
 use Rattle.ptflow.specs.Private.Vectors.Compress.{IsCompressTable, IsCompressRow, select_by, true_indices}
 
 -- ---- items that are selected by flags

@@ -1,13 +1,13 @@
 -- Few bytes are removed of 64: all are stored, and after each removed byte again those after it. So the bytes up to the
 -- last removed one are those that are kept, and after them are all that follow it.
 use Rattle.ptflow.proofs
-use proofs.Common.{usual, arith, rules, ◌≡◌, ℕ, zero, suc, ◌+◌, ◌-◌, ◌*◌, ◌/◌, ◌%◌, ◌^◌, ◌<◌, ◌≤◌, Bool, true, false, not}
+use proofs.Common.{arith, rules, ◌≡◌, ℕ, ◌+◌, ◌-◌, ◌*◌, ◌/◌, ◌%◌, ◌^◌, ◌<◌, ◌≤◌, Bool, true, false, not}
 use proofs.Common.{List, ℤ, [], ◌∷◌, ◌++◌, map, length, take, drop, refl, sym, ◌∙◌, ap, chunk, put_chunk, mask_l, cond}
 use proofs.Common.{append_assoc, length-chunk, length-drop, length-map, drop-drop, take-add, take-take, prefix_len}
-use proofs.Common.{take_more_put_chunk, take-append-drop, append-nil, length-put_chunk, bit_or, bit_and, map-append}
-use proofs.Common.{zip2, top, eqb, cast_unsigned, w8, mask_of, keep_flags, kept_bytes, length-zip2, mask_l-mod, mask_l-lt, take-append-le}
-use proofs.Common.{drop-append-le, take_all, drop_all, length-append, length-take-le}
-use proofs.Vectors.Compress.{select_by_prefix, select_kept, chunk_parts, flags_of, length-flags_of, mask_of_flags}
+use proofs.Common.{bit_or, bit_and, map-append}
+use proofs.Common.{zip2, top, eqb, cast_unsigned, w8, mask_of, keep_flags, kept_bytes, length-zip2, mask_l-mod, mask_l-lt}
+use proofs.Common.{take_all, length-append, length-take-le}
+use proofs.Vectors.Compress.{select_kept, chunk_parts, flags_of, length-flags_of, mask_of_flags}
 use Rattle.ptflow.specs.Private.Vectors.Compress.{removed_mask, select_by}
 use Rattle.ptlines.proofs.MatchMasks.{shifted, mask_append}
 use Rattle.std.specs.Int.Count.{count_trailing_zeros}
