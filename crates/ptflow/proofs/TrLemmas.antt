@@ -1,1 +1,2 @@
+pub mod Removed
 pub mod TrFrom

@@ -2,3 +2,4 @@
 pub mod Compress
 pub mod Lanes
 pub mod FindNth
+pub mod Removal

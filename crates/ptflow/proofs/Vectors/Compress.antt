@@ -2,18 +2,18 @@
 -- to the front. Then filters: a byte is kept or removed by itself and the byte that it is compared with, so a text can
 -- be processed in pieces.
 use Rattle.ptflow.proofs
-use proofs.Common.{usual, ◌≡◌, ℕ, zero, suc, ◌+◌, ◌*◌, ◌^◌, ◌/◌, ◌%◌, ◌<◌, ◌≤◌, Bool, true, false, cond, List, ℤ, []}
+use proofs.Common.{usual, ◌≡◌, ℕ, zero, suc, ◌+◌, ◌*◌, ◌^◌, ◌/◌, ◌%◌, ◌<◌, ◌≤◌, Bool, true, false, cond, List, []}
 use proofs.Common.{◌∷◌, ◌++◌, map, length, take, drop, set, get_or, length-drop, drop-cons, append_assoc, add-one}
 use proofs.Common.{length-append, refl, ap, arith, w8, All, nat_eq, range_with_len, mask_l, put_chunk, chunk, pick_l}
 use proofs.Common.{Each1, take_more_put_chunk, bit_mask_l, mask_l-lt, Each1-from_get_or, swz_l, ones-mask_l_cons}
 use proofs.Common.{pick_l-range_with_len, take-map, take-append-le, drop-append-le, length-take-le, take-append-add}
 use proofs.Common.{length-range_with_len, get_or-range_with_len, and_numeral, not, eqb, filter, append-nil}
-use proofs.Common.{take-append-drop, take-add, zip2, drop-drop, drop_all, length-chunk, length-zip2, bit_and, top}
-use proofs.Common.{cast_unsigned, mask_of, is_not_repeat, keep_flags, kept_bytes, FilterPre, bit_or, ◌-◌, rules}
+use proofs.Common.{take-append-drop, take-add, zip2, drop-drop, drop_all, length-chunk, length-zip2, bit_and}
+use proofs.Common.{keep_flags, kept_bytes, FilterPre, bit_or, rules}
 use proofs.Common.{slice_index_or, count_ones, sym, ◌∙◌, take_all}
 pub use proofs.Vectors.Lanes.{shuffle_result}
 use Rattle.ptlines.proofs.MatchMasks.{mask_append}
-use Rattle.std.proofs.lemmas.Nat.{and_le_l, and_le_r, le_or_l, le_or_r}
+use Rattle.std.proofs.lemmas.Nat.{le_or_l, le_or_r}
 use Rattle.ptflow.specs.Private.Vectors.Compress.{IsCompressTable, IsCompressRow, select_by, true_indices}
 
 -- ---- items that are selected by flags
@@ -35,7 +35,7 @@ map-select_by f (flag ∷ flags) [] = refl
 map-select_by f (true ∷ flags) (x ∷ xs) = ap (◌∷◌ (f x)) (map-select_by f flags xs)
 map-select_by f (false ∷ flags) (x ∷ xs) = map-select_by f flags xs
 
-select_by_prefix : {X : Type 0} (flags : List Bool) (xs : List X)
+pub select_by_prefix : {X : Type 0} (flags : List Bool) (xs : List X)
     → select_by flags (take (length flags) xs) ≡ select_by flags xs
 select_by_prefix [] xs = refl
 select_by_prefix (flag ∷ flags) [] = refl
@@ -55,11 +55,11 @@ abbrev pub flags_of : ℕ → ℕ → List Bool
 flags_of zero m = []
 flags_of (suc n) m = nat_eq (m % 2) 1 ∷ flags_of n (m / 2)
 
-length-flags_of : (n m : ℕ) → length (flags_of n m) ≡ n
+pub length-flags_of : (n m : ℕ) → length (flags_of n m) ≡ n
 length-flags_of zero m = refl
 length-flags_of (suc n) m = ap suc (length-flags_of n (m / 2))
 
-mask_of_flags : (n m : ℕ) → m < 2 ^ n → mask_l (flags_of n m) ≡ m
+pub mask_of_flags : (n m : ℕ) → m < 2 ^ n → mask_l (flags_of n m) ≡ m
 mask_of_flags zero m low = omega arith
 mask_of_flags (suc n) m low = grind (arith, mask_of_flags n (m / 2))
 
@@ -186,7 +186,7 @@ module _ (flags : List Bool) (long : length flags ≡ 16) where
 
 -- ---- bytes that a filter keeps
 
-chunk_parts : (at n m : ℕ) (from : List ℕ) → chunk at (n + m) from ≡ chunk at n from ++ chunk (at + n) m from
+pub chunk_parts : (at n m : ℕ) (from : List ℕ) → chunk at (n + m) from ≡ chunk at n from ++ chunk (at + n) m from
 chunk_parts at n m from = simp (take-add, drop-drop)
 
 module _ (f : ℕ → ℕ → Bool) (before bytes : List ℕ) (paired : length bytes ≤ length before) where
@@ -195,10 +195,6 @@ module _ (f : ℕ → ℕ → Bool) (before bytes : List ℕ) (paired : length b
 
 none_set : {a b c d : ℕ} → bit_or (bit_or (bit_or a b) c) d ≡ 0 → (a ≡ 0) × (b ≡ 0) × (c ≡ 0) × (d ≡ 0)
 none_set {a} {b} {c} {d} none = omega (arith, le_or_l, le_or_r)
-
-all_full : {a b c d : ℕ} → bit_and (bit_and (bit_and a b) c) d ≡ 65535
-    → (65535 ≤ a) × (65535 ≤ b) × (65535 ≤ c) × (65535 ≤ d)
-all_full {a} {b} {c} {d} full = omega (arith, and_le_l, and_le_r)
 
 module _ (test : ℕ → Bool) where
   kept_nil : (before : List ℕ) → kept_bytes test before [] ≡ []
@@ -222,15 +218,13 @@ module _ (test : ℕ → Bool) where
   kept_self [] = refl
   kept_self (b ∷ bytes) = grind (arith, kept_self bytes)
 
-  -- all bytes are kept if none is equal to the one that it is compared with, and if all bits of their mask are set
-  all_kept : (before bytes : List ℕ) → length before ≡ length bytes
-      → (mask_l (zip2 eqb before bytes) ≡ 0 → kept_bytes test before bytes ≡ bytes)
-      × (mask_l (keep_flags test before bytes) + 1 ≡ 2 ^ length bytes → kept_bytes test before bytes ≡ bytes)
-  all_kept [] [] same = (λ none. refl, λ all. refl)
-  all_kept [] (b ∷ bytes) same = absurd (omega arith)
-  all_kept (a ∷ before) [] same = absurd (omega arith)
-  all_kept (a ∷ before) (b ∷ bytes) same =
-      let (none_equal, all_set) = all_kept before bytes (omega arith) in (λ none. grind arith, λ all. grind arith)
+  -- all bytes are kept if none is equal to the one that it is compared with
+  all_kept : (before bytes : List ℕ) → length before ≡ length bytes → mask_l (zip2 eqb before bytes) ≡ 0
+      → kept_bytes test before bytes ≡ bytes
+  all_kept [] [] same none = refl
+  all_kept [] (b ∷ bytes) same none = absurd (omega arith)
+  all_kept (a ∷ before) [] same none = absurd (omega arith)
+  all_kept (a ∷ before) (b ∷ bytes) same none = grind (arith, all_kept before bytes)
 
   module _ (before bytes : List ℕ) where
     abbrev pub kept_at : ℕ → ℕ → List ℕ
@@ -252,16 +246,9 @@ module _ (test : ℕ → Bool) where
       same_length : (at n : ℕ) → at + n ≤ length bytes → length (chunk at n before) ≡ length (chunk at n bytes)
       same_length at n room = omega (arith, length-chunk)
 
-      -- a vector is kept whole if no byte equals the one it is compared with, or if the mask of those kept is full
+      -- a vector is kept whole if no byte equals the one it is compared with
       kept_none : (k : ℕ) → k + 16 ≤ length bytes → mask_l (equal_at k) ≡ 0 → kept_at k 16 ≡ chunk k 16 bytes
-      kept_none k room = (all_kept _ _ (same_length k 16 room)).0
-
-      kept_full : (k : ℕ) → k + 16 ≤ length bytes → 65535 ≤ mask_l (flags_at k) → kept_at k 16 ≡ chunk k 16 bytes
-      kept_full k room full =
-          let long : 2 ^ 16 ≡ 2 ^ length (chunk k 16 bytes) = search length-chunk in
-          let flags_long = pairs_long (λ a b. is_not_repeat test (a, b)) before bytes paired k room in
-          let low : mask_l (flags_at k) < 2 ^ 16 = rw flags_long at (mask_l-lt (flags_at k)) in
-          (all_kept _ _ (same_length k 16 room)).1 (omega arith)
+      kept_none k room = all_kept _ _ (same_length k 16 room)
 
       kept_two : (at n m : ℕ) → at + n + m ≤ length bytes → kept_at at (n + m) ≡ kept_at at n ++ kept_at (at + n) m
       kept_two at n m room = grind (arith, chunk_parts, kept_append, same_length)
@@ -285,10 +272,6 @@ module _ (test : ℕ → Bool) where
         pub none_equal_in_four : bit_or (bit_or (bit_or (mask_l (equal_at at)) (mask_l (equal_at (at + 16))))
             (mask_l (equal_at (at + 32)))) (mask_l (equal_at (at + 48))) ≡ 0 → kept_at at 64 ≡ chunk at 64 bytes
         none_equal_in_four none = grind (arith, none_set, whole, kept_none)
-
-        pub all_kept_in_four : bit_and (bit_and (bit_and (mask_l (flags_at at)) (mask_l (flags_at (at + 16))))
-            (mask_l (flags_at (at + 32)))) (mask_l (flags_at (at + 48))) ≡ 65535 → kept_at at 64 ≡ chunk at 64 bytes
-        all_kept_in_four full = grind (arith, all_full, whole, kept_full)
 
 module _ {test : ℕ → Bool} {before bytes into : List ℕ} {at count : ℕ} {whole : List ℕ}
     (k : FilterInvariant test before bytes into at count whole) where
@@ -314,30 +297,3 @@ module _ {test : ℕ → Bool} {before bytes into : List ℕ} {at count : ℕ} {
         );
     pre = record { within = room; room = omega arith };
   }
-
--- ---- masks of lanes
-
--- the masks of the bytes that are removed, and of those that are kept, are all
-both_masks : (test : ℕ → Bool) (before bytes : List ℕ)
-    → mask_l (map (top 7) (zip2 bit_and (zip2 (λ a b. cond (eqb a b) 255 0) before bytes)
-    (map (cast_unsigned w8) (mask_of test bytes)))) + mask_l (keep_flags test before bytes) + 1
-    ≡ 2 ^ length (keep_flags test before bytes)
-both_masks test [] bytes = refl
-both_masks test (a ∷ before) [] = refl
-both_masks test (a ∷ before) (b ∷ bytes) = grind (arith, both_masks test before bytes)
-
-module _ (test : ℕ → Bool) (before bytes : List ℕ) (paired : length bytes ≤ length before) (at : ℕ)
-    (room : at + 16 ≤ length bytes) {lanes : List ℤ} (is : lanes ≡ mask_of test (chunk at 16 bytes))
-  where
-    abbrev mask : ℕ
-    mask = mask_l (map (top 7)
-        (zip2 bit_and (zip2 (λ a b. cond (eqb a b) 255 0) (chunk at 16 before) (chunk at 16 bytes))
-        (map (cast_unsigned w8) lanes))) % 2 ^ 64
-
-    -- the mask of 16 bytes, from which it is subtracted
-    pub keep_mask : (mask < 65536) × (65535 - mask ≡ mask_l (keep_flags test (chunk at 16 before) (chunk at 16 bytes)))
-    keep_mask = grind (
-      arith,
-      pairs_long (λ a b. is_not_repeat test (a, b)) before bytes paired at room,
-      both_masks test (chunk at 16 before) (chunk at 16 bytes),
-    )

@@ -4,6 +4,7 @@
 use Rattle.ptflow.proofs
 use Rattle.ptflow.specs
 use Rattle.std.proofs.lemmas
+use proofs.Common.{is_byte}
 use proofs.Common.{usual, ◌≡◌, ℕ, ◌+◌, ◌<◌, ◌≤◌, ◌%◌, Bool, false, List, [], ◌∷◌, ◌++◌, Option, map, take, drop}
 use proofs.Common.{length, get_or, replicate, cond, refl, sym, ◌∙◌, ap, arith, w8, Fits, sum_by, zero, suc, slice_get}
 use proofs.Common.{option_map, sel_l, zip2, top, Each1, take-add, false≢true, map-append, tops_compared, zip2_splat}
@@ -40,6 +41,16 @@ pub tests_are : (t : ℕ → ℕ → Bool) (f : ℕ → ℕ) (v : List ℕ) {xs 
     → map (top 7) (zip2 (λ a b. cond (t a b) 255 0) xs (replicate n y)) ≡ map (λ b. t (f b) y) v
 tests_are t f v {xs} {n} y long is = tops_compared w8 t xs (replicate n y)
     ∙ zip2_of_maps t f (λ _. y) v is (splat_is_map v n y long)
+
+one_tested : (y : ℕ) (v : List ℕ) → map (λ a. cast_signed w8 (cond (eqb a y) 255 0)) v ≡ mask_of (is_byte y) v
+one_tested y [] = refl
+one_tested y (b ∷ v) = grind (arith, one_tested y v)
+
+-- the lane mask of the bytes that are equal to one
+pub compared_with : (y : ℕ) (v : List ℕ) {n : ℕ} → length v ≡ n
+    → map (cast_signed w8) (zip2 (λ a b. cond (eqb a b) 255 0) v (replicate n y)) ≡ mask_of (is_byte y) v
+compared_with y v {n} long = ap (map (cast_signed w8)) (zip2_splat (λ a b. cond (eqb a b) 255 0) v n y long)
+    ∙ map-map (cast_signed w8) _ v ∙ one_tested y v
 
 -- ---- the first bytes are mapped
 

@@ -3,8 +3,8 @@
 //! makes, are byte shuffles that move the selected bytes of eight to the front.
 
 ghost use Rattle.std.specs.Prelude.{◌≡◌, ◌≤◌, ◌+◌, ◌++◌, ℕ, List, Bool, length, take};
-ghost use Rattle.std.specs.Simd.Lanes.{mask_l, chunk};
-ghost use Rattle.ptflow.specs.Private.Vectors.Compress.{ChunkPre, IsCompressTable, IsCompressRow, select_by};
+ghost use Rattle.std.specs.Simd.Lanes.{mask_l, chunk, put_chunk};
+ghost use Rattle.ptflow.specs.Private.Vectors.Compress.{ChunkPre, IsCompressTable, IsCompressRow, removed_mask, select_by};
 
 use ptlines::{PADDED, PaddedBlock};
 use std::array;
@@ -69,6 +69,17 @@ impl CompressTable {
     }
 }
 
+// Copies the 64 bytes at index `at` to index `to` of `into`.
+#[inline(always)]
+fn copy64(from: &[u8], at: usize, into: &mut PaddedBlock, to: usize)
+    requires lanes { at + 64 ≤ length from.now }
+    requires room { to + 64 ≤ PADDED }
+    ensures { into.new ≡ put_chunk to into.old (chunk at 64 from.now) }
+{
+    let into: &mut [u8] = into;
+    u8x64::from_slice(&from[at..]).copy_to_slice(&mut into[to..]);
+}
+
 // Appends the 64 bytes at index `at` to the first `count` bytes of `into`. Returns the new count.
 #[inline(always)]
 pub(crate) fn copy_chunk(from: &[u8], at: usize, into: &mut PaddedBlock, count: usize) -> usize
@@ -76,7 +87,36 @@ pub(crate) fn copy_chunk(from: &[u8], at: usize, into: &mut PaddedBlock, count: 
     ensures copied { take result into.new ≡ take count into.old ++ chunk at 64 from.now }
     ensures end { result ≡ count + 64 }
 {
-    let into: &mut [u8] = into;
-    u8x64::from_slice(&from[at..]).copy_to_slice(&mut into[count..]);
+    copy64(from, at, into, count);
     count + 64
+}
+
+// Appends those of the 64 bytes at index `at` whose bit in `removed` is not set to the first `count` bytes of `into`.
+// Returns the new count. All 64 are stored, and after each removed byte again the 64 after it: for few removed bytes.
+#[inline(always)]
+pub(crate) fn copy_without(
+    from: &[u8],
+    at: usize,
+    removed: u64,
+    into: &mut PaddedBlock,
+    count: usize,
+) -> usize
+    requires chunk { ChunkPre from.now at count }
+    requires after { at + 128 ≤ length from.now }
+    ensures kept { (flags : List Bool) → length flags ≡ 64 → removed ≡ removed_mask flags
+        → take result into.new ≡ take count into.old ++ select_by flags (chunk at 64 from.now) }
+    ensures end { result ≤ count + 64 }
+{
+    copy64(from, at, into, count);
+    let mut rest = removed;
+    let mut start = 0;
+    let mut end = count;
+    while rest != 0 {
+        let kept = rest.trailing_zeros();
+        rest = rest >> kept >> 1;
+        start += kept as usize + 1;
+        end += kept as usize;
+        copy64(from, at + start, into, end);
+    }
+    end + 64 - start
 }

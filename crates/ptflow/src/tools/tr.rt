@@ -7,13 +7,13 @@ ghost use Rattle.ptlangs.specs.TrTables.{byte_map_of, deletes, image, squeezes};
 ghost use Rattle.ptflow.specs.Calls.Passes.{PassPre, StorelessPost, no_store};
 ghost use Rattle.ptflow.specs.TrOutput.{tr_tool};
 ghost use Rattle.ptflow.specs.Private.Tr.MapKinds.{IsMapKind, IsMapKind-prop};
-ghost use Rattle.ptflow.specs.Private.Tr.TrFrom.{IsOptionalSet, IsOptionalSet-prop, squeeze_from};
+ghost use Rattle.ptflow.specs.Private.Tr.TrFrom.{IsRemoved, IsRemoved-prop, squeeze_from};
 
 mod map_kind;
 
 use crate::block_loop::{BlockFilter, run_blocks};
 use crate::faults::FlowFault;
-use crate::simd::byte_set::ByteSet;
+use crate::simd::byte_set::{ByteSet, OneByte};
 use crate::simd::compress::CompressTable;
 use crate::simd::filter::{Filter, remove, squeeze};
 use crate::simd::shift::{map_bytes, translate};
@@ -26,23 +26,42 @@ use ptlines::{BLOCK, LineReader, Out, PADDED, PaddedBlock, Sink, Source, WriteFa
 #[derive(Drop)]
 struct Translation<'a> {
     plan: &'a CharPlan,
-    deleting: Option<ByteSet>,
+    deleting: Removed,
     map_kind: MapKind,
-    squeezing: Option<ByteSet>,
+    squeezing: Removed,
     table: CompressTable,
-    ghost is_deleting: { IsOptionalSet deleting plan.now.deleted } by { IsOptionalSet-prop deleting plan.now.deleted },
+    ghost is_deleting: { IsRemoved deleting plan.now.deleted } by { IsRemoved-prop deleting plan.now.deleted },
     ghost is_map_kind: { IsMapKind map_kind plan.now.images } by { IsMapKind-prop map_kind plan.now.images },
-    ghost is_squeezing: { IsOptionalSet squeezing plan.now.squeezed } by { IsOptionalSet-prop squeezing plan.now.squeezed },
+    ghost is_squeezing: { IsRemoved squeezing plan.now.squeezed } by { IsRemoved-prop squeezing plan.now.squeezed },
 }
 
-// The set of the bytes whose flag is set, or `None` if it is empty.
-fn optional_set(flags: &[bool; 256]) -> Option<ByteSet>
-    ensures { IsOptionalSet result flags.now }
-{
-    if !flags.contains(&true) {
-        return None;
+// The bytes that a pass removes, or of which it removes repeats.
+#[derive(Clone, Copy)]
+enum Removed {
+    Nothing,
+    Byte(OneByte),
+    Set(ByteSet),
+}
+
+impl Removed {
+    // The bytes whose flag is set.
+    fn of(flags: &[bool; 256]) -> Removed
+        ensures { IsRemoved result flags.now }
+    {
+        let mut count: usize = 0;
+        let mut last = 0;
+        for byte in 0..256 {
+            if flags[byte] {
+                count += 1;
+                last = byte;
+            }
+        }
+        match count {
+            0 => Removed::Nothing,
+            1 => Removed::Byte(OneByte { byte: last as u8 }),
+            _ => Removed::Set(ByteSet::of(flags)),
+        }
     }
-    Some(ByteSet::of(flags))
 }
 
 impl<'a> Translation<'a> {
@@ -51,9 +70,9 @@ impl<'a> Translation<'a> {
     {
         Translation {
             plan,
-            deleting: optional_set(plan.deleted()),
+            deleting: Removed::of(plan.deleted()),
             map_kind: MapKind::of(plan),
-            squeezing: optional_set(plan.squeezed()),
+            squeezing: Removed::of(plan.squeezed()),
             table: CompressTable::new(),
         }
     }
@@ -67,8 +86,9 @@ impl<'a> Translation<'a> {
     {
         let table = &self.table;
         match self.deleting {
-            Some(set) => remove(Filter { set, table }, block, into),
-            None => block,
+            Removed::Nothing => block,
+            Removed::Byte(set) => remove(&Filter { set, table }, block, into),
+            Removed::Set(set) => remove(&Filter { set, table }, block, into),
         }
     }
 
@@ -95,8 +115,9 @@ impl<'a> Translation<'a> {
     {
         let table = &self.table;
         match self.squeezing {
-            Some(set) => squeeze(Filter { set, table }, last, bytes, into),
-            None => bytes,
+            Removed::Nothing => bytes,
+            Removed::Byte(set) => squeeze(&Filter { set, table }, last, bytes, into),
+            Removed::Set(set) => squeeze(&Filter { set, table }, last, bytes, into),
         }
     }
 }

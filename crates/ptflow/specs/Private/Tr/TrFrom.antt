@@ -1,8 +1,10 @@
 -- The output of `tr` for the rest of a text, which depends on the last byte of the output so far.
-use Rattle.std.specs.Prelude.{◌≡◌, ℕ, List, Bool, false, Option, None, Some, slice_index_or}
+use Rattle.std.specs.Prelude.{◌≡◌, ◌<◌, ℕ, List, Bool, false, Option, None, Some, slice_index_or}
 use Rattle.std.proofs.Props.{props}
 use Rattle.ptlangs.specs.TrPlan.{ByteMap}
-use Rattle.ptflow.specs.declared.simd.byte_set.ByteSet.{ByteSet}
+use Rattle.memchr.specs.Find.{is_byte}
+use Rattle.ptflow.specs.declared.tools.tr.Removed.{Removed}
+use Rattle.ptflow.specs.declared.tools.tr.Removed.TheVariants.{Nothing, Byte, Set}
 use Rattle.ptflow.specs.TrOutput.{squeeze_after, squeeze, translation}
 use Rattle.ptflow.specs.Private.Vectors.ByteSets.{IsSetOf}
 
@@ -15,12 +17,14 @@ squeeze_from squeezed (Some last) bytes = squeeze_after squeezed last bytes
 abbrev pub tr_from : ByteMap → Option ℕ → List ℕ → List ℕ
 tr_from m last rest = squeeze_from m.squeezes last (translation m rest)
 
--- the set of the bytes whose flag is set, or nothing if no flag is
-abbrev pub IsOptionalSet : Option ByteSet → List Bool → Type 0
-IsOptionalSet None flags = (b : ℕ) → slice_index_or flags b false ≡ false
-IsOptionalSet (Some set) flags = IsSetOf set flags
+-- the bytes whose flag is set are those that are removed
+abbrev pub IsRemoved : Removed → List Bool → Type 0
+IsRemoved Nothing flags = (b : ℕ) → slice_index_or flags b false ≡ false
+IsRemoved (Byte one) flags = (b : ℕ) → b < 256 → is_byte one.byte b ≡ slice_index_or flags b false
+IsRemoved (Set set) flags = IsSetOf set flags
 
--- two proofs of `IsOptionalSet` are equal, as a ghost field requires
-pub IsOptionalSet-prop : (set : Option ByteSet) (flags : List Bool) → IsProp (IsOptionalSet set flags)
-IsOptionalSet-prop None flags = Prim.hlevel props
-IsOptionalSet-prop (Some set) flags = Prim.hlevel props
+-- two proofs of `IsRemoved` are equal, as a ghost field requires
+pub IsRemoved-prop : (removed : Removed) (flags : List Bool) → IsProp (IsRemoved removed flags)
+IsRemoved-prop Nothing flags = Prim.hlevel props
+IsRemoved-prop (Byte one) flags = Prim.hlevel props
+IsRemoved-prop (Set set) flags = Prim.hlevel props

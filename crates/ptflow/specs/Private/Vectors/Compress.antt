@@ -1,5 +1,5 @@
 -- Compression: the items whose flag is set are moved together.
-use Rattle.std.specs.Prelude.{◌≡◌, ◌<◌, ◌≤◌, ◌+◌, ℕ, List, [], ◌∷◌, Bool, All, length, take, slice_index_or}
+use Rattle.std.specs.Prelude.{◌≡◌, ◌<◌, ◌≤◌, ◌+◌, ℕ, List, [], ◌∷◌, Bool, All, length, map, not, take, slice_index_or}
 use Rattle.std.specs.Prelude.{if◌then◌else◌}
 use Rattle.std.specs.List.{range_with_len}
 use Rattle.std.specs.Simd.Lanes.{mask_l}
@@ -10,6 +10,10 @@ abbrev pub select_by : {X : Type 0} → List Bool → List X → List X
 select_by [] xs = []
 select_by (flag ∷ flags) [] = []
 select_by (flag ∷ flags) (x ∷ xs) = if flag then x ∷ select_by flags xs else select_by flags xs
+
+-- the mask of the items whose flag is not set
+abbrev pub removed_mask : List Bool → ℕ
+removed_mask flags = mask_l (map not flags)
 
 -- the indices of the flags that are set
 abbrev pub true_indices : List Bool → List ℕ

@@ -3,7 +3,7 @@
 ghost use Rattle.std.specs.Prelude.{◌≡◌, ◌<◌, ℕ, IfSome, slice_index};
 ghost use Rattle.ptflow.specs.Private.Tr.MapKinds.{IsMapKind, set_to_byte};
 
-use crate::simd::byte_set::ByteSet;
+use crate::simd::byte_set::{ByteSet, ByteTest};
 use crate::simd::shift::ByteMap;
 use crate::simd::table::MovedRange;
 use ptlangs::{CharPlan, Shifts};

@@ -4,7 +4,7 @@ use proofs.Vectors.Compress.{filter_piece}
 use proofs.simd.filter.filter_pairs.Goals as goal
 
 pub loop-at-preserved : goal.loop-at-preserved
-loop-at-preserved c =
+loop-at-preserved g c =
     let made = c.filter64-count.ensures in
     record {
       kept = filter_piece c.loop-at.invariant.kept c.args.pairs.paired 64 (omega arith) made.end made.kept;

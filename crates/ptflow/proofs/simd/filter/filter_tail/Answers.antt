@@ -4,4 +4,4 @@ use proofs.Vectors.Compress.{filter_done}
 use proofs.simd.filter.filter_tail.Goals as goal
 
 pub returns-clause-kept : goal.returns-clause-kept
-returns-clause-kept c = filter_done c.loop-at.invariant.kept (omega arith)
+returns-clause-kept g c = filter_done c.loop-at.invariant.kept (omega arith)

@@ -1,12 +1,12 @@
 use Rattle.ptflow.proofs
-use proofs.Common.{◌≤◌, ◌+◌, ◌++◌, take, drop, kept_bytes, set_has}
+use proofs.Common.{◌≤◌, ◌+◌, ◌++◌, take, drop, kept_bytes}
 use proofs.Vectors.Compress.{FilterInvariant}
 use proofs.simd.filter.filter_tail.Given as goal
 
 abbrev pub invariant-loop-at : goal.invariant-loop-at
-invariant-loop-at l = record {
-  kept : FilterInvariant (set_has l.by.set) l.pairs.before.now l.pairs.bytes.now l.into l.at l.count
+invariant-loop-at g l = record {
+  kept : FilterInvariant (g.T.ByteTest.has l.by.set) l.pairs.before.now l.pairs.bytes.now l.into l.at l.count
       (take l.fn.count l.fn.into
-      ++ kept_bytes (set_has l.by.set) (drop l.start l.pairs.before.now) (drop l.start l.pairs.bytes.now));
+      ++ kept_bytes (g.T.ByteTest.has l.by.set) (drop l.start l.pairs.before.now) (drop l.start l.pairs.bytes.now));
   few : l.count + l.start ≤ l.fn.count + l.at;
 }

@@ -1,6 +1,6 @@
 use Rattle.ptflow.proofs
 use proofs.Vectors.Lanes.{tested}
-use proofs.simd.byte_set.ByteSet.test.Goals as goal
+use proofs.simd.byte_set.ByteSetByteTest.test.Goals as goal
 
 pub returns : goal.returns
 returns c = let (long, fits) = c.fits-v in

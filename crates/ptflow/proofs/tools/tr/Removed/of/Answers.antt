@@ -1,0 +1,13 @@
+use Rattle.ptflow.proofs
+use proofs.Common.{arith}
+use proofs.TrLemmas.Removed.{after_set, after_clear}
+use proofs.tools.tr.Removed.of.Goals as goal
+use proofs.tools.tr.Removed.of.Goals.{then-flags-byte, else-flags-byte}
+
+pub loop-byte-preserved : goal.loop-byte-preserved
+loop-byte-preserved c =
+    let counted = c.loop-byte.invariant in
+    elim c.if-flags-byte.branch [
+      | then-flags-byte w ↦ rw (w.count-is, w.last-is) (after_set counted w.if-flags-byte.true (omega arith))
+      | else-flags-byte w ↦ rw (w.count-is, w.last-is) (after_clear counted w.if-flags-byte.false)
+    ]
