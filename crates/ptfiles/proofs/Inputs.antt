@@ -116,7 +116,7 @@ count_of_contents content count (n ∷ names) (i ∷ inputs) are =
     ap suc (count_of_contents content (suc count) names inputs are.1)
 
 pub opened_are_new : (old new : FilesState) (names : List (List ℕ)) (standard : SourceState) (readers : List Reader)
-    → IsFresh standard → HaveOpened old new names standard readers → AreNewInputs (length names) readers
+    → IsFresh standard → HaveOpened old new names standard readers → AreNewInputs (Some (length names)) readers
 opened_are_new old new names standard readers fresh h = rw h.readers_are (
   omega (
     arith,

@@ -1,9 +1,10 @@
 -- The words and the parsed command agree on the command that is run. So a run over the parsed command is one that the
 -- words mean, and its inputs are the files that they name.
 use Rattle.std.proofs.Common.{◌≡◌, ℕ, Bool, true, false, List, [], ◌∷◌, Option, Some, None, Result, Ok, Err, inl, inr}
-use Rattle.std.proofs.Common.{sym, ◌∙◌, ap, refl, subst, ⊎_elim, if◌then◌else◌, is_none, length, option_map}
+use Rattle.std.proofs.Common.{All, arith, sym, ◌∙◌, ap, refl, subst, ⊎_elim, if◌then◌else◌, is_none, length, option_map}
 use Rattle.std.proofs.lemmas.Bool.{false≢true}
 use Rattle.std.proofs.lemmas.List.{append-nil}
+use Rattle.std.proofs.lemmas.List.Elements.{All-nil}
 use Rattle.std.specs.List.{list_any}
 use Rattle.ptopts.specs.Commands.{Command, command_of_args}
 use Rattle.ptopts.specs.Faults.{Fault}
@@ -15,20 +16,25 @@ use Rattle.ptlines.specs.Readers.{Reader}
 use Rattle.ptlines.specs.Sinks.{SinkState}
 use Rattle.ptlines.specs.Slots.{Slots}
 use Rattle.ptlines.specs.Sources.{SourceState, IsFresh}
-use Rattle.ptrun.specs.Files.{AreNewInputs, HasReadFailed, HaveReceived, ReceivedInputs}
-use Rattle.ptrun.specs.Runs.{Outcome, IsExactUnlessFailed, IsRunInStore, IsStoreUnchangedIfUnread, IsUnchangedIfUnread}
+use Rattle.ptrun.proofs.RunEnds.{SaysOnly, exact_of_run, run_over_others}
+use Rattle.ptrun.specs.Files.{AreNewInputs, HasReadFailed, HaveReceived, IsNewOrUnopened, ReceivedInputs}
+use Rattle.ptrun.specs.Files.{is_reader_unopened}
+use Rattle.ptrun.specs.Runs.{Outcome, IsExactUnlessFailed, IsRun, IsRunInStore, IsStoreUnchangedIfUnread, IsUnchangedIfUnread}
 use Rattle.ptrun.specs.Runs.{sinks}
-use Rattle.ptrun.specs.SpecOfArgs.{is_memory_fault, file_count, spec_of_args, spec_of_parsed, spec_unless_memory}
+use Rattle.ptrun.specs.SpecOfArgs.{is_memory_fault, file_count, spec_of_args, spec_of_parsed, spec_of_result}
+use Rattle.ptrun.specs.SpecOfArgs.{spec_unless_memory, tool_name}
 use Rattle.ptfiles.specs.Files.{FilesState, Output, with_created}
 use Rattle.ptfiles.specs.Calls.Outputs.{file_of_output}
 use Rattle.ptfiles.specs.Private.Outputs.{mark, output_state}
 use Rattle.ptfiles.specs.Shell.{After, Before, HasRun, HasRunOver, IsDirected, IsNotCreated}
-use Rattle.ptfiles.specs.Private.Shell.{HaveOpened}
+use Rattle.ptfiles.specs.Private.Shell.{HaveOpened, OpenInputsPost}
+use Rattle.ptfiles.specs.Files.{new_readers}
+use Rattle.ptfiles.specs.Outputs.{closed_state}
 use Rattle.ptfiles.specs.Shell.{RunOverFilesPost, command_to_run, input_names}
 use Rattle.ptfiles.specs.Private.Shell.{RunOverInputsPost, command_of_parsed}
 use Rattle.ptfiles.specs.Shell.{has_standard_output, name_of_output, output_names, valid_command, before}
 use Rattle.ptfiles.specs.declared.output.Output.{Output as code_output}
-use Rattle.ptfiles.proofs.Inputs.{opened_are_new, readers_have_bytes}
+use Rattle.ptfiles.proofs.Inputs.{none_opened, opened_are_new, readers_have_bytes}
 use Rattle.ptfiles.proofs.Outputs.{exact_of_file, file_returned, run_of_file, unread_of_file}
 
 pub nothing_created : (s : FilesState) → s ≡ with_created s [] []
@@ -193,35 +199,108 @@ module _ (words : List (List ℕ)) (b : Before) (a : After) {Unused Failing : Ty
   over_opened : RunOverFilesPost words b a Unused Failing
   over_opened = ⊎_elim has_run not_created after_open
 
-module _ {A : Type 0} (command : Result (code.Command A) UseFault) {names : List (List ℕ)}
-    (named : names ≡ input_names (command_of_parsed command)) {before_open files : FilesState} {standard : SourceState}
-    {old readers : List Reader} (same : old ≡ readers) (opened : HaveOpened before_open files names standard readers)
+-- ---- words that are no command
+
+refused_says_only : (words : List (List ℕ)) (out_of_memory : Bool) → None ≡ command_to_run words out_of_memory
+    → SaysOnly (spec_unless_memory words out_of_memory)
+refused_says_only words true none = record { text = _; status = _; is = refl }
+refused_says_only words false none = by_result (command_of_args words) none
   where
-    count_of_names : file_count command ≡ length (input_names (command_of_parsed command))
-    count_of_names = by_result command
-      where
-        by_result : (r : Result (code.Command A) UseFault) → file_count r ≡ length (input_names (command_of_parsed r))
-        by_result (Ok c) = refl
-        by_result (Err fault) = refl
+    by_result : (r : Result Command Fault) → None ≡ valid_command r → SaysOnly (spec_of_result (tool_name words) r)
+    by_result (Ok command) none = cc
+    by_result (Err fault) none = record { text = _; status = _; is = refl }
 
-    -- The files that the parsed command names were opened, so the inputs of the run are new.
-    pub fresh_inputs : IsFresh standard → AreNewInputs (file_count command) old
-    fresh_inputs fresh = rw (count_of_names, ← named, same)
-        (opened_are_new before_open files names standard readers fresh opened)
+-- No input is read then, so a run over no readers is one over these.
+refused_over : (words : List (List ℕ)) (readers : List Reader) (b : Before) (a : After) {new : List Reader}
+    {Unused : Type 0} → None ≡ command_to_run words a.out_of_memory → All IsNewOrUnopened readers
+    → HasRunOver words [] new b a Unused → HasRunOver words readers readers b a Unused
+refused_over words readers b a {new} {Unused} none fresh r = record {
+  outputs = r.outputs;
+  sink = r.sink;
+  sink_after = r.sink_after;
+  created = subst (λ c. a.files ≡ with_created b.files (output_names c readers) r.outputs) none
+      (rw (← none) at r.created);
+  directed = subst
+      (λ c. IsDirected (has_standard_output c) (output_names c readers) b a r.outputs r.sink r.sink_after Unused) none
+      (rw (← none) at r.directed);
+  run = record { run = run; slots = λ w agrees. rw (r.keeps_nothing unread) (omega arith) };
+  is_exact = λ parsed. exact_of_run _ readers readers _ _ fresh (rw parsed at run);
+  reads_nothing = λ unread'. (refl, (r.reads_nothing unread).1);
+  keeps_nothing = λ unread'. r.keeps_nothing unread;
+  store = r.store;
+}
+  where
+    only : SaysOnly (spec_unless_memory words a.out_of_memory)
+    only = refused_says_only words a.out_of_memory none
 
-    pub run_over_files : (words : List (List ℕ)) → CommandPost command (command_of_args words) → {new : List Reader}
-        (out messages : SinkState) (store : Slots) (a : After) {Unused Failing : Type 0}
-        → ((received : ReceivedInputs) → HaveReceived old new received
-        → (position : ℕ) → HasReadFailed old new position → Failing)
-        → a.out_of_memory ≡ is_memory_fault command
-        → RunOverInputsPost words old new (before files standard out messages store) a Unused
-        → RunOverFilesPost words (before before_open standard out messages store) a Unused Failing
-    run_over_files words meant out messages store a failing oom post =
-        over_opened words (before before_open standard out messages store) a failing
-        (subst (λ l. HaveOpened before_open files (input_names (command_to_run words a.out_of_memory)) standard l) (sym same)
-        (subst (λ l. HaveOpened before_open files l standard readers)
-        (named ∙ ap input_names (to_run command words meant a.out_of_memory oom)) opened))
-        post
+    unread : (spec_unless_memory words a.out_of_memory).reads_nothing (is_reader_unopened []) ≡ true
+    unread = ap (λ m. m.reads_nothing (is_reader_unopened [])) only.is
+
+    closed : r.sink ≡ closed_state false
+    closed = (rw (← none) at r.directed).1
+
+    run : IsRun (spec_unless_memory words a.out_of_memory) readers readers (sinks r.sink b.messages)
+        (record a.outcome { out = r.sink_after })
+    run = run_over_others only (ap (λ s. s.failed) closed) r.run.run r.reads_nothing fresh
+
+module _ (words : List (List ℕ)) (b : Before) (a : After) {Unused Failing : Type 0} {files : FilesState}
+    {new : List Reader} (fresh : IsFresh b.standard) (none : None ≡ command_to_run words a.out_of_memory)
+    (unopened : files ≡ b.files) where
+  over_refused : RunOverInputsPost words [] new (record b { files = files }) a Unused
+      → RunOverFilesPost words b a Unused Failing
+  over_refused post = over_opened words b a no_failure opened (⊎_elim (λ r. inl (refused_over words old
+      (record b { files = files }) a none fresh_readers r)) (λ n. cc) post)
+    where
+      old : List Reader
+      old = new_readers b.standard []
+
+      opened : HaveOpened b.files files (input_names (command_to_run words a.out_of_memory)) b.standard old
+      opened = rw (← none, unopened) (none_opened b.files b.standard _ refl)
+
+      fresh_readers : All IsNewOrUnopened old
+      fresh_readers = (opened_are_new b.files b.files [] b.standard old fresh
+          (none_opened b.files b.standard _ refl)).1
+
+      no_failure : (received : ReceivedInputs) → HaveReceived old old received
+          → (position : ℕ) → HasReadFailed old old position → Failing
+      no_failure received came position failed = cc
+
+-- ---- parsed commands
+
+module _ {A : Type 0} (command : Result (code.Command A) UseFault) (before_open files : FilesState)
+    {standard : SourceState} (fresh : IsFresh standard) {old readers : List Reader} (same : old ≡ readers)
+    (opened : OpenInputsPost before_open files (command_of_parsed command) standard readers) where
+  -- The files that the parsed command names were opened, so the inputs of the run are new.
+  pub fresh_inputs : AreNewInputs (file_count command) old
+  fresh_inputs = rw same (by_result command opened)
+    where
+      by_result : (r : Result (code.Command A) UseFault)
+          → OpenInputsPost before_open files (command_of_parsed r) standard readers → AreNewInputs (file_count r) readers
+      by_result (Ok c) opened = opened_are_new before_open files _ standard readers fresh opened
+      by_result (Err fault) (unopened, none) = (tt, rw none (All-nil IsNewOrUnopened))
+
+  pub run_over_files : (words : List (List ℕ)) → CommandPost command (command_of_args words) → {new : List Reader}
+      (out messages : SinkState) (store : Slots) (a : After) {Unused Failing : Type 0}
+      → ((received : ReceivedInputs) → HaveReceived old new received
+      → (position : ℕ) → HasReadFailed old new position → Failing)
+      → a.out_of_memory ≡ is_memory_fault command
+      → RunOverInputsPost words old new (before files standard out messages store) a Unused
+      → RunOverFilesPost words (before before_open standard out messages store) a Unused Failing
+  run_over_files words meant {new} out messages store a {Unused} {Failing} failing oom post =
+      by_command (command_of_parsed command) (to_run command words meant a.out_of_memory oom) opened
+    where
+      b : Before
+      b = before before_open standard out messages store
+
+      by_command : (c : Option Command) → c ≡ command_to_run words a.out_of_memory
+          → OpenInputsPost before_open files c standard readers → RunOverFilesPost words b a Unused Failing
+      by_command None is (unopened, none) = over_refused words b a fresh is unopened
+          (subst (λ l. RunOverInputsPost words l new (record b { files = files }) a Unused) (same ∙ none) post)
+      by_command (Some c) is opened = over_opened words b a failing
+          (subst (λ l. HaveOpened before_open files (input_names (command_to_run words a.out_of_memory)) standard l)
+          (sym same)
+          (subst (λ names. HaveOpened before_open files names standard readers) (ap input_names is) opened))
+          post
 
 pub in_own_store : {words : List (List ℕ)} {files : FilesState} {standard : SourceState} {out messages : SinkState}
     {store own : Slots} {a : After} {Unused Failing : Type 0} → store ≡ own

@@ -14,9 +14,9 @@ ghost use Rattle.ptrun.specs.SpecOfArgs.{file_count, is_memory_fault};
 ghost use Rattle.ptfiles.specs.Files.{IsNewInput, created_state, reader_of_input};
 ghost use Rattle.ptfiles.specs.Private.Files.{opened_state};
 ghost use Rattle.ptfiles.specs.Shell.{MayFail, RunOverFilesPost, RunOverFilesInOwnStore};
-ghost use Rattle.ptfiles.specs.Private.Shell.{RunOverInputsPost, HaveOpened};
+ghost use Rattle.ptfiles.specs.Private.Shell.{RunOverInputsPost, OpenInputsPost};
 ghost use Rattle.ptfiles.specs.Private.Shell.{IsDestination, command_of_parsed};
-ghost use Rattle.ptfiles.specs.Shell.{before, after, input_names};
+ghost use Rattle.ptfiles.specs.Shell.{before, after};
 
 use crate::failures::failures_are_of_sources;
 use crate::files::Files;
@@ -95,7 +95,7 @@ pub fn run_over_files_in_store<
         messages,
     } = streams;
     let command = Command::read(alloc, words);
-    match open_inputs(alloc, files, names_of(&command), standard) {
+    match open_inputs(alloc, files, &command, standard) {
         Ok(mut inputs) => {
             let inputs = &mut *inputs;
             let sinks = Sinks { out, messages };
@@ -113,30 +113,23 @@ struct Sinks<W, E> {
     messages: E,
 }
 
-// Returns the names of the files that a command reads; none if the words are not valid.
-fn names_of<'a, 'b, A: Allocator>(
-    command: &'b Result<Command<'a, A>, UseFault<'a>>,
-) -> &'b [&'a str]
-    ensures { words_view result.now ≡ input_names (command_of_parsed command.now) }
-{
-    match command {
-        Ok(command) => command.names(),
-        Err(_) => &[],
-    }
-}
-
-// Creates the readers of standard input and of the files with these names, also of those that cannot be opened.
-fn open_inputs<A: Allocator, F: Files, S: Source>(
+// Creates the readers of standard input and of the files that a command names, also of those that cannot be opened. If
+// the words are not valid, there are none.
+fn open_inputs<A: Allocator, B: Allocator, F: Files, S: Source>(
     alloc: A,
     files: &mut F,
-    names: &[&str],
+    command: &Result<Command<'_, B>, UseFault<'_>>,
     standard: S,
 ) -> Result<Vec<LineReader<S, F::Input>, A>, AllocError>
     requires { IsFresh (S.state standard) }
-    ensures opened { IfOk result (λ readers. HaveOpened (F.state files.old) (F.state files.new) (words_view names.now)
-        (S.state standard) readers.items) }
+    ensures opened { IfOk result (λ readers. OpenInputsPost (F.state files.old) (F.state files.new)
+        (command_of_parsed command.now) (S.state standard) readers.items) }
     ensures not_opened { OnErr result (F.state files.new ≡ F.state files.old) }
 {
+    let Ok(command) = command else {
+        return Ok(Vec::new(alloc));
+    };
+    let names = command.names();
     let mut readers = Vec::with_capacity(alloc, names.len() + 1)?;
     readers.push_reserved(LineReader::standard(standard));
     for name in names {

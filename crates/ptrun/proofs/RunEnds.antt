@@ -9,18 +9,18 @@ use proofs.Common.{None, Ok, Option, Output, PushEffect, Read, Reader, Received,
 use proofs.Common.{RunInputsPost, SinkState, Slots, Some, Write, [], ap, append-nil, append_known, arith, cases_Bool}
 use proofs.Common.{usual, command_spec, cond, ended_operands, false, false≢true, fault_view, is_reader_unopened}
 use proofs.Common.{is_unopened, length, length-append, map, messages, position, positions, push_trans, reader_at, refl}
-use proofs.Common.{rules, sinks, spec_of_parsed, spec_of_tool, sym, true, usage_message, usage_status, ℕ, ⊎_elim, ◌++◌}
+use proofs.Common.{rules, sinks, spec_of_parsed, spec_of_tool, subst, sym, true, usage_message, usage_status, ℕ, ⊎_elim, ◌++◌}
 use proofs.Common.{◌<◌, ◌==◌, ◌∙◌, ◌≡◌, ◌≤◌}
 use proofs.MessageWrites.{said_trans}
-use proofs.OperandInputs.{earlier_map, fresh_all, kept_up, nothing_decided, nothing_read, positions_within, received_at}
-use proofs.OperandInputs.{received_of, some_same}
+use proofs.OperandInputs.{earlier_map, fresh_all, kept_up, least_bytes, least_consistent, nothing_decided, nothing_read}
+use proofs.OperandInputs.{positions_within, received_at, received_of, some_same}
 use Rattle.ptlines.proofs.KnownBytes.{append_known-nil}
 use Rattle.ptopts.proofs.EachTool.{AreInputsOf, are_inputs}
 use Rattle.ptopts.specs.Laws.Theorems.{Spelled, SpellsCommand}
 use Rattle.ptopts.specs.declared.fault.UseFault.{UseFault}
 use specs.Private.Driver.{RunWithStorePost, EndRunPost, FinishPost, result_message}
 use specs.Files.{AreNewInputs, HasBytesAt, HasReceivedAt, IsConsistentAt, IsNewOrUnopened}
-use specs.Runs.{IsExact, IsExactUnlessFailed, Outcome, RunEnd, Sinks}
+use specs.Runs.{IsExact, IsExactUnlessFailed, IsUnchangedIfUnread, Outcome, RunEnd, Sinks}
 use Rattle.std.proofs.lemmas.List.{append_cancel_left, nil_from_length}
 use Rattle.ptopts.specs.declared.command.Command as code
 use specs.SpecOfArgs.{is_memory_fault, message_only, spec_of_args, tool_name, tool_of_job, word_of_job}
@@ -82,7 +82,7 @@ not_too_long (Some g) (Some b) old a (opened, left, short) long = grind (arith, 
 
 -- ---- no call failed
 
-exact_of_run : (m : CommandSpec) (old new : List Reader) (before : Sinks) (o : Outcome) → All IsNewOrUnopened old
+pub exact_of_run : (m : CommandSpec) (old new : List Reader) (before : Sinks) (o : Outcome) → All IsNewOrUnopened old
     → IsRun m old new before o → IsExactUnlessFailed m old new before o
 exact_of_run m old new before o fresh k w bytes none fine not_denied = by_fault k.fault k.ends
   where
@@ -154,6 +154,45 @@ message_only_run {text} {is} {old = old} {status = status} fresh fine has_said s
     no_operand : (b : Bool) → AreReadToEnd old (cond b [] [])
     no_operand true q named = absurd (false≢true named)
     no_operand false q named = absurd (false≢true named)
+
+-- The specification of a run that only says a message, as for words that are no command.
+pub record SaysOnly (m : CommandSpec) : Type 0 where
+  pub text : List ℕ
+  pub status : ℕ
+  pub is : m ≡ message_only text status
+
+-- Such a run depends on no input, so a run over some inputs is one over any others.
+module _ {text : List ℕ} {status : ℕ} {old new : List Reader} {before : Sinks} {o : Outcome}
+    (fine : before.out.failed ≡ false) (k : IsRun (message_only text status) old new before o)
+    (unread : IsUnchangedIfUnread (message_only text status) old new before.out o) where
+  said : (fault : Option FlowFault)
+      → RunEnd (message_only text status) k.received old new k.written k.message o k.operands_done fault
+      → (k.message ≡ text) × (o.status ≡ status)
+  said None (complete, says) = says (least_bytes k.received) (least_consistent k.received)
+  said (Some (Read p)) e = let named = e.cause.0 in cc
+  said (Some Write) e = let (same, nothing) = unread refl in let out_is = nothing.0 in cc
+  said (Some Memory) e = let (same, nothing) = unread refl in let not_denied = nothing.2 in let denied = e.cause.0 in cc
+
+  message_over_others : {others : List Reader} → All IsNewOrUnopened others
+      → IsRun (message_only text status) others others before o
+  message_over_others {others} fresh =
+      let (same, nothing) = unread refl in
+      let (message_is, status_is) = said k.fault k.ends in
+      subst (λ (o : Outcome). IsRun (message_only text status) others others before o) (λ i. record {
+        out = sym nothing.0 i;
+        messages = o.messages;
+        status = o.status;
+        peak = sym nothing.1 i;
+        denied = sym nothing.2 i;
+      }) (message_only_run fresh fine (subst (λ t. HasSaid before.messages o.messages t) message_is k.has_said) status_is)
+
+pub run_over_others : {m : CommandSpec} {old new others : List Reader} {before : Sinks} {o : Outcome} → SaysOnly m
+    → before.out.failed ≡ false → IsRun m old new before o → IsUnchangedIfUnread m old new before.out o
+    → All IsNewOrUnopened others → IsRun m others others before o
+run_over_others {m} {old} {new} {others} {before} {o} only fine run unread fresh =
+    subst (λ m. IsRun m others others before o) (sym only.is)
+    (message_over_others fine (subst (λ m. IsRun m old new before o) only.is run)
+    (subst (λ m. IsUnchangedIfUnread m old new before.out o) only.is unread) fresh)
 
 -- ---- the end of a run
 
@@ -263,7 +302,7 @@ accepts_operands (RunJoin u) word names order two = grind arith
 accepts_operands (RunTr u) word names order any = grind arith
 
 pub inputs_pre_of_spelled : (words : List (List ℕ)) (c : Command) (readers : List Reader) → SpellsCommand words c
-    → AreNewInputs (length c.names) readers → InputsPre (command_spec c) readers
+    → AreNewInputs (Some (length c.names)) readers → InputsPre (command_spec c) readers
 inputs_pre_of_spelled words c readers (Spelled name rest tool os operands named s allowed) fresh =
     let is = accepts_operands c.job (word_of_job c.job) c.names c.order
     (grind (arith, are_inputs)) in record {

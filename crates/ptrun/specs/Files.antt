@@ -1,7 +1,7 @@
 -- The inputs of a command by position, and what was received from them. Position 0 is standard input, and `i` + 1 is
 -- the `i`-th file.
 use Rattle.std.specs.Prelude.{◌≡◌, ℕ, ◌+◌, ◌<◌, ◌≤◌, ◌^◌, List, [], ◌∷◌, ◌++◌, Bool, true, false, Option, Some}
-use Rattle.std.specs.Prelude.{None, if◌then◌else◌, slice_index_or, option_map, filter_map, is_none, length, ⊤, All}
+use Rattle.std.specs.Prelude.{None, IfSome, if◌then◌else◌, slice_index_or, option_map, filter_map, is_none, length, ⊤, All}
 use Rattle.ptlines.specs.Engines.{is_in}
 use Rattle.ptlines.specs.Readers.{Reader, IsDone, remaining_bytes, reader_at}
 use Rattle.ptlines.specs.Received.{Received, HasReceived}
@@ -83,9 +83,10 @@ pub record IsNew (r : Reader) : Type 0 where
 abbrev pub IsNewOrUnopened : Reader → Type 0
 IsNewOrUnopened r = r.refused ≡ false → IsNew r
 
--- The readers of standard input and of `files` files, none of which was read yet.
-abbrev pub AreNewInputs : ℕ → List Reader → Type 0
-AreNewInputs files readers = (length readers ≡ files + 1) × All IsNewOrUnopened readers
+-- None of these readers was read yet. If a command is run, they are those of standard input and of its `files` files;
+-- otherwise any readers, or none.
+abbrev pub AreNewInputs : Option ℕ → List Reader → Type 0
+AreNewInputs files readers = IfSome files (λ count. length readers ≡ count + 1) × All IsNewOrUnopened readers
 
 -- Of the inputs at these positions, those that were opened were read to their end, and nothing of them is buffered.
 abbrev pub AreReadToEnd : List Reader → List ℕ → Type 0

@@ -3,4 +3,3 @@ pub mod Driver
 pub mod Engines
 pub mod Lag
 pub mod Messages
-pub mod SpecOfArgs

@@ -1,5 +1,5 @@
 -- From the arguments of a command to its specification.
-use Rattle.std.specs.Prelude.{ℕ, List, [], Bool, true, false, Some, None, Result, Ok, Err, codes, length}
+use Rattle.std.specs.Prelude.{ℕ, List, [], Bool, true, false, Option, Some, None, Result, Ok, Err, codes, length}
 use Rattle.std.specs.Prelude.{slice_index_or, is_none, if◌then◌else◌}
 use Rattle.ptflow.specs.Cuts.{cut_tool}
 use Rattle.ptflow.specs.TrOutput.{tr_tool}
@@ -87,7 +87,7 @@ spec_unless_memory words out_of_memory =
 abbrev pub spec_of_parsed : {A : Type 0} → Result (code.Command A) UseFault → List (List ℕ) → CommandSpec
 spec_of_parsed command words = spec_unless_memory words (is_memory_fault command)
 
--- The number of input files of the command that parsing returned, and 0 if it returned a fault.
-abbrev pub file_count : {A : Type 0} → Result (code.Command A) UseFault → ℕ
-file_count (Ok command) = length (command_view command).names
-file_count (Err fault) = 0
+-- The number of input files of the command that parsing returned, and `None` if it returned a fault.
+abbrev pub file_count : {A : Type 0} → Result (code.Command A) UseFault → Option ℕ
+file_count (Ok command) = Some (length (command_view command).names)
+file_count (Err fault) = None

@@ -113,7 +113,7 @@ fn standard_of(input: Input<'_>, size: usize) -> Reader<'_>
 
 /// The number of input files that a command names.
 pub fn files_named<A: Allocator>(command: &Result<Command<'_, A>, UseFault<'_>>) -> usize
-    ensures { result ≡ file_count command.now }
+    ensures { IfSome (file_count command.now) (λ count. result ≡ count) }
 {
     match command {
         Ok(command) => command.names().len(),

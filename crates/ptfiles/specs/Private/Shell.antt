@@ -30,6 +30,11 @@ pub record HaveOpened (old new : FilesState) (names : List (List ℕ)) (standard
   pub are_new : All IsNewInput inputs
   pub readers_are : readers ≡ new_readers standard inputs
 
+-- the files that a command names were opened; words that are no command have no readers
+abbrev pub OpenInputsPost : FilesState → FilesState → Option Command → SourceState → List Reader → Type 0
+OpenInputsPost old new None standard readers = (new ≡ old) × (readers ≡ [])
+OpenInputsPost old new (Some command) standard readers = HaveOpened old new command.names standard readers
+
 abbrev pub command_of_parsed : {A : Type 0} → Result (code.Command A) UseFault → Option Command
 command_of_parsed (Ok command) = Some (command_view command)
 command_of_parsed (Err fault) = None
