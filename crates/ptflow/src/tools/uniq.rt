@@ -16,7 +16,7 @@ mod line_key;
 
 use crate::faults::FlowFault;
 use crate::line_loop::{LineFilter, run_lines};
-use crate::tools::uniq::block_runs::{LastRun, RunWriter};
+use crate::tools::uniq::block_runs::{BlockRun, RunWriter};
 use crate::tools::uniq::line_key::key;
 use arrayvec::ArrayVec;
 use ptlangs::jobs::UniqJob;
@@ -34,7 +34,7 @@ pub(crate) struct CurrentRun {
 
 impl CurrentRun {
     // Becomes the last run of the lines of a block, and copies its first line if that is in the block.
-    fn set_to_last(&mut self, last: LastRun, block: &[u8])
+    fn set_to_last(&mut self, last: BlockRun, block: &[u8])
         requires span { IfSome last.line (λ line. (line.from < line.to) × (line.to ≤ length block.now)) }
         requires few { length block.now ≤ BLOCK }
         ensures { (store : Slots) → current_run_of self.new store
@@ -132,7 +132,7 @@ impl<'a> LineFilter for LineUniq<'a> {
         let last = self
             .by
             .write_runs(self.run.count, self.first_line(store), block, out)?;
-        self.run.set_to_last(last, block);
+        self.run.set_to_last(last.run, block);
         Ok(last.len)
     }
 

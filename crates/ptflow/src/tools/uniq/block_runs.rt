@@ -55,12 +55,18 @@ pub(crate) struct Span {
     pub to: usize,
 }
 
-// The last run of the lines of a block: how many lines it has, its first line with the terminator, unless that was read
-// before the block, and the length of all lines.
+// A run of lines that ends in a block: how many lines it has, and its first line with the terminator, unless that was
+// read before the block.
 #[derive(Clone, Copy)]
-pub(crate) struct LastRun {
+pub(crate) struct BlockRun {
     pub count: u64,
     pub line: Option<Span>,
+}
+
+// The last run of the lines of a block, and the length of all lines.
+#[derive(Clone, Copy)]
+pub(crate) struct LastRun {
+    pub run: BlockRun,
     pub len: usize,
 }
 
@@ -106,28 +112,28 @@ impl RunWriter<'_> {
         out.push_line(b"", first, &[self.terminator])
     }
 
-    // Ends a run of `count` lines, whose first line is `first` or, if `line` is given, this range of the block. Extends
-    // the deferred output by the line if the two are contiguous in the block; otherwise pushes the deferred output
-    // first. Returns the range of the deferred output.
+    // Ends a run, whose first line is `first` if it is not in the block. Extends the deferred output by the line if the
+    // two are contiguous in the block; otherwise pushes the deferred output first. Returns the range of the deferred
+    // output.
     #[inline(always)]
     fn end_run<W: Sink>(
         &self,
-        count: u64,
+        run: BlockRun,
         first: &[u8],
         block: &[u8],
-        line: Option<Span>,
         pending: Span,
         out: &mut Out<W>,
     ) -> Result<Span, WriteFault>
-        requires { EndRunPre (uniq_job self.now.job.now).terminator block.now line pending }
+        requires { EndRunPre (uniq_job self.now.job.now).terminator block.now run.line pending }
         ensures waits { IfOk result (λ now. IsPending (span_of block.now pending
-            ++ run_text (uniq_job self.now.job.now) (run_of (first_of first.now block.now line) count))
+            ++ run_text (uniq_job self.now.job.now) (run_of (first_of first.now block.now run.line) run.count))
             block.now now out.old out.new) }
         ensures wrote { OnErr result (PushEffect out.old out.new (span_of block.now pending
-            ++ run_text (uniq_job self.now.job.now) (run_of (first_of first.now block.now line) count))) }
+            ++ run_text (uniq_job self.now.job.now) (run_of (first_of first.now block.now run.line) run.count))) }
         ensures fault { OnErr result (out.new.write_failed ≡ true) }
     {
         let show = self.job.show;
+        let BlockRun { count, line } = run;
         let Some(line) = line else {
             self.write_run(count, first, out)?;
             return Ok(pending);
@@ -158,13 +164,13 @@ impl RunWriter<'_> {
     ) -> Result<LastRun, WriteFault>
         requires { ProcessLinesPre carried block.now }
         ensures continues { IfOk result (λ last. RunsWritten (uniq_job self.now.job.now) (run_of first.now carried)
-            (run_of (first_of first.now block.now last.line) last.count)
+            (run_of (first_of first.now block.now last.run.line) last.run.count)
             (complete_lines (uniq_job self.now.job.now).terminator block.now) out.old out.new) }
         ensures halts { OnErr result
             (RunsFailed (uniq_job self.now.job.now) (run_of first.now carried)
             (complete_lines (uniq_job self.now.job.now).terminator block.now) out.old out.new) }
         ensures span { IfOk result
-            (λ last. IfSome last.line (λ line. (line.from < line.to) × (line.to ≤ length block.now))) }
+            (λ last. IfSome last.run.line (λ line. (line.from < line.to) × (line.to ≤ length block.now))) }
         ensures passed { IfOk result (λ last. IsLinesLength (uniq_job self.now.job.now).terminator block.now last.len) }
     {
         let (job, terminator) = (self.job, self.terminator);
@@ -182,7 +188,8 @@ impl RunWriter<'_> {
                 rest = left;
             } else {
                 rest = &rest[at + 1..];
-                pending = self.end_run(count, first, block, line, pending, out)?;
+                let ended = BlockRun { count, line };
+                pending = self.end_run(ended, first, block, pending, out)?;
                 let to = size - rest.len();
                 let from = to - at - 1;
                 line = Some(Span { from, to });
@@ -192,6 +199,7 @@ impl RunWriter<'_> {
         }
         out.push(&block[pending.from..pending.to])?;
         let len = size - rest.len();
-        Ok(LastRun { count, line, len })
+        let run = BlockRun { count, line };
+        Ok(LastRun { run, len })
     }
 }

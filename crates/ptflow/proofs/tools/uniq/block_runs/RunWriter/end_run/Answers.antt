@@ -42,10 +42,10 @@ returns-in_err-flush_with_count-clause-wrote g c =
     let block = c.args.block.now in
     let line = span_of block c.in-Some.line in
     on_err c.from_residual-in_err-flush_with_count.result
-    (rw (due_is job c.args.first.now c.args.count c.requires c.in-Some.is
+    (rw (due_is job c.args.first.now c.args.run.count c.requires c.in-Some.is
     (sym c.has_output.ensures ∙ c.if-not-has_output.false))
     (subst (PushEffect c.args.out.now c.flush_with_count.new.out)
-    (append_assoc (span_of block c.args.pending) (count_prefix job.show c.args.count) line)
+    (append_assoc (span_of block c.args.pending) (count_prefix job.show c.args.run.count) line)
     (push_past_failure _ _ _ line c.in_err-flush_with_count.ensures.fault c.flush_with_count.ensures.wrote)))
 
 pub returns-clause-waits : goal.returns-clause-waits
