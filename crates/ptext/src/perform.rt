@@ -56,14 +56,13 @@ pub fn perform<'a, R: Files, A: Allocator + Copy, S: Source, W: Sink, E: Sink>(
 }
 
 // Writes a message about words that are not run, and returns a report with this status and the unused output.
-fn report_not_run<W: Sink, E: Sink>(status: u8, text: &str, out: W, messages: E) -> Report<W, E>
+fn report_not_run<W: Sink, E: Sink>(status: u8, text: &str, out: W, mut messages: E) -> Report<W, E>
     requires { (E.state messages).failed ≡ false }
     ensures status { result.status ≡ status }
     ensures memory { (result.peak ≡ 0) × (result.denied ≡ false) }
     ensures out { result.out ≡ out }
     ensures has_said { HasSaid (E.state messages) (E.state result.messages) (line_of (text.now ∷ [])) }
 {
-    let mut messages = messages;
     let _ = say(&mut messages, &[text]);
     Report {
         status,

@@ -48,14 +48,13 @@ impl<W: Sink, F, E: Sink> FilesReport<W, F, E> {
     }
 
     // Says a message about a run that cannot start, and returns the report, with status 1 and the unused output.
-    fn not_run(parts: &[&str], out: W, messages: E, out_of_memory: bool) -> Self
+    fn not_run(parts: &[&str], out: W, mut messages: E, out_of_memory: bool) -> Self
         requires { (E.state messages).failed ≡ false }
         ensures status { (result.report.status ≡ 1) × (result.out_of_memory ≡ out_of_memory) }
         ensures memory { (result.report.peak ≡ 0) × (result.report.denied ≡ false) }
         ensures out { (result.report.out ≡ out) × (result.file ≡ None) }
         ensures has_said { HasSaid (E.state messages) (E.state result.report.messages) (line_of (texts parts.now)) }
     {
-        let mut messages = messages;
         let _ = say(&mut messages, parts);
         FilesReport {
             report: Report {

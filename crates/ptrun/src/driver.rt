@@ -40,7 +40,7 @@ pub(crate) fn run_in_turn<A, B, T, S, R, W, E>(
     operands: &Inputs<'_, B>,
     inputs: &mut [LineReader<S, R>],
     out: W,
-    messages: Messages<E>,
+    mut messages: Messages<E>,
 ) -> Report<W, E>
 where
     A: Allocator + Copy,
@@ -57,7 +57,6 @@ where
         (words_view operands.now.names.items) (positions operands.now.order.items))
         inputs.old inputs.new (sinks (W.state out) messages) (outcome W.state E.state result) store.old store.new }
 {
-    let mut messages = messages;
     let names: &[&str] = &operands.names;
     let mut out = Out::new(out);
     let run_result = run_each(tool, operands, inputs, store, &mut out, &mut messages);
@@ -112,7 +111,7 @@ pub(crate) fn run_together<A, B, T, S, R, W, E>(
     operands: &Inputs<'_, B>,
     inputs: &mut [LineReader<S, R>],
     out: W,
-    messages: Messages<E>,
+    mut messages: Messages<E>,
 ) -> Report<W, E>
 where
     A: Allocator + Copy,
@@ -129,7 +128,6 @@ where
         (words_view operands.now.names.items) (positions operands.now.order.items))
         inputs.old inputs.new (sinks (W.state out) messages) (outcome W.state E.state result) store.old store.new }
 {
-    let mut messages = messages;
     let order: &[Input] = &operands.order;
     let names: &[&str] = &operands.names;
     if report_unopened(tool.name(), order, names, inputs, &mut messages) {
@@ -201,14 +199,13 @@ fn end_run<A: Allocator + Copy, W: Sink, E: Sink>(
     names: &[&str],
     run_result: Result<Completion, FlowFault>,
     store: &Store<A>,
-    out: Out<W>,
-    messages: Messages<E>,
+    mut out: Out<W>,
+    mut messages: Messages<E>,
 ) -> Report<W, E>
     requires { HasIndexBelow (length names.now + 1) run_result }
     ensures { EndRunPost tool.now (words_view names.now) out messages run_result store.now
         (outcome W.state E.state result) }
 {
-    let (mut out, mut messages) = (out, messages);
     let final_result = finish(&mut out, run_result);
     let status = say_final_message(tool, names, final_result, &mut messages);
     report_of(store, status, out, messages)
