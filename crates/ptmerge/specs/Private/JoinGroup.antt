@@ -115,11 +115,6 @@ ReadGroupLinePost keep key cmp old new was is before after out end (Err fault) =
     ((fault ≡ Write) × WriteFaultPost was is before after out)
     ⊎ ((out.write_failed ≡ false) × ReadGroupLineErrPost keep key cmp old new was is before after end fault)
 
--- The slots from `from` to before `end` exist, and their lines have the key `k`.
-pub record SlotsHaveKey (key : Key) (store : Slots) (from end : ℕ) (k : List ℕ) : Type 0 where
-  pub within : end ≤ length store.lines
-  pub keyed : (slot : ℕ) → from ≤ slot → slot < end → key (line store slot) ≡ k
-
 -- A precondition of the steps of `join`: the keys are the join fields, and no write to the output has failed.
 pub record JoinStepPre (job : Join) (key : Side → Key) (out : Output) : Type 0 where
   pub keys : (side : Side) (line : List ℕ) → key side line ≡ join_key job side line

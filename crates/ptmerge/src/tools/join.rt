@@ -8,10 +8,11 @@ ghost use Rattle.ptlangs.specs.Jobs.{join_job};
 ghost use Rattle.ptlines.specs.Calls.Outputs.{PushEffect};
 ghost use Rattle.ptlines.specs.Calls.Slots.{line};
 ghost use Rattle.ptlines.specs.Text.{unlines};
-ghost use Rattle.ptmerge.specs.Private.JoinGroup.{SlotsHaveKey, IsGroup, JoinStepPre, JoinLinePre, group_end_slot};
+ghost use Rattle.ptmerge.specs.Private.JoinGroup.{IsGroup, JoinStepPre, JoinLinePre, group_end_slot};
 ghost use Rattle.ptmerge.specs.Private.JoinGroup.{group_first_slot, group};
 ghost use Rattle.ptmerge.specs.Private.MergeCall.{MergeRunPre};
 ghost use Rattle.ptmerge.specs.Calls.MergeCall.{MergePost, MergePre, merge_state};
+ghost use Rattle.ptmerge.specs.Calls.MergeSteps.{AreValidCursors};
 ghost use Rattle.ptmerge.specs.declared.key_order.Side.{Side as SideType};
 ghost use Rattle.ptmerge.specs.Private.Join.{unpaired_entry};
 ghost use Rattle.ptmerge.specs.Calls.Join.{join_with, join_key, join_tool};
@@ -20,6 +21,7 @@ ghost use Rattle.ptmerge.specs.Private.WriteAndAdvance.{WriteThenAdvancePost, Ad
 ghost use Rattle.ptmerge.specs.Private.Write.{WriteBytesPost};
 ghost use Rattle.ptmerge.specs.Calls.Sides.{both};
 ghost use Rattle.ptmerge.specs.declared.key_order.Side.TheVariants as sides;
+ghost use Rattle.ptmerge.specs.declared.merging.cursor.CursorStatus.TheVariants as status_is;
 
 mod field_keys;
 mod fields;
@@ -37,7 +39,7 @@ use crate::merging::four_slots::clear_four_slots;
 use crate::merging::{Merge, Step};
 use crate::tools::join::field_keys::FieldKeys;
 use crate::tools::join::key_group::{clear_group, group_slots, read_group_line};
-use crate::tools::join::output::{is_unchanged, write_alone, write_pair};
+use crate::tools::join::output::{Pair, is_unchanged, write_alone, write_pair};
 use ptlangs::jobs::JoinJob;
 use ptlines::{LineReader, Out, Sink, Source, Store, WriteFault};
 use std::alloc::Allocator;
@@ -66,32 +68,40 @@ fn write_unpaired_entry<B: Allocator, W: Sink>(
     write_alone(job, side, key, line, terminator, out)
 }
 
-// Writes the output line of `line` with each line of the group, which is in the slots from `from` to before `end`.
-// Not inlined, so that the loop of the merge stays short.
+// Writes the output lines of the first input's current line with each line of the group. Not inlined, so that the loop
+// of the merge stays short.
 #[inline(never)]
 #[tactic(auto, using(crate::proofs::JoinLemmas::Group::pair_steps))]
-fn write_pair_entries<A: Allocator + Copy, B: Allocator, W: Sink>(
+fn write_pair_entries<K: KeyOrder, A: Allocator + Copy, B: Allocator, W: Sink>(
+    merge: &Merge<K>,
     job: &JoinJob<B>,
-    key: &[u8],
-    line: &[u8],
-    from: usize,
     end: usize,
     store: &Store<A>,
     terminator: u8,
     out: &mut Out<W>,
 ) -> Result<(), WriteFault>
-    requires line { join_key (join_job job.now) sides.First line.now ≡ key.now }
-    requires group { SlotsHaveKey (join_key (join_job job.now) sides.Second) store.now from end key.now }
-    ensures { let pairs = pair_entries (join_job job.now) key.now (line.now ∷ []) (group store.now from end) in
+    requires valid_cursors { AreValidCursors (K.key_of merge.now.order) merge.now.first merge.now.second store.now }
+    requires status_is { merge.now.first.status ≡ status_is.Head }
+    requires keys { (line : List ℕ) → K.key_of merge.now.order sides.First line
+        ≡ join_key (join_job job.now) sides.First line }
+    requires group { let key = K.key_of merge.now.order sides.First (line store.now merge.now.first.current_slot) in
+        IsGroup (join_key (join_job job.now) sides.Second) merge.now.second store.now end key }
+    ensures { let current = line store.now merge.now.first.current_slot in
+        let key = K.key_of merge.now.order sides.First current in
+        let lines = group store.now (group_first_slot merge.now.second end) (group_end_slot merge.now.second end) in
+        let pairs = pair_entries (join_job job.now) key (current ∷ []) lines in
         WriteBytesPost out.old out.new (unlines terminator pairs) result }
 {
     if !job.pairs {
         return Ok(());
     }
-    let begins = is_unchanged(job, First, line);
-    for slot in from..end {
-        let other = store.line(slot);
-        write_pair(job, key, line, begins, other, terminator, out)?;
+    let key = merge.key(First, store);
+    let one = merge.head(First, store);
+    let begins = is_unchanged(job, First, one);
+    let slots = group_slots(merge, end);
+    for slot in slots.start..slots.end {
+        let two = store.line(slot);
+        write_pair(job, Pair { key, one, two }, begins, terminator, out)?;
     }
     Ok(())
 }
@@ -146,10 +156,7 @@ fn write_pairs<K: KeyOrder, A: Allocator + Copy, B: Allocator, S: Source, R: Sou
         merge.new.first merge.new.second reader.old reader.new store.old store.new out.new result }
     ensures order { merge.new.order ≡ merge.old.order }
 {
-    let key = merge.key(First, store);
-    let line = merge.head(First, store);
-    let (from, to) = group_slots(merge, end);
-    write_pair_entries(job, key, line, from, to, store, reader.terminator(), out)?;
+    write_pair_entries(merge, job, end, store, reader.terminator(), out)?;
     merge.write_out_and_advance(First, reader, store, out)
 }
 

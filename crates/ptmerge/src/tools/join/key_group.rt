@@ -13,6 +13,7 @@ use crate::key_order::{KeyOrder, Side};
 use crate::merging::Merge;
 use ptlines::{LineFault, LineReader, Out, Sink, Source, Store};
 use std::alloc::Allocator;
+use std::ops::Range;
 
 // Adds the slot `slot` if it is missing, and returns the number after it. All slots below it must exist.
 fn ensure_slot<A: Allocator + Copy>(store: &mut Store<A>, slot: usize) -> Result<usize, LineFault>
@@ -79,17 +80,18 @@ pub(crate) fn read_group_line<K: KeyOrder, A: Allocator + Copy, S: Source, R: So
     }
 }
 
-// Returns the first slot of the group and the slot after its last one. The copied lines, if any, end before slot `end`.
+// Returns the slots of the group. The copied lines, if any, end before slot `end`.
 #[inline(always)]
-pub(crate) fn group_slots<K: KeyOrder>(merge: &Merge<K>, end: usize) -> (usize, usize)
+pub(crate) fn group_slots<K: KeyOrder>(merge: &Merge<K>, end: usize) -> Range<usize>
     requires { merge.now.second.previous_slot < 4 }
-    ensures { (result.0 ≡ group_first_slot merge.now.second end) × (result.1 ≡ group_end_slot merge.now.second end) }
+    ensures first { result.start ≡ group_first_slot merge.now.second end }
+    ensures last { result.end ≡ group_end_slot merge.now.second end }
 {
     if end == 4 {
         let only = merge.previous_slot_of(Side::Second);
-        return (only, only + 1);
+        return only..only + 1;
     }
-    (4, end)
+    4..end
 }
 
 // Empties the slots of the group.

@@ -280,34 +280,39 @@ pub(crate) fn is_unchanged<A: Allocator>(job: &JoinJob<A>, side: Side, line: &[u
     job.list.is_none() && is_canonical(job.sep, number, line)
 }
 
-// Writes the output line of a pair of lines, whose join field is `key`, and its terminator. If both lines are canonical,
-// they are not split: the first line is written, and after it the second one without its join field. `begins` is true
-// if the first line is.
+// A line of each input, and their join field.
+#[derive(Clone, Copy)]
+pub(crate) struct Pair<'a> {
+    pub key: &'a [u8],
+    pub one: &'a [u8],
+    pub two: &'a [u8],
+}
+
+// Writes the output line of a pair, and its terminator. If both lines are canonical, they are not split: the first line
+// is written, and after it the second one without its join field. `begins` is true if the first line is.
 #[inline(always)]
 pub(crate) fn write_pair<'a, A: Allocator, W: Sink>(
     job: &'a JoinJob<A>,
-    key: &'a [u8],
-    one: &'a [u8],
+    pair: Pair<'a>,
     begins: bool,
-    two: &'a [u8],
     terminator: u8,
     out: &mut Out<W>,
 ) -> Result<(), WriteFault>
-    requires one { join_key (join_job job.now) First one.now ≡ key.now }
-    requires begins { begins ≡ true → IsUnchanged (join_job job.now) First one.now }
-    requires two { join_key (join_job job.now) Second two.now ≡ key.now }
+    requires one { join_key (join_job job.now) First pair.one.now ≡ pair.key.now }
+    requires begins { begins ≡ true → IsUnchanged (join_job job.now) First pair.one.now }
+    requires two { join_key (join_job job.now) Second pair.two.now ≡ pair.key.now }
     ensures { let fields = join_fields (join_job job.now).separator in
-        let bytes = entry (join_job job.now) key.now (fields one.now) (fields two.now) in
+        let bytes = entry (join_job job.now) pair.entry.key.now (fields pair.entry.one.now) (fields pair.entry.two.now) in
         PushPost out.old out.new (bytes ++ terminator ∷ []) result }
 {
-    if begins && is_canonical(job.sep, job.field[1], two) {
-        return out.push_line(one, &two[key.len()..], &[terminator]);
+    if begins && is_canonical(job.sep, job.field[1], pair.two) {
+        return out.push_line(pair.one, &pair.two[pair.key.len()..], &[terminator]);
     }
     let entry = Entry {
         job,
-        key,
-        one: Some(one),
-        two: Some(two),
+        key: pair.key,
+        one: Some(pair.one),
+        two: Some(pair.two),
     };
     write_entry(&entry, terminator, out)
 }

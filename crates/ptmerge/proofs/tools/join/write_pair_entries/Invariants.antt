@@ -8,7 +8,8 @@ use proofs.tools.join.write_pair_entries.Given as goal
 abbrev pub invariant-loop-slot : goal.invariant-loop-slot
 invariant-loop-slot g l = record {
   amid : PartialWrite l.fn.out l.out
-      (unlines l.terminator (pair_entries (join_job l.job) l.key (l.line ∷ []) (group l.store l.from l.end)))
-      (unlines l.terminator (map (pair_of (join_job l.job) l.key l.line) (group l.store l.slot l.end)));
-  from : l.from ≤ l.slot;
+      (unlines l.terminator
+      (pair_entries (join_job l.job) l.key (l.one ∷ []) (group l.store l.initial.slot l.slot-end)))
+      (unlines l.terminator (map (pair_of (join_job l.job) l.key l.one) (group l.store l.slot l.slot-end)));
+  from : l.initial.slot ≤ l.slot;
 }
