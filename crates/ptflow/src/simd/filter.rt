@@ -90,7 +90,7 @@ fn filter_tail(
     pairs: Pairs,
     start: usize,
     into: &mut PaddedBlock,
-    count: usize,
+    mut count: usize,
 ) -> usize
     requires { FilterPre pairs.bytes.now start count }
     ensures kept { take result into.new
@@ -98,7 +98,6 @@ fn filter_tail(
         ++ kept_bytes (set_has by.entry.set) (drop start pairs.entry.before.now) (drop start pairs.entry.bytes.now) }
     ensures end { result + start ≤ count + length pairs.entry.bytes.now }
 {
-    let mut count = count;
     for at in start..pairs.bytes.len() {
         let byte = pairs.bytes[at];
         let removed = (pairs.before[at] == byte) & by.set.contains(byte);
@@ -111,14 +110,13 @@ fn filter_tail(
 // Appends the bytes that are kept, 64 at a time. Returns the new count. (It is inlined, since bytes that are compared
 // with themselves need no comparison.)
 #[inline(always)]
-fn filter_pairs(by: Filter, pairs: Pairs, into: &mut PaddedBlock, count: usize) -> usize
+fn filter_pairs(by: Filter, pairs: Pairs, into: &mut PaddedBlock, mut count: usize) -> usize
     requires { FilterPre pairs.bytes.now 0 count }
     ensures kept { take result into.new
         ≡ take count into.old ++ kept_bytes (set_has by.entry.set) pairs.entry.before.now pairs.entry.bytes.now }
     ensures end { result ≤ count + length pairs.entry.bytes.now }
 {
     let mut at = 0;
-    let mut count = count;
     while pairs.bytes.len() - at >= 64 {
         count = filter64(by, pairs, at, into, count);
         at += 64;

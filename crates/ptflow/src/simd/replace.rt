@@ -128,12 +128,11 @@ impl Cycle {
     // Like `replace`, for all chunks of 64 bytes. Returns the index of the next byte of the cycle, and how many bytes
     // were copied.
     #[inline(always)]
-    fn replace_chunks(&self, index: usize, from: &[u8], to: &mut [u8]) -> (usize, usize)
+    fn replace_chunks(&self, mut index: usize, from: &[u8], to: &mut [u8]) -> (usize, usize)
         requires index { index < self.now.len }
         requires same { length to.old ≡ length from.now }
         ensures { IsReplacedTo self.now index result.0 result.1 from.now to.new }
     {
-        let mut index = index;
         let mut at = 0;
         while from.len() - at >= 64 {
             index = self.replace_chunk(index, from, at, to);

@@ -48,7 +48,7 @@ fn halve<const N: usize>(found: [u8x16; N], count: usize, rows: u8x16) -> [u8x16
 
 // In each lane, what was found in the row that `rows` has there.
 #[inline(always)]
-fn select_rows<const N: usize>(found: [u8x16; N], rows: u8x16) -> u8x16
+fn select_rows<const N: usize>(found: [u8x16; N], mut rows: u8x16) -> u8x16
     requires some { 0 < N }
     requires lanes { All (λ v. length v ≡ 16) found }
     ensures lanes { length result ≡ 16 }
@@ -56,7 +56,6 @@ fn select_rows<const N: usize>(found: [u8x16; N], rows: u8x16) -> u8x16
         → slice_index result lane ≡ lane_of found.entry rows lane }
 {
     let mut left = found;
-    let mut rows = rows;
     let mut count = N;
     while count > 1 {
         left = halve(left, count, rows);

@@ -80,7 +80,7 @@ fn fill_cell<A: Allocator + Copy, S: Source, R: Source, W: Sink>(
 // and copied from there. Once a line does not fit, it and those of all further columns stay in their slots.
 fn fill_row<A: Allocator + Copy, S: Source, R: Source, W: Sink>(
     row: RowFormat,
-    begun: BegunRow,
+    mut begun: BegunRow,
     readers: &mut [LineReader<S, R>],
     into: &mut PaddedBlock,
     store: &mut Store<A>,
@@ -95,7 +95,6 @@ fn fill_row<A: Allocator + Copy, S: Source, R: Source, W: Sink>(
     ensures wrote { PushEffect out.old out.new [] }
     ensures write_failed { out.new.write_failed ≡ is_write_fault result }
 {
-    let mut begun = begun;
     let mut column = begun.count;
     'cells: while column < row.cells.len() {
         let input = row.cells[column];

@@ -110,7 +110,7 @@ pub(crate) fn copy_columns<S: Source, R: Source>(
     row: RowFormat,
     readers: &mut [LineReader<S, R>],
     into: &mut PaddedBlock,
-    begun: BegunRow,
+    mut begun: BegunRow,
 ) -> BegunRow
     requires readable { BufferedRowsPre (shape_of row) readers.old }
     requires within { begun.count ≤ length row.cells.now }
@@ -118,7 +118,6 @@ pub(crate) fn copy_columns<S: Source, R: Source>(
         (begun_in readers.new result into.new) }
     ensures within { (result.count ≤ length row.entry.cells.now) × (begun.end ≤ result.end) }
 {
-    let mut begun = begun;
     let mut index = begun.count % row.delims.len();
     'cells: while begun.count < row.cells.len() {
         let reader = &mut readers[row.cells[begun.count]];
@@ -146,7 +145,7 @@ fn copy_segments<S: Source, R: Source>(
     segments: &[Segment],
     readers: &mut [LineReader<S, R>],
     into: &mut PaddedBlock,
-    begun: BegunRow,
+    mut begun: BegunRow,
 ) -> BegunRow
     requires readable { BufferedRowsPre (shape_of row) readers.old }
     requires segments { AreSegments (shape_of row) readers.old begun.count segments.now }
@@ -155,7 +154,6 @@ fn copy_segments<S: Source, R: Source>(
         (begun_in readers.new result into.new) }
     ensures within { (result.count ≤ length row.entry.cells.now) × (begun.end ≤ result.end) }
 {
-    let mut begun = begun;
     let mut rest = segments;
     'segments: while let [segment, tail @ ..] = rest {
         let reader = &mut readers[segment.input];

@@ -53,18 +53,16 @@ impl<'a> SerialFormat<'a> {
     // this index on. Returns the offset after the copy, and the index of the next delimiter.
     fn copy_cells_slow(
         &self,
-        index: usize,
+        mut index: usize,
         bytes: &[u8],
         into: &mut PaddedBlock,
-        at: usize,
+        mut at: usize,
     ) -> (usize, usize)
         requires { CopyCellsPre self.now index bytes.now at }
         ensures copied { CopyCellsPost self.now index bytes.now (take at into.old) result.1 (take result.0 into.new) }
         ensures size_bound { result.0 ≤ at + length bytes.now }
     {
-        let mut index = index;
         let mut rest = bytes;
-        let mut at = at;
         'pieces: while let Some(count) = find_byte(self.terminator, rest) {
             copy_short(rest, 0, count, into, at);
             at = copy_option(self.delims[index], into, at + count);
