@@ -75,6 +75,17 @@ impl<A: Allocator + Copy> Slot<A> {
         self.size = size;
     }
 
+    // Replaces the line by one of fewer than 64 bytes, for which any buffer is long enough.
+    #[inline(always)]
+    pub(crate) fn set_short(&mut self, bytes: &[u8])
+        requires { length bytes.now < 64 }
+        ensures line { self.new.line ≡ bytes.now }
+        ensures buffer { self.new.buffer_size ≡ self.old.buffer_size }
+    {
+        self.buffer[0..bytes.len()].copy_from_slice(bytes);
+        self.size = bytes.len();
+    }
+
     // Appends bytes to the line. The buffer grows only if it has to. If memory cannot be allocated, nothing changes.
     pub(crate) fn append(&mut self, bytes: &[u8]) -> Result<(), AllocError>
         ensures ok { OnOk result (self.new.line ≡ self.old.line ++ bytes.now) }

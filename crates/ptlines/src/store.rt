@@ -173,6 +173,18 @@ impl<A: Allocator + Copy> Store<A> {
         }
     }
 
+    /// Sets a slot to a line of fewer than 64 bytes. No memory is needed for that.
+    #[inline(always)]
+    pub fn set_short(&mut self, slot: usize, bytes: &[u8])
+        requires { (slot < length self.old.lines) × (length bytes.now < 64) }
+        ensures { self.new ≡ with_line self.old slot bytes.now }
+    {
+        let was = self.slots[slot].size();
+        self.slots[slot].set_short(bytes);
+        self.byte_count = self.byte_count - was as u128 + bytes.len() as u128;
+        self.peak = self.peak.max(self.byte_count);
+    }
+
     // Appends bytes to those of a slot. If memory cannot be allocated, the store is denied, and nothing else changes.
     pub(crate) fn append(&mut self, slot: usize, bytes: &[u8]) -> Result<(), LineFault>
         requires { slot < length self.old.lines }
