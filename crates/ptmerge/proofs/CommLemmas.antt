@@ -11,6 +11,8 @@ use proofs.MergeLemmas.{lag_invariant_starts, write_least_run, all_keys, at_curr
 use proofs.MergeLemmas.{IsLineByLine}
 use Rattle.ptmerge.specs.Calls.Comm.{comm_with}
 use Rattle.ptmerge.specs.Comm.{entries, column_entries, tab_if_shown}
+use Rattle.ptmerge.specs.Private.BlockLines.{IsColumn, lines_in}
+use Rattle.ptmerge.specs.declared.tools.comm.block_lines.Column.{Column}
 
 -- ---- each line adds one entry
 
@@ -18,15 +20,15 @@ pub no_entries : (hidden : Bool) (tabs line : List ℕ) → column_entries hidde
 no_entries = grind arith
 
 -- whether the column of a line of one input alone is hidden
-abbrev hidden_of : Comm → Side → Bool
+abbrev pub hidden_of : Comm → Side → Bool
 hidden_of job First = job.hide1
 hidden_of job Second = job.hide2
 
-abbrev tabs_of : Comm → Side → List ℕ
+abbrev pub tabs_of : Comm → Side → List ℕ
 tabs_of job First = []
 tabs_of job Second = tab_if_shown job.hide1 ++ []
 
-entries_both : (job : Comm) (x : List ℕ) (n k : ℕ)
+pub entries_both : (job : Comm) (x : List ℕ) (n k : ℕ)
     → entries job x (suc n) (suc k) ≡ entries job x 1 1 ++ entries job x n k
 entries_both = grind (arith, no_entries)
 
@@ -34,11 +36,11 @@ module _ (job : Comm) (cmp : Cmp) (key : Side → Key) where
   pub is_line_by_line : IsLineByLine (comm_with job cmp key)
   is_line_by_line = grind (arith, no_entries, append-nil)
 
-  entries_alone : (s : Side) (x : List ℕ) → key s x ≡ x → entries_by_key (comm_with job cmp key) all_keys
+  pub entries_alone : (s : Side) (x : List ℕ) → key s x ≡ x → entries_by_key (comm_with job cmp key) all_keys
       (alone s x) ≡ column_entries (hidden_of job s) (tabs_of job s) 1 x
   entries_alone = grind (arith, same_bytes, append-nil)
 
-  entries_of_pair : IsKeyOrder cmp → (x y : List ℕ) → key First x ≡ x → key Second y ≡ key First x
+  pub entries_of_pair : IsKeyOrder cmp → (x y : List ℕ) → key First x ≡ x → key Second y ≡ key First x
       → entries_by_key (comm_with job cmp key) all_keys (both (x ∷ []) (y ∷ [])) ≡ column_entries job.hide3
       (tab_if_shown job.hide1 ++ tab_if_shown job.hide2) 1 x
   entries_of_pair = grind (arith, same_bytes, append-nil)
@@ -75,11 +77,12 @@ module _ {job : Comm} {cmp : Cmp} {key : Side → Key} {old now : MergeState} {o
       AdvanceOkPost key cmp s one two one2 two2 (now.reader s) reader now.store after new
 
   module _ {s : Side} (step : HasOnlyLeastKey cmp key (both one two) now.store s) where
-    module _ {new : Output} {tabs : List ℕ} (led : tabs ≡ tabs_of job s) (pushed : PushEffect now.out new
-        (unlines (now.reader s).terminator (column_entries (hidden_of job s) tabs 1 (head s)))) where
+    module _ {new : Output} {column : Column} (at : IsColumn column (hidden_of job s) (tabs_of job s))
+        (pushed : PushEffect now.out new (unlines (now.reader s).terminator (lines_in column (head s)))) where
       wrote_line : PushEffect now.out new (unlines (now.reader s).terminator (entries_by_key tool all_keys
           (alone s (head s))))
-      wrote_line = rw (entries_alone job cmp key s (head s) (whole_line_keys s _), ← led) pushed
+      wrote_line =
+          rw (entries_alone job cmp key s (head s) (whole_line_keys s _), ← at.hidden_is, ← at.tabs_are) pushed
 
       pub alone_continues : {one2 two2 : Sorted} {reader : Reader} {after : Slots}
           → Advances s one2 two2 reader after new
@@ -121,9 +124,9 @@ module _ {job : Comm} {cmp : Cmp} {key : Side → Key} {old now : MergeState} {o
         (elim [ First ↦ h1.all | Second ↦ h2.all ]) (w.alone.none (key First x)) (λ r c. entries_both job _ _ _)
         between.clean merge_invariant wrote
 
-    module _ {mid : Output} {tabs : List ℕ} (led : tabs ≡ tab_if_shown job.hide1 ++ tab_if_shown job.hide2)
-        (pushed : PushEffect now.out mid (unlines (now.reader First).terminator
-        (column_entries job.hide3 tabs 1 (head First)))) where
+    module _ {mid : Output} {column : Column}
+        (at : IsColumn column job.hide3 (tab_if_shown job.hide1 ++ tab_if_shown job.hide2))
+        (pushed : PushEffect now.out mid (unlines (now.reader First).terminator (lines_in column (head First)))) where
       wrote_pair : PushEffect now.out mid
           (unlines job.terminator (entries_by_key tool all_keys (both (head First ∷ []) (head Second ∷ []))))
       wrote_pair = grind (arith, entries_of_pair)

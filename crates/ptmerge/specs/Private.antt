@@ -1,9 +1,11 @@
 -- Definitions that only private functions and proofs use.
+pub mod BlockLines
 pub mod Join
 pub mod JoinFields
 pub mod JoinGroup
 pub mod MergeCall
 pub mod MergeSlots
 pub mod OrderLaws
+pub mod Passed
 pub mod Write
 pub mod WriteAndAdvance

@@ -2,7 +2,7 @@
 //!
 //! `cursor` is one input of the merge, with its order check; `four_slots` manages the store slots that both inputs use.
 
-ghost use Rattle.std.specs.Prelude.{◌≡◌, None, false, [], OnOk, IfOk, IfErr};
+ghost use Rattle.std.specs.Prelude.{◌≡◌, None, true, false, [], OnOk, IfOk, IfErr};
 ghost use Rattle.std.specs.Ordering.{is_gt};
 ghost use Rattle.ptlines.specs.Calls.Outputs.{PushEffect};
 ghost use Rattle.ptlines.specs.Calls.Slots.{line};
@@ -13,6 +13,8 @@ ghost use Rattle.ptmerge.specs.Calls.Sides.{other};
 ghost use Rattle.ptmerge.specs.Calls.MergeSteps.{merge_inputs, AreValidCursors, IsReaderOf, StepPost, StartOkPost};
 ghost use Rattle.ptmerge.specs.Calls.MergeSteps.{StartErrPost};
 ghost use Rattle.ptmerge.specs.Calls.MergeSteps.{previous_key};
+ghost use Rattle.ptmerge.specs.Private.Passed.{CanResume, IsResumed};
+ghost use Rattle.ptmerge.specs.declared.key_order.Side.{Side as SideType};
 
 pub(crate) mod cursor;
 pub(crate) mod four_slots;
@@ -21,7 +23,7 @@ use crate::faults::MergeFault;
 use crate::key_order::Side::{First, Second};
 use crate::key_order::{KeyOrder, Side};
 use crate::merging::cursor::CursorStatus::{Disorder, Ended, Head};
-use crate::merging::cursor::Sorted;
+use crate::merging::cursor::{Reached, Sorted};
 use crate::merging::four_slots::ensure_four_slots;
 use ptlines::{LineReader, Out, Sink, Source, Store};
 use std::alloc::Allocator;
@@ -168,6 +170,53 @@ impl<K: KeyOrder> Merge<K> {
         match side {
             Side::First => self.first.next(&self.order, side, reader, store),
             Side::Second => self.second.next(&self.order, side, reader, store),
+        }
+    }
+
+    // Returns the order of the keys.
+    #[inline(always)]
+    pub(crate) fn order(&self) -> &K
+        ensures { result.now ≡ self.now.order }
+    {
+        &self.order
+    }
+
+    // Checks whether both inputs are at lines of fewer than 64 bytes.
+    #[inline(always)]
+    pub(crate) fn has_short_heads<A: Allocator + Copy>(&self, store: &Store<A>) -> bool
+        requires { AreValidCursors (K.key_of self.now.order) self.now.first self.now.second store.now }
+        ensures { result ≡ true → (side : SideType) → (both self.now.first self.now.second side).status ≡ status_is.Head }
+    {
+        match (self.first.status, self.second.status) {
+            (Head, Head) => {
+                self.head(First, store).len() < 64 && self.head(Second, store).len() < 64
+            }
+            _ => false,
+        }
+    }
+
+    // Consumes the lines of an input that were merged in its block, and makes the line reached its current line.
+    #[inline(always)]
+    pub(crate) fn resume<A: Allocator + Copy, S: Source, R: Source>(
+        &mut self,
+        side: Side,
+        at: Reached,
+        reader: &mut LineReader<S, R>,
+        store: &mut Store<A>,
+    )
+        requires valid_cursors { AreValidCursors (K.key_of self.old.order) self.old.first self.old.second store.old }
+        requires fits { CanResume at (both self.old.first self.old.second side) reader.old }
+        ensures resumes { let was = both self.old.first self.old.second side in
+            let is = both self.new.first self.new.second side in
+            IsResumed at was is reader.old reader.new store.old store.new }
+        ensures others { let was = both self.old.first self.old.second (other side) in
+            both self.new.first self.new.second (other side) ≡ was }
+        ensures order { self.new.order ≡ self.old.order }
+        ensures valid_cursors { AreValidCursors (K.key_of self.new.order) self.new.first self.new.second store.new }
+    {
+        match side {
+            Side::First => self.first.resume(&self.order, side, at, reader, store),
+            Side::Second => self.second.resume(&self.order, side, at, reader, store),
         }
     }
 

@@ -45,7 +45,7 @@ sorted_from_parts cmp key last [] ys r = (tt, r)
 sorted_from_parts cmp key last (x ∷ xs) ys (here, more) = grind (arith, sorted_from_parts cmp key _ xs ys more)
 
 module _ (cmp : Cmp) (o : IsKeyOrder cmp) (key : Key) where
-  from_key : (k : List ℕ) (ls : Lines) → IsSortedFrom cmp key (Some k) ls → EachKey (AtMost cmp k) key ls
+  pub from_key : (k : List ℕ) (ls : Lines) → IsSortedFrom cmp key (Some k) ls → EachKey (AtMost cmp k) key ls
   from_key k [] r = tt
   from_key k (x ∷ ls) (here, more) =
       (here, Each-weaker _ _ (λ y h. at_most_trans cmp o k (key x) y here h) _ (from_key (key x) ls more))

@@ -1,9 +1,10 @@
 //! One input of a merge: its current and previous line, and the check that its keys are in order.
 
-ghost use Rattle.std.specs.Prelude.{◌≡◌, length, if◌then◌else◌, OnOk};
+ghost use Rattle.std.specs.Prelude.{◌≡◌, ◌<◌, length, if◌then◌else◌, OnOk};
 ghost use Rattle.ptlines.specs.Calls.Readers.{IsSound};
 ghost use Rattle.ptmerge.specs.Calls.Cursor.{NextPost, initial_cursor};
 ghost use Rattle.ptmerge.specs.Calls.KeySpan.{IsValidCursor};
+ghost use Rattle.ptmerge.specs.Private.Passed.{CanResume, IsResumed};
 ghost use Rattle.ptmerge.specs.Calls.MergeSteps.{NextPre};
 
 use crate::faults::MergeFault;
@@ -33,6 +34,15 @@ pub struct Sorted {
     pub number: u64,
     pub status: CursorStatus,
     pub key: Span,
+}
+
+// How many lines of an input were passed in its block, the length of the line reached, and how many bytes of the block
+// follow it.
+#[derive(Clone, Copy)]
+pub struct Reached {
+    pub passed: usize,
+    pub size: usize,
+    pub left: usize,
 }
 
 // Returns the status at a line, counted from 1, that is not the first.
@@ -108,5 +118,32 @@ impl Sorted {
         self.status = status_at(self.number, ordering.is_gt());
         self.same = ordering.is_eq();
         Ok(())
+    }
+
+    // Consumes the lines that were merged in the block of the reader. The line reached, if it is in the block, is copied
+    // to the slot of the current line.
+    #[inline(always)]
+    pub fn resume<K: KeyOrder, A: Allocator + Copy, S: Source, R: Source>(
+        &mut self,
+        order: &K,
+        side: Side,
+        at: Reached,
+        reader: &mut LineReader<S, R>,
+        store: &mut Store<A>,
+    )
+        requires slot { self.old.current_slot < length store.old.lines }
+        requires fits { CanResume at self.old reader.old }
+        requires cursor_valid { IsValidCursor (K.key_of order.now side) self.old store.old }
+        ensures resumes { IsResumed at self.old self.new reader.old reader.new store.old store.new }
+        ensures cursor_valid { IsValidCursor (K.key_of order.now side) self.new store.new }
+    {
+        let used = reader.buffered().len() - at.left;
+        if at.passed > 0 {
+            let head = &reader.buffered()[used - 1 - at.size..used - 1];
+            store.set_short(self.current_slot, head);
+            self.number += at.passed as u64;
+            self.key = order.span(side, head);
+        }
+        reader.consume(used);
     }
 }

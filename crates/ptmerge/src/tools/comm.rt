@@ -1,46 +1,38 @@
 //! The engine of `comm`: each step of the merge writes one line, of one input or of both.
 
-ghost use Rattle.std.specs.Prelude.{◌≡◌, ◌++◌, ℕ, List, false};
+ghost use Rattle.std.specs.Prelude.{◌≡◌, ℕ, List, false};
 ghost use Rattle.ptlangs.specs.Jobs.{comm_job};
 ghost use Rattle.ptlines.specs.Calls.Outputs.{PushEffect};
 ghost use Rattle.ptlines.specs.Calls.Slots.{line};
 ghost use Rattle.ptlines.specs.Text.{unlines};
 ghost use Rattle.ptmerge.specs.Calls.Comm.{comm_with, comm_tool};
-ghost use Rattle.ptmerge.specs.Comm.{tab_if_shown, column_entries};
 ghost use Rattle.ptmerge.specs.Private.MergeCall.{MergeRunPre};
 ghost use Rattle.ptmerge.specs.Calls.MergeCall.{MergePost, MergePre, merge_state};
 ghost use Rattle.ptmerge.specs.Private.WriteAndAdvance.{WriteThenAdvancePost, AdvancePre};
-ghost use Rattle.ptmerge.specs.Calls.Sides.{both};
+ghost use Rattle.ptmerge.specs.Calls.Sides.{both, whole_line};
+ghost use Rattle.ptmerge.specs.Calls.MergeSteps.{AreValidCursors};
+ghost use Rattle.ptmerge.specs.Private.BlockLines.{lines_in};
+ghost use Rattle.ptmerge.specs.Private.Passed.{AreReady, BlocksPost};
 ghost use Rattle.ptmerge.specs.declared.key_order.Side.{Side as SideType};
+
+mod block_lines;
 
 use crate::faults::MergeFault;
 use crate::key_order::Side::{First, Second};
 use crate::key_order::{Descending, KeyOrder, Side, WholeLine};
 use crate::merging::four_slots::clear_four_slots;
 use crate::merging::{Merge, Step};
+use crate::tools::comm::block_lines::{BlockLine, Column, merge_blocks};
 use ptlangs::jobs::CommJob;
 use ptlines::{LineReader, Out, Sink, Source, Store};
 use std::alloc::Allocator;
 
-// Returns a tab for each of the first two columns that is shown.
-fn tabs(hide1: bool, hide2: bool) -> &'static [u8]
-    ensures { result.now ≡ tab_if_shown hide1 ++ tab_if_shown hide2 }
-{
-    match (hide1, hide2) {
-        (true, true) => b"",
-        (false, false) => b"\t\t",
-        _ => b"\t",
-    }
-}
-
-// Writes the current line of an input after the tabs of its column, unless the column is hidden. Then advances the
-// input.
+// Writes the current line of an input in its column. Then advances the input.
 #[inline(always)]
 fn write_head<K: KeyOrder, A: Allocator + Copy, S: Source, R: Source, W: Sink>(
     merge: &mut Merge<K>,
     side: Side,
-    hidden: bool,
-    tabs: &[u8],
+    column: Column,
     reader: &mut LineReader<S, R>,
     store: &mut Store<A>,
     out: &mut Out<W>,
@@ -49,16 +41,48 @@ fn write_head<K: KeyOrder, A: Allocator + Copy, S: Source, R: Source, W: Sink>(
         AdvancePre key side merge.old.first merge.old.second reader.old store.old }
     requires clean { out.old.write_failed ≡ false }
     ensures wrote { let current = line store.old (both merge.old.first merge.old.second side).current_slot in
-        PushEffect out.old out.new (unlines reader.old.terminator (column_entries hidden tabs.now 1 current)) }
+        PushEffect out.old out.new (unlines reader.old.terminator (lines_in column current)) }
     ensures advances { let key = K.key_of merge.old.order in
         WriteThenAdvancePost key (K.order merge.old.order) side merge.old.first merge.old.second
         merge.new.first merge.new.second reader.old reader.new store.old store.new out.new result }
     ensures order { merge.new.order ≡ merge.old.order }
 {
-    if !hidden {
-        out.push_line(tabs, merge.head(side, store), &[reader.terminator()])?;
-    }
+    column.write(merge.head(side, store), reader.terminator(), out)?;
     merge.write_out_and_advance(side, reader, store, out)
+}
+
+// Merges the lines of both blocks where they are, if both inputs are at lines of fewer than 64 bytes.
+#[inline(always)]
+fn merge_in_blocks<K: KeyOrder, A: Allocator + Copy, S: Source, R: Source, W: Sink>(
+    merge: &mut Merge<K>,
+    job: &CommJob,
+    first: &mut LineReader<S, R>,
+    second: &mut LineReader<S, R>,
+    store: &mut Store<A>,
+    out: &mut Out<W>,
+) -> Result<(), MergeFault>
+    requires valid_cursors { AreValidCursors (K.key_of merge.old.order) merge.old.first merge.old.second store.old }
+    requires ready { AreReady (comm_job job.now).terminator (both merge.old.first merge.old.second)
+        (both first.old second.old) out.old }
+    ensures merges { let tool = comm_with (comm_job job.now) (K.order merge.old.order) whole_line in
+        let was = merge_state first.old second.old out.old store.old in
+        let is = merge_state first.new second.new out.new store.new in
+        BlocksPost tool (both merge.old.first merge.old.second) (both merge.new.first merge.new.second) was is result }
+    ensures order { merge.new.order ≡ merge.old.order }
+    ensures valid_cursors { AreValidCursors (K.key_of merge.new.order) merge.new.first merge.new.second store.new }
+{
+    if !merge.has_short_heads(store) {
+        return Ok(());
+    }
+    let one = BlockLine::new(merge.head(First, store), first.buffered());
+    let two = BlockLine::new(merge.head(Second, store), second.buffered());
+    let run = merge_blocks(merge.order(), job, first.terminator(), one, two, out);
+    merge.resume(First, run.first, first, store);
+    merge.resume(Second, run.second, second, store);
+    if run.failed {
+        return Err(MergeFault::Write);
+    }
+    Ok(())
 }
 
 // Runs `comm` in an order of whole lines. The terminator of both readers is already set.
@@ -77,15 +101,17 @@ fn comm_with_order<K: KeyOrder, A: Allocator + Copy, S: Source, R: Source, W: Si
         MergePost tool was (merge_state first.new second.new out.new store.new) result }
 {
     let [hide1, hide2, hide3] = job.hide;
-    let tabs2 = tabs(hide1, true);
-    let tabs3 = tabs(hide1, hide2);
+    let alone1 = Column::new(hide1, true, true);
+    let alone2 = Column::new(hide2, hide1, true);
+    let common = Column::new(hide3, hide1, hide2);
     let mut merge = Merge::start(order, first, second, store)?;
     'steps: loop {
+        merge_in_blocks(&mut merge, job, first, second, store, out)?;
         match merge.step(store) {
-            Step::First => write_head(&mut merge, First, hide1, b"", first, store, out)?,
-            Step::Second => write_head(&mut merge, Second, hide2, tabs2, second, store, out)?,
+            Step::First => write_head(&mut merge, First, alone1, first, store, out)?,
+            Step::Second => write_head(&mut merge, Second, alone2, second, store, out)?,
             Step::Both => {
-                write_head(&mut merge, First, hide3, tabs3, first, store, out)?;
+                write_head(&mut merge, First, common, first, store, out)?;
                 merge.write_out_and_advance(Second, second, store, out)?;
             }
             Step::End => {

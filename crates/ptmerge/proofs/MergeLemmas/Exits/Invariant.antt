@@ -16,6 +16,7 @@ use specs.Private.OrderLaws.{reversed_same_bytes}
 use Rattle.ptlines.specs.Private.ByteOrder.{byte_cmp_equal}
 pub use Rattle.std.proofs.Common.{rules}
 use proofs.MergeLemmas.Exits.SlotLines.{put_each}
+pub use specs.Private.BlockLines.{AtMost, Each, EachKey, IsSortedFrom, is_disordered}
 pub use specs.MergeSpec.{MergeDisorder, is_past, earlier_disorder, insert_key, is_below}
 pub use specs.Calls.MergeSpec.{is_decided}
 use lemmas.Cmp.{back_total, nat_list_cmp_total, upto}
@@ -29,9 +30,6 @@ pub use Rattle.std.specs.declared.cmp.Ordering.{Ordering}
 pub record IsKeyOrder (cmp : Cmp) : Type 0 where
   pub total : IsTotalOrder cmp
   pub exact : (a b : List ℕ) → cmp a b ≡ Equal → a ≡ b
-
-abbrev pub AtMost : Cmp → List ℕ → List ℕ → Type 0
-AtMost cmp a b = is_gt (cmp a b) ≡ false
 
 -- y is greater than k
 abbrev pub Above : Cmp → List ℕ → List ℕ → Type 0
@@ -66,13 +64,6 @@ pub line_order : (descending : Bool) → IsKeyOrder (line_cmp descending)
 line_order = grind (arith, back_total, nat_list_cmp_total, reversed_same_bytes, byte_cmp_equal)
 
 -- ---- the least key
-
-abbrev pub Each : (List ℕ → Type 0) → Lines → Type 0
-Each P [] = Unit {0}
-Each P (x ∷ xs) = P x × Each P xs
-
-abbrev pub EachKey : (List ℕ → Type 0) → Key → Lines → Type 0
-EachKey P key xs = Each P (map key xs)
 
 pub Each-weaker : (P Q : List ℕ → Type 0) → ((x : List ℕ) → P x → Q x) → (xs : Lines) → Each P xs → Each Q xs
 Each-weaker P Q f [] e = tt
@@ -129,10 +120,6 @@ module _ (tool : MergeTool) (o : IsKeyOrder tool.cmp) where
 
 -- ---- lines in order
 
-abbrev pub is_disordered : Cmp → Option (List ℕ) → List ℕ → Bool
-is_disordered cmp None k = false
-is_disordered cmp (Some l) k = is_gt (cmp l k)
-
 -- after a line with the key `last`, if there is one
 abbrev pub sorted_after : Cmp → Key → Option (List ℕ) → Lines → Lines
 sorted_after cmp key last [] = []
@@ -164,11 +151,6 @@ by_length_is cmp key last n (x ∷ w) = search (rules, by_length_is cmp key (Som
 pub first_disorder_is : (cmp : Cmp) (key : Key) (ls : Lines)
     → first_disorder cmp key ls ≡ disorder_after cmp key None 0 ls
 first_disorder_is cmp key ls = grind (arith, sorted_prefix_is cmp key ls, by_length_is cmp key None 0 ls)
-
--- no line is out of order after the one before it; before the first there was the key `last`
-abbrev pub IsSortedFrom : Cmp → Key → Option (List ℕ) → Lines → Type 0
-IsSortedFrom cmp key last [] = Unit {0}
-IsSortedFrom cmp key last (x ∷ xs) = (is_disordered cmp last (key x) ≡ false) × IsSortedFrom cmp key (Some (key x)) xs
 
 sorted_from_whole : (cmp : Cmp) (key : Key) (last : Option (List ℕ)) (n : ℕ) (ls : Lines) → IsSortedFrom cmp key last ls
     → (sorted_after cmp key last ls ≡ ls) × (disorder_after cmp key last n ls ≡ None)

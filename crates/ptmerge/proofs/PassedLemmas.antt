@@ -1,0 +1,392 @@
+-- An input of a merge after lines that were passed in its block.
+use Rattle.ptmerge.proofs
+use proofs.Common.{◌≡◌, ℕ, ◌-◌, false, List, [], ◌∷◌, ◌++◌, refl, sym, ◌∙◌, ap, subst, arith, length, drop, append_assoc, Some}
+use proofs.Common.{unlines, unlines-append, IsLine, AreLines, Lines, Cmp, Key, Reader, inl, length-append, length_push}
+use proofs.Common.{usual, advance_ok_trans}
+use proofs.MergeLemmas.{IsSortedUpTo, IsSortedFrom, LinesRead, is_disordered, unlines_push}
+use proofs.Common.{◌+◌, ◌<◌, Side, MergeTool, Sorted, Slots, Head, line, inr, line_of_with_line, length-set}
+use proofs.MergeLemmas.{IsKeyOrder, Bound, AtLeast, SideInvariant, IsAtCurrentLine, at_current_line, reads_nothing}
+use proofs.MergeLemmas.{after_from, self_at_most, low_slot, GroupStore, Extends, group_store_line, side_extends, put_same}
+use proofs.Common.{◌≤◌, HasSlots, with_line, with_side, max_length}
+use Rattle.ptlines.specs.Calls.Readers.{IsSound}
+use Rattle.ptmerge.specs.Calls.MergeSteps.{AreValidCursors}
+use Rattle.ptmerge.specs.Private.BlockLines.{ArePassed, IsMoved, IsUnmoved, IsReached, HasFailed}
+use Rattle.ptmerge.specs.Private.Passed.{IsPassed, IsResumed, AreBlocksMerged, BlocksPost}
+use Rattle.ptmerge.specs.declared.merging.cursor.Reached.{Reached}
+use Rattle.ptmerge.specs.Calls.Comm.{comm_with}
+use Rattle.std.specs.List.{slice_range}
+use proofs.Common.{budget, length-drop, other, MergeState, merge_state, both, Comm, First, Second, Result, Err, MergeFault, MergePost}
+use proofs.Common.{Write, true, ⊎_elim, append-nil, Output, Ok, Bool, cond}
+use Rattle.ptmerge.specs.Calls.Sides.{whole_line}
+use proofs.MergeLemmas.{CursorsInvariant, IsOpenMerge, side_case, put_other, slots_apart, line_other, max_length-append}
+use proofs.MergeLemmas.{MergeInvariant, bounds_change, same_bound, reads_ahead, ReadFactsOf, passing_now, read_facts_current}
+use proofs.MergeLemmas.{iteration_fails, state_by_side, Kept, kept_order}
+use proofs.BlockLemmas.{at_heads, merged_on, least_written}
+use proofs.CommLemmas.{IterationInvariant}
+use Rattle.ptmerge.specs.declared.tools.comm.block_lines.BlockLine.{BlockLine}
+use Rattle.std.specs.Prelude.{take}
+use Rattle.ptlines.proofs.LineSearch.{advance_ok_take}
+use Rattle.ptlines.proofs.TextLaws.{AreLines_push}
+
+module _ (cmp : Cmp) (key : Key) where
+  sorted_one : {q : Lines} {k : List ℕ} (x : List ℕ) → IsSortedUpTo cmp key q (Some k)
+      → is_disordered cmp (Some k) (key x) ≡ false → IsSortedUpTo cmp key (q ++ x ∷ []) (Some (key x))
+  sorted_one = grind (arith, append_assoc, length_push)
+
+  pub sorted_on : (q : Lines) (k : List ℕ) (xs : Lines) (x : List ℕ) → IsSortedUpTo cmp key q (Some k)
+      → IsSortedFrom cmp key (Some k) (xs ++ x ∷ []) → IsSortedUpTo cmp key (q ++ (xs ++ x ∷ [])) (Some (key x))
+  sorted_on q k [] x s (h, _) = sorted_one x s h
+  sorted_on q k (y ∷ xs) x s (h, more) =
+      subst (λ l. IsSortedUpTo cmp key l (Some (key x))) (append_assoc q (y ∷ []) (xs ++ x ∷ []))
+      (sorted_on (q ++ y ∷ []) (key y) xs x (sorted_one y s h) more)
+
+front_of_two : (a rest : List ℕ) → take (length (a ++ rest) - length rest) (a ++ rest) ≡ a
+front_of_two = grind usual
+
+passed_bytes : (end : ℕ) (middle : Lines) (head rest : List ℕ)
+    → unlines end middle ++ (head ++ (end ∷ rest)) ≡ unlines end (middle ++ head ∷ []) ++ rest
+passed_bytes end middle head rest = rw (unlines_push end middle head) (simp append_assoc)
+
+pub lines_passed : {end : ℕ} {old was is : Reader} {ls : Lines} (middle : Lines) (head rest : List ℕ)
+    → LinesRead end old was ls → was.buffered ≡ unlines end middle ++ (head ++ (end ∷ rest)) → AreLines end middle
+    → IsLine end head → is ≡ record was { buffered = drop (length was.buffered - length rest) was.buffered }
+    → LinesRead end old is (ls ++ (middle ++ head ∷ []))
+lines_passed {end} {old} {was} {is} {ls} middle head rest c bytes free whole reader = record {
+  given = c.given ++ take (length was.buffered - length rest) was.buffered;
+  so_far = grind (
+    usual,
+    passed_bytes end middle head rest,
+    front_of_two (unlines end (middle ++ head ∷ [])) rest,
+    AreLines_push end middle head free whole,
+    unlines-append end ls (middle ++ head ∷ []),
+    bytes,
+  );
+  advance_ok = advance_ok_trans old was is _ _ c.advance_ok
+      (advance_ok_take was is _ c.advance_ok.fault (omega arith) reader);
+  terminator = grind arith;
+}
+
+-- one input is at its current line in the block, and the lines before it are processed
+module _ (tool : MergeTool) (o : IsKeyOrder tool.cmp) (s : Side) {old was is : Reader} {cursor next : Sorted}
+    {store after : Slots} {ls p : Lines} {b : Bound} (i : SideInvariant tool s old was cursor store ls p b)
+    (head : cursor.status ≡ Head) {first now : BlockLine} {q : Lines}
+    (at_head : first.head.now ≡ line store cursor.current_slot) (at_rest : first.rest.now ≡ was.buffered)
+    (m : IsMoved tool.terminator tool.cmp (tool.key s) first now q)
+    (reader : is ≡ record was { buffered = drop (length was.buffered - length now.rest.now) was.buffered })
+    (sound : IsSound is) (passed : IsPassed now.passed now.head.now cursor next store after) where
+  abbrev current : List ℕ
+  current = now.head.now
+
+  h : IsAtCurrentLine tool.cmp (tool.key s) cursor.number (line store cursor.current_slot) ls p b
+  h = at_current_line i head
+
+  pub all_lines : ls ++ (m.middle ++ current ∷ []) ≡ (p ++ q) ++ current ∷ []
+  all_lines = rw (h.all, m.lines, at_head) (simp append_assoc)
+
+  sorted_here : IsSortedUpTo tool.cmp (tool.key s) ((p ++ q) ++ current ∷ []) (Some (tool.key s current))
+  sorted_here = rw all_lines at (sorted_on tool.cmp (tool.key s) ls _ m.middle current h.sorted_up_to
+      (rw at_head at m.ordered))
+
+  pub side_moved : SideInvariant tool s old is next after ((p ++ q) ++ current ∷ []) (p ++ q)
+      (AtLeast (tool.key s current))
+  side_moved = record {
+    facts = record {
+      lines_read = rw all_lines at (lines_passed m.middle current now.rest.now i.lines_read (sym at_rest ∙ m.bytes)
+          m.whole.0 m.whole.1 reader);
+      reads = reads_nothing is;
+      line = tt;
+      sound = sound;
+      processed_nearly = inr (current, refl, refl);
+      processed_prefix = grind (arith, append_assoc, after_from, sorted_here, self_at_most);
+      nothing_follows = grind arith;
+    };
+    begun = inr (omega (arith, length_push (p ++ q) current));
+    number = omega (
+      arith,
+      ap (λ c. c.number) passed.cursor,
+      m.passed,
+      i.number,
+      ap length all_lines,
+      length-append ls (m.middle ++ current ∷ []),
+      length_push m.middle current,
+    );
+    status_is = grind (arith, line_of_with_line, low_slot s cursor i.slots, i.four, passed, sorted_here, length_push);
+    slots = grind (arith, passed, i.slots);
+    four = grind (arith, passed, length-set, i.four);
+  }
+
+-- the slots in the order in which the next line is read: the one of the current line is replaced
+abbrev exchange : Sorted → Sorted
+exchange cursor = record cursor { current_slot = cursor.previous_slot; previous_slot = cursor.current_slot }
+
+exchanged : (s : Side) (cursor : Sorted) → HasSlots s cursor → HasSlots s (exchange cursor)
+exchanged = grind arith
+
+-- the store holds the current line in place of the line before
+pub store_moved : {tool : MergeTool} {before store after : Slots} {ls : Side → Lines} {g : Lines} (s : Side)
+    (cursor : Sorted) → HasSlots s cursor → GroupStore tool before store ls g → (now_ls : Lines) → Extends (ls s) now_ls
+    → (x : List ℕ) → length x ≤ max_length now_ls → after ≡ with_line store cursor.current_slot x
+    → GroupStore tool before after (with_side s now_ls ls) g
+store_moved {ls = ls} s cursor slots keeps now_ls up x fits is =
+    group_store_line s (exchange cursor) (exchanged s cursor slots) x keeps (side_extends s ls up)
+    (rw (put_same s now_ls ls) fits) is
+
+put_back : {X : Type 0} (s : Side) (f : Side → X) (side : Side) → with_side s (f s) f side ≡ f side
+put_back s f = side_case _ s (put_same s _ f) (put_other s _ f)
+
+head_of_block : (end : ℕ) (bytes front head rest : List ℕ) → bytes ≡ front ++ (head ++ (end ∷ rest))
+    → slice_range bytes (length bytes - length rest - 1 - length head) (length bytes - length rest - 1) ≡ head
+head_of_block = grind usual
+
+nothing_used : (r is : Reader) (left : ℕ) → left ≡ length r.buffered
+    → is ≡ record r { buffered = drop (length r.buffered - left) r.buffered } → is ≡ r
+nothing_used = grind usual
+
+-- one input is at the line reached, and the other one stays where it was
+pub record HasPassed (tool : MergeTool) (old : MergeState) (s : Side) (apart next : Sorted) (was is : Reader)
+    (before after : Slots) (ls : Side → Lines) (p : Lines) (head : List ℕ) : Type 0 where
+  pub now_ls : Lines
+  pub side : SideInvariant tool s (old.reader s) is next after now_ls p (AtLeast (tool.key s head))
+  pub status_is : next.status ≡ Head
+  pub line_is : line after next.current_slot ≡ head
+  pub current : line after apart.current_slot ≡ line before apart.current_slot
+  pub previous : line after apart.previous_slot ≡ line before apart.previous_slot
+  pub keeps : GroupStore tool old.store after (with_side s now_ls ls) []
+  pub reads : budget is ≤ budget was
+
+module _ {tool : MergeTool} {old : MergeState} {w : IsOpenMerge tool old} {reader : Side → Reader}
+    {cursor : Side → Sorted} {store : Slots} {ls p : Side → Lines} {b : Side → Bound}
+    (a : CursorsInvariant w reader cursor store ls p b) (s : Side) (head : (cursor s).status ≡ Head)
+    {first now : BlockLine} {q : Lines} {reached : Reached} {next : Sorted} {is : Reader} {after : Slots}
+    (at_head : first.head.now ≡ line store (cursor s).current_slot) (at_rest : first.rest.now ≡ (reader s).buffered)
+    (passed : ArePassed tool.terminator tool.cmp (tool.key s) first now q) (reached_is : IsReached now reached)
+    (resumed : IsResumed reached (cursor s) next (reader s) is store after) where
+  abbrev Goal : Type 0
+  Goal = HasPassed tool old s (cursor (other s)) next (reader s) is store after ls (p s ++ q) now.head.now
+
+  reads_on : budget is ≤ budget (reader s)
+  reads_on = rw resumed.reader (omega (arith, length-drop (length (reader s).buffered - reached.left) (reader s).buffered))
+
+  by_unmoved : IsUnmoved first now q → Goal
+  by_unmoved u =
+      let none : reached.passed ≡ 0 = reached_is.passed ∙ u.passed in
+      let left : reached.left ≡ length (reader s).buffered =
+      reached_is.left ∙ ap (λ l. length l.rest.now) u.same ∙ ap length at_rest in
+      let same = nothing_used (reader s) is reached.left left resumed.reader in
+      let (cursor_is, store_is) = resumed.unmoved none in
+      let head_is : now.head.now ≡ line store (cursor s).current_slot = ap (λ l. l.head.now) u.same ∙ at_head in
+      record {
+        now_ls = ls s;
+        side = rw (same, cursor_is, store_is, u.none, append-nil (p s), head_is, ← (at_current_line (a.sides s) head).bound)
+            (a.sides s);
+        status_is = rw cursor_is head;
+        line_is = rw (cursor_is, store_is, head_is) refl;
+        current = rw store_is refl;
+        previous = rw store_is refl;
+        keeps = rw store_is
+            (subst (λ l. GroupStore tool old.store store l []) (λ i side. sym (put_back s ls side) i) a.keeps);
+        reads = reads_on;
+      }
+
+  by_moved : IsMoved tool.terminator tool.cmp (tool.key s) first now q → Goal
+  by_moved m =
+      let x = now.head.now in
+      let some : 0 < reached.passed = omega (arith, reached_is.passed, m.passed) in
+      let bytes = sym at_rest ∙ m.bytes in
+      let on : IsPassed now.passed x (cursor s) next store after =
+      rw (reached_is.left, reached_is.size, reached_is.passed, head_of_block _ _ _ _ _ bytes) at (resumed.moved some) in
+      let at_slot = low_slot s (cursor s) (a.sides s).slots in
+      let apart = slots_apart s (exchange (cursor s)) (cursor (other s))
+      (exchanged s (cursor s) (a.sides s).slots) (a.sides (other s)).slots in
+      let up : Extends (ls s) ((p s ++ q) ++ x ∷ []) = record {
+        more = m.middle ++ x ∷ [];
+        is = sym (all_lines tool w.o s (a.sides s) head at_head at_rest m (rw reached_is.left at resumed.reader) resumed.sound on);
+      } in
+      record {
+        now_ls = (p s ++ q) ++ x ∷ [];
+        side = side_moved tool w.o s (a.sides s) head at_head at_rest m (rw reached_is.left at resumed.reader) resumed.sound on;
+        status_is = ap (λ c. c.status) on.cursor ∙ head;
+        line_is = rw (on.cursor, on.store) (line_of_with_line store _ x (omega (arith, at_slot.current, (a.sides s).four)));
+        current = rw on.store (line_other store _ _ x apart.0);
+        previous = rw on.store (line_other store _ _ x apart.1);
+        keeps = store_moved s (cursor s) (a.sides s).slots a.keeps _ up x
+            (omega (arith, max_length-append (p s ++ q) (x ∷ []))) on.store;
+        reads = reads_on;
+      }
+
+  pub has_passed : Goal
+  has_passed = ⊎_elim by_unmoved by_moved passed
+
+  pub cursors_on : (n : Goal) → CursorsInvariant w (with_side s is reader) (with_side s next cursor) after
+      (with_side s n.now_ls ls) (with_side s (p s ++ q) p) (with_side s (AtLeast (tool.key s now.head.now)) b)
+  cursors_on n = record {
+    sides = side_case _ s (simp put_same n.side) (simp put_other
+        (grind (arith, a.sides (other s), n.current, n.previous, n.side.four)));
+    keeps = n.keeps;
+  }
+
+-- ---- the merge of two blocks, for `comm`
+
+module _ {job : Comm} {cmp : Cmp} {key : Side → Key} {old was : MergeState} {one two : Sorted}
+    (t : IterationInvariant job cmp key old was one two) where
+  open t use {w, whole_line_keys, loop_invariant, loop_invariant.{ls, p, b, sides, merge_invariant, cursors as before}, between}
+
+  abbrev tool : MergeTool
+  tool = comm_with job cmp key
+
+  module _ {first second : Reader} {out : Output} {after : Slots} {one2 two2 : Sorted}
+      {result : Result (Unit {0}) MergeFault} (m : AreBlocksMerged tool (both one two) (both one2 two2) was
+      (merge_state first second out after) result) where
+    open m use {run, post, post.{now, merged}}
+
+    abbrev q : Side → Lines
+    q = merged.q
+
+    step1 : HasPassed tool old First two one2 (was.reader First) first was.store m.mid ls (p First ++ q First)
+        (now First).head.now
+    step1 = has_passed before First (m.head First) (m.head_is First) (m.rest_is First) (merged.passed First)
+        (post.end.reached First) m.resumed1
+
+    half : CursorsInvariant w (with_side First first was.reader) (with_side First one2 (both one two)) m.mid
+        (with_side First step1.now_ls ls) (with_side First (p First ++ q First) p)
+        (with_side First (AtLeast (key First (now First).head.now)) b)
+    half = cursors_on before First (m.head First) (m.head_is First) (m.rest_is First) (merged.passed First)
+        (post.end.reached First) m.resumed1 step1
+
+    head2 : (m.old Second).head.now ≡ line m.mid two.current_slot
+    head2 = m.head_is Second ∙ sym step1.current
+
+    step2 : HasPassed tool old Second one2 two2 (was.reader Second) second m.mid after (with_side First step1.now_ls ls)
+        (p Second ++ q Second) (now Second).head.now
+    step2 = has_passed half Second (m.head Second) head2 (m.rest_is Second) (merged.passed Second)
+        (post.end.reached Second) m.resumed2
+
+    abbrev now_ls : Side → Lines
+    now_ls = both step1.now_ls step2.now_ls
+
+    abbrev done : Side → Lines
+    done side = p side ++ q side
+
+    whole : CursorsInvariant w (both first second) (both one2 two2) after now_ls done (at_heads tool w.o now)
+    whole =
+        let c = cursors_on half Second (m.head Second) head2 (m.rest_is Second) (merged.passed Second)
+        (post.end.reached Second) m.resumed2 step2 in
+        record { sides = elim [ First ↦ c.sides First | Second ↦ c.sides Second ]; keeps = c.keeps }
+
+    merged_all : MergeInvariant tool (at_heads tool w.o now) done old.out post.mid
+    merged_all = merged_on tool w.o (bounds_change
+        (λ side. rw ((at_current_line (sides side) (m.head side)).bound, m.head_is side) same_bound) merge_invariant)
+        between.clean merged
+
+    status_is : (side : Side) → (both one2 two2 side).status ≡ Head
+    status_is = elim [ First ↦ step1.status_is | Second ↦ step2.status_is ]
+
+    line_is : (side : Side) → line after (both one2 two2 side).current_slot ≡ (now side).head.now
+    line_is = elim [ First ↦ step2.current ∙ step1.line_is | Second ↦ step2.line_is ]
+
+    all_read : (side : Side) {f : Lines} → f ≡ (now side).head.now ∷ [] → done side ++ f ≡ now_ls side
+    all_read side is_head =
+        rw (is_head, ← line_is side) (sym (at_current_line (whole.sides side) (status_is side)).all)
+
+    pub merged_reads : reads_ahead (both first second) one2 two2 ≤ reads_ahead was.reader one two
+    merged_reads = rw (step1.status_is, step2.status_is, m.head First, m.head Second)
+        (omega (arith, step1.reads, step2.reads))
+
+    pub merged_goes_on : run.failed ≡ false → AreValidCursors key one2 two2 after
+        → IterationInvariant job cmp key old (merge_state first second out after) one2 two2
+    merged_goes_on none valid =
+        let same : out ≡ post.mid = rw none at post.ends in
+        record {
+          w = w;
+          whole_line_keys = whole_line_keys;
+          loop_invariant = record {
+            ls = now_ls;
+            p = done;
+            b = at_heads tool w.o now;
+            cursors = whole;
+            merge_invariant = subst (λ o. MergeInvariant tool (at_heads tool w.o now) done old.out o) (sym same) merged_all;
+          };
+          between = record {
+            valid_cursors = valid;
+            own_reader = elim [ First ↦ m.resumed1.own_reader | Second ↦ m.resumed2.own_reader ];
+            clean = rw same merged.clean;
+          };
+        }
+
+    pub merged_fails : run.failed ≡ true → MergePost tool old (merge_state first second out after) (Err Write)
+    merged_fails some =
+        let f : HasFailed tool now post.mid out = rw some at post.ends in
+        let (_, lag) = least_written job cmp key whole_line_keys w.o now f.least merged.clean merged_all f.wrote in
+        let rest : ReadFactsOf tool old (both first second) now_ls (λ side. done (other f.of) ++ f.f (other f.of))
+        (at_heads tool w.o now) (other f.of) (both first second (other f.of)) [] =
+        ⊎_elim
+        (λ h. rw (all_read (other f.of) h.0) (passing_now whole (other f.of) (status_is (other f.of))))
+        (λ h. rw (h.0, append-nil (done (other f.of))) (read_facts_current whole (other f.of)))
+        (f.least (other f.of)) in
+        subst (λ r. MergePost tool old (state_by_side r out after) (Err Write))
+        (λ i side. put_back f.of (both first second) side i)
+        (iteration_fails whole f.of (status_is f.of) lag (all_read f.of f.written) rest _ _ _
+        (inl (refl, record { write_failed = f.failed; unread = refl; store = refl })))
+
+in_key_order : (job : Comm) {cmp : Cmp} {key : Side → Key} → ((side : Side) (x : List ℕ) → key side x ≡ x)
+    → {cursor next : Side → Sorted} {was is : MergeState} {result : Result (Unit {0}) MergeFault}
+    → AreBlocksMerged (comm_with job cmp whole_line) cursor next was is result
+    → AreBlocksMerged (comm_with job cmp key) cursor next was is result
+in_key_order job {cmp} same {cursor} {next} {was} {is} {result} =
+    subst (λ (k : Side → Key). AreBlocksMerged (comm_with job cmp k) cursor next was is result)
+    (λ i side x. sym (same side x) i)
+
+abbrev end_of : Bool → Result (Unit {0}) MergeFault
+end_of failed = cond failed (Err Write) (Ok tt)
+
+ended_well : (failed : Bool) (u : Unit {0}) → Ok u ≡ end_of failed → failed ≡ false
+ended_well = grind arith
+
+ended_badly : (failed : Bool) (fault : MergeFault) → Err fault ≡ end_of failed → (failed ≡ true) × (fault ≡ Write)
+ended_badly = grind arith
+
+module _ {job : Comm} {cmp : Cmp} {key : Side → Key} {old was : MergeState} {one two : Sorted}
+    (t : IterationInvariant job cmp key old was one two) {first second : Reader} {out : Output} {after : Slots}
+    {one2 two2 : Sorted} {result : Result (Unit {0}) MergeFault} (post : BlocksPost (comm_with job cmp whole_line)
+    (both one two) (both one2 two2) was (merge_state first second out after) result) where
+  pub blocks_on : {u : Unit {0}} → result ≡ Ok u → AreValidCursors key one2 two2 after
+      → IterationInvariant job cmp key old (merge_state first second out after) one2 two2
+  blocks_on {u} well valid =
+      ⊎_elim
+      (λ e. rw (ap (λ (c : Side → Sorted). c First) e.0, ap (λ (c : Side → Sorted). c Second) e.0)
+      (subst (λ state. IterationInvariant job cmp key old state one two) (sym e.1) t))
+      (λ m. (let n = in_key_order job t.whole_line_keys m in
+      merged_goes_on t n (ended_well n.run.failed u (sym well ∙ n.result_is)) valid)) post
+
+  pub blocks_read : reads_ahead (both first second) one2 two2 ≤ reads_ahead was.reader one two
+  blocks_read =
+      ⊎_elim
+      (λ e. rw (ap (λ (c : Side → Sorted). c First) e.0, ap (λ (c : Side → Sorted). c Second) e.0, ap (λ (state : MergeState). state.reader) e.1) (omega arith))
+      (λ m. merged_reads t (in_key_order job t.whole_line_keys m)) post
+
+  pub blocks_fail : {fault : MergeFault} → result ≡ Err fault
+      → MergePost (comm_with job cmp key) old (merge_state first second out after) (Err fault)
+  blocks_fail {fault} badly =
+      ⊎_elim
+      (λ e. (let never : Ok tt ≡ Err fault = sym e.2 ∙ badly in cc))
+      (λ m. (let n = in_key_order job t.whole_line_keys m in
+      let (some, write) = ended_badly n.run.failed fault (sym badly ∙ n.result_is) in
+      rw write (merged_fails t n some))) post
+
+-- the invariant of the loop, in whatever order
+pub kept_by_blocks : {O : Type 0} (cmp : O → Cmp) (key : O → Side → Key) {job : Comm} {old was : MergeState}
+    {one two : Sorted} {a b start : O} → Kept (λ o. comm_with job (cmp o) (key o))
+    (λ o. IterationInvariant job (cmp o) (key o) old was one two) a start → {first second : Reader} {out : Output}
+    {after : Slots} {one2 two2 : Sorted} {u : Unit {0}} → BlocksPost (comm_with job (cmp a) whole_line) (both one two)
+    (both one2 two2) was (merge_state first second out after) (Ok u) → b ≡ a → AreValidCursors (key b) one2 two2 after
+    → Kept (λ o. comm_with job (cmp o) (key o))
+    (λ o. IterationInvariant job (cmp o) (key o) old (merge_state first second out after) one2 two2) b start
+kept_by_blocks cmp key k post same valid =
+    kept_order same k.order (blocks_on k.iteration post refl (rw same at valid))
+
+-- the remaining work of the loop decreases
+pub reads_once : {a b c : ℕ} → a < b → b ≤ c → a < c
+reads_once = omega arith
+
+pub reads_twice : {a b c d : ℕ} → a < b → b < c → c ≤ d → a < d
+reads_twice = omega arith

@@ -1,0 +1,28 @@
+use Rattle.ptmerge.proofs
+use proofs.Common.{arith, length, ◌-◌}
+use proofs.BlockLemmas.{own_on}
+use proofs.merging.cursor.Sorted.resume.Goals.{then-at-gt0, else-at-gt0}
+use proofs.merging.cursor.Sorted.resume.Goals as goal
+
+pub returns-clause-resumes : goal.returns-clause-resumes
+returns-clause-resumes g c =
+    let fits = c.requires.fits in
+    let on = own_on c.args.reader.now c.args.self.now.number c.args.at.passed
+    (length c.args.reader.now.buffered - c.args.at.left) c.buffered.ensures.sound fits.own_reader.clean fits.own_reader.counted
+    (omega (arith, fits.within)) (omega arith) in
+    elim c.if-at-gt0.branch [
+      | then-at-gt0 w ↦ record {
+        reader = grind arith;
+        sound = c.consume.ensures.is_sound;
+        unmoved = λ none. absurd (omega (arith, w.if-at-gt0.true));
+        moved = λ some. grind arith;
+        own_reader = grind (arith, on);
+      }
+      | else-at-gt0 w ↦ record {
+        reader = grind arith;
+        sound = c.consume.ensures.is_sound;
+        unmoved = λ none. grind arith;
+        moved = λ some. absurd (omega (arith, w.if-at-gt0.false));
+        own_reader = grind (arith, on);
+      }
+    ]

@@ -1,0 +1,143 @@
+-- The merge of the lines of two blocks, as `comm` does it. `head` is the current line of an input, and `rest` the bytes
+-- of its block after this line.
+use Rattle.std.specs.Prelude.{◌≡◌, ◌⊎◌, ℕ, suc, ◌+◌, ◌<◌, ◌≤◌, List, [], ◌∷◌, ◌++◌, length, map}
+use Rattle.std.specs.Prelude.{Bool, true, false, Option, Some, None, MatchBool}
+use Rattle.std.specs.Ordering.{is_gt}
+use Rattle.ptlines.specs.Calls.Outputs.{Output, PushEffect}
+use Rattle.ptlines.specs.Calls.Text.{IsLine}
+use Rattle.ptlines.specs.Laws.Text.{AreLines}
+use Rattle.ptlines.specs.Text.{unlines}
+use Rattle.ptlines.specs.ByteOrder.{Cmp}
+use Rattle.ptlines.specs.declared.sizes.TheConstants.{BLOCK}
+use Rattle.ptmerge.specs.Calls.MergeSpec.{MergeTool, entries_by_key}
+use Rattle.ptmerge.specs.Calls.Sides.{both}
+use Rattle.ptmerge.specs.Comm.{column_entries}
+use Rattle.ptmerge.specs.MergeSpec.{Lines}
+use Rattle.ptmerge.specs.Orders.{Key}
+use Rattle.ptmerge.specs.declared.key_order.Side.{Side}
+use Rattle.ptmerge.specs.declared.tools.comm.block_lines.BlockLine.{BlockLine}
+use Rattle.ptmerge.specs.declared.tools.comm.block_lines.BlockRun.{BlockRun}
+use Rattle.ptmerge.specs.declared.tools.comm.block_lines.Column.{Column}
+use Rattle.ptmerge.specs.declared.merging.cursor.Reached.{Reached}
+
+-- ---- keys in order
+
+-- The key `a` is at most the key `b`.
+abbrev pub AtMost : Cmp → List ℕ → List ℕ → Type 0
+AtMost cmp a b = is_gt (cmp a b) ≡ false
+
+-- Each of these keys has the property.
+abbrev pub Each : (List ℕ → Type 0) → Lines → Type 0
+Each P [] = Unit {0}
+Each P (x ∷ xs) = P x × Each P xs
+
+-- The key of each line has the property.
+abbrev pub EachKey : (List ℕ → Type 0) → Key → Lines → Type 0
+EachKey P key xs = Each P (map key xs)
+
+-- The key is out of order after the key `last`, if there is one.
+abbrev pub is_disordered : Cmp → Option (List ℕ) → List ℕ → Bool
+is_disordered cmp None k = false
+is_disordered cmp (Some l) k = is_gt (cmp l k)
+
+-- No line is out of order after the one before it. Before the first there was the key `last`.
+abbrev pub IsSortedFrom : Cmp → Key → Option (List ℕ) → Lines → Type 0
+IsSortedFrom cmp key last [] = Unit {0}
+IsSortedFrom cmp key last (x ∷ xs) = (is_disordered cmp last (key x) ≡ false) × IsSortedFrom cmp key (Some (key x)) xs
+
+-- ---- the columns
+
+-- The column has these tabs before its lines, and is hidden or not.
+pub record IsColumn (column : Column) (hidden : Bool) (tabs : List ℕ) : Type 0 where
+  pub hidden_is : column.hidden ≡ hidden
+  pub tabs_are : column.tabs.now ≡ tabs
+
+-- The output lines for a line in a column.
+abbrev pub lines_in : Column → List ℕ → Lines
+lines_in column x = column_entries column.hidden column.tabs.now 1 x
+
+-- ---- the lines of one input
+
+-- So many lines fit in a block.
+abbrev pub IsInBlock : BlockLine → Type 0
+IsInBlock line = line.passed + length line.rest.now ≤ BLOCK
+
+-- The next line of an input is in its block and in order.
+pub record IsNextLine (end : ℕ) (cmp : Cmp) (line next : BlockLine) : Type 0 where
+  pub bytes : line.rest.now ≡ next.head.now ++ (end ∷ next.rest.now)
+  pub whole : IsLine end next.head.now
+  pub short : length next.head.now < 64
+  pub ordered : AtMost cmp line.head.now next.head.now
+  pub passed : next.passed ≡ line.passed + 1
+
+-- No line was passed.
+pub record IsUnmoved (old now : BlockLine) (q : Lines) : Type 0 where
+  pub none : q ≡ []
+  pub same : now ≡ old
+  pub passed : now.passed ≡ 0
+
+-- The lines `q` were passed, which are the line `old` and then lines of the block.
+pub record IsMoved (end : ℕ) (cmp : Cmp) (key : Key) (old now : BlockLine) (q : Lines) : Type 0 where
+  pub middle : Lines
+  pub lines : q ≡ old.head.now ∷ middle
+  pub bytes : old.rest.now ≡ unlines end middle ++ (now.head.now ++ (end ∷ now.rest.now))
+  pub whole : AreLines end middle × IsLine end now.head.now
+  pub short : length now.head.now < 64
+  pub ordered : IsSortedFrom cmp key (Some (key old.head.now)) (middle ++ now.head.now ∷ [])
+  pub passed : now.passed ≡ suc (length middle)
+
+-- The lines `q` were passed, if any.
+abbrev pub ArePassed : ℕ → Cmp → Key → BlockLine → BlockLine → Lines → Type 0
+ArePassed end cmp key old now q = IsUnmoved old now q ⊎ IsMoved end cmp key old now q
+
+-- Where the input is.
+pub record IsReached (line : BlockLine) (reached : Reached) : Type 0 where
+  pub passed : reached.passed ≡ line.passed
+  pub size : reached.size ≡ length line.head.now
+  pub left : reached.left ≡ length line.rest.now
+
+-- ---- the lines of both
+
+-- The lines passed come first, whatever follows of keys that are not below the current ones, and were written.
+pub record AreMerged (tool : MergeTool) (old now : Side → BlockLine) (was is : Output) : Type 0 where
+  pub q : Side → Lines
+  pub passed : (side : Side) → ArePassed tool.terminator tool.cmp (tool.key side) (old side) (now side) (q side)
+  pub first : (wanted : List ℕ → Bool) (r : Side → Lines)
+      → ((side : Side) → EachKey (AtMost tool.cmp (tool.key side (now side).head.now)) (tool.key side) (r side))
+      → entries_by_key tool wanted (λ side. q side ++ r side)
+      ≡ entries_by_key tool wanted q ++ entries_by_key tool wanted r
+  pub under : (of side : Side)
+      → EachKey (λ k. AtMost tool.cmp k (tool.key of (now of).head.now)) (tool.key side) (q side)
+  pub wrote : PushEffect was is (unlines tool.terminator (entries_by_key tool (λ k. true) q))
+  pub clean : is.write_failed ≡ false
+  pub in_block : (side : Side) → IsInBlock (now side)
+  pub idle : ((side : Side) → (now side).passed ≡ 0) → is ≡ was
+
+-- The lines `f` are the current lines with the least key `k`.
+abbrev pub AreLeast : MergeTool → (Side → BlockLine) → List ℕ → (Side → Lines) → Type 0
+AreLeast tool now k f = (side : Side) → let head = (now side).head.now in
+    ((f side ≡ head ∷ []) × (tool.key side head ≡ k)) ⊎ ((f side ≡ []) × (is_gt (tool.cmp (tool.key side head) k) ≡ true))
+
+-- The write of the current lines with the least key failed. One of these is that of the input `of`, which has a further
+-- line in its block.
+pub record HasFailed (tool : MergeTool) (now : Side → BlockLine) (mid is : Output) : Type 0 where
+  pub k : List ℕ
+  pub f : Side → Lines
+  pub least : AreLeast tool now k f
+  pub of : Side
+  pub written : f of ≡ (now of).head.now ∷ []
+  pub wrote : PushEffect mid is (unlines tool.terminator (entries_by_key tool (λ k. true) f))
+  pub failed : is.write_failed ≡ true
+
+-- Where both inputs are at the end of the merge.
+pub record IsRunEnd (failed : Bool) (now : Side → BlockLine) (run : BlockRun) : Type 0 where
+  pub is : run.failed ≡ failed
+  pub reached : (side : Side) → IsReached (now side) (both run.first run.second side)
+
+-- The merge of two blocks: up to lines that were not passed, or to a failed write.
+pub record BlockRunPost (tool : MergeTool) (old : Side → BlockLine) (run : BlockRun) (was is : Output) : Type 0 where
+  pub now : Side → BlockLine
+  pub end : IsRunEnd run.failed now run
+  pub mid : Output
+  pub merged : AreMerged tool old now was mid
+  pub ends : MatchBool run.failed (HasFailed tool now mid is) (is ≡ mid)

@@ -1,0 +1,69 @@
+-- An input of a merge after lines that were passed in the block of its reader, and never were in a slot of the store.
+use Rattle.std.specs.Prelude.{◌≡◌, ◌⊎◌, ℕ, ◌+◌, ◌-◌, ◌<◌, ◌≤◌, false, List, length, drop, if◌then◌else◌, Result, Ok, Err}
+use Rattle.std.specs.List.{slice_range}
+use Rattle.ptlines.specs.Calls.Outputs.{Output}
+use Rattle.ptlines.specs.Calls.Readers.{IsSound}
+use Rattle.ptlines.specs.Calls.Slots.{line, with_line}
+use Rattle.ptlines.specs.Readers.{Reader}
+use Rattle.ptlines.specs.Slots.{Slots}
+use Rattle.ptmerge.specs.Calls.MergeCall.{MergeState}
+use Rattle.ptmerge.specs.Calls.MergeSpec.{MergeTool}
+use Rattle.ptmerge.specs.Calls.MergeSteps.{IsReaderOf}
+use Rattle.ptmerge.specs.Private.BlockLines.{BlockRunPost}
+use Rattle.ptmerge.specs.declared.faults.MergeFault.{MergeFault}
+use Rattle.ptmerge.specs.declared.faults.MergeFault.TheVariants.{Write}
+use Rattle.ptmerge.specs.declared.key_order.Side.{Side}
+use Rattle.ptmerge.specs.declared.key_order.Side.TheVariants.{First, Second}
+use Rattle.ptmerge.specs.declared.merging.cursor.CursorStatus.TheVariants.{Head}
+use Rattle.ptmerge.specs.declared.merging.cursor.Sorted.{Sorted}
+use Rattle.ptmerge.specs.declared.tools.comm.block_lines.BlockLine.{BlockLine}
+use Rattle.ptmerge.specs.declared.tools.comm.block_lines.BlockRun.{BlockRun}
+use Rattle.ptmerge.specs.declared.merging.cursor.Reached.{Reached}
+
+-- The current line is now `line`, which is `count` lines after the one before.
+pub record IsPassed (count : ℕ) (line : List ℕ) (old new : Sorted) (before after : Slots) : Type 0 where
+  pub cursor : new ≡ record old { number = old.number + count; key = new.key }
+  pub store : after ≡ with_line before old.current_slot line
+
+-- The input is at a line, and the lines passed and its current line are in the block of its reader.
+pub record CanResume (reached : Reached) (cursor : Sorted) (reader : Reader) : Type 0 where
+  pub head : cursor.status ≡ Head
+  pub own_reader : IsReaderOf cursor reader
+  pub within : reached.left + reached.passed ≤ length reader.buffered
+  pub line : 0 < reached.passed
+      → (reached.left + (reached.size + 1) ≤ length reader.buffered) × (reached.size < 64)
+
+-- The bytes of the block up to the current line and its terminator are consumed.
+pub record IsResumed (reached : Reached) (old new : Sorted) (was is : Reader) (before after : Slots) : Type 0 where
+  pub reader : is ≡ record was { buffered = drop (length was.buffered - reached.left) was.buffered }
+  pub sound : IsSound is
+  pub unmoved : reached.passed ≡ 0 → (new ≡ old) × (after ≡ before)
+  pub moved : 0 < reached.passed → let used = length was.buffered - reached.left in
+      IsPassed reached.passed (slice_range was.buffered (used - 1 - reached.size) (used - 1)) old new before after
+  pub own_reader : IsReaderOf new is
+
+-- Each reader is that of its input, and no write has failed.
+pub record AreReady (end : ℕ) (cursor : Side → Sorted) (reader : Side → Reader) (out : Output) : Type 0 where
+  pub own_reader : (side : Side) → IsReaderOf (cursor side) (reader side)
+  pub terminator : (reader First).terminator ≡ end
+  pub clean : out.write_failed ≡ false
+
+-- Both inputs were at a line. The lines of their blocks are merged, and both are at the lines reached.
+pub record AreBlocksMerged (tool : MergeTool) (cursor next : Side → Sorted) (was is : MergeState)
+    (result : Result (Unit {0}) MergeFault) : Type 0 where
+  pub head : (side : Side) → (cursor side).status ≡ Head
+  pub run : BlockRun
+  pub old : Side → BlockLine
+  pub head_is : (side : Side) → (old side).head.now ≡ line was.store (cursor side).current_slot
+  pub rest_is : (side : Side) → (old side).rest.now ≡ (was.reader side).buffered
+  pub post : BlockRunPost tool old run was.out is.out
+  pub mid : Slots
+  pub resumed1 : IsResumed run.first (cursor First) (next First) (was.reader First) (is.reader First) was.store mid
+  pub resumed2 : IsResumed run.second (cursor Second) (next Second) (was.reader Second) (is.reader Second) mid is.store
+  pub result_is : result ≡ (if run.failed then Err Write else Ok tt)
+
+-- The lines of both blocks are merged, or nothing happened.
+abbrev pub BlocksPost : MergeTool → (Side → Sorted) → (Side → Sorted) → MergeState → MergeState
+    → Result (Unit {0}) MergeFault → Type 0
+BlocksPost tool cursor next was is result =
+    ((next ≡ cursor) × (is ≡ was) × (result ≡ Ok tt)) ⊎ AreBlocksMerged tool cursor next was is result
