@@ -15,6 +15,8 @@ enum Step {
     Copy(usize, usize),
     Clear(usize),
     Swap(usize, usize),
+    // Sets a slot to a line of fewer than 64 bytes.
+    Set(usize, &'static [u8]),
     Add,
 }
 
@@ -46,6 +48,8 @@ const CASES: &[Case] = &[
             (Step::Clear(0), (&[b"", b"", b"xy"], 6), NONE),
             (Step::Swap(1, 2), (&[b"", b"xy", b""], 6), NONE),
             (Step::Swap(1, 1), (&[b"", b"xy", b""], 6), NONE),
+            (Step::Set(1, b"z"), (&[b"", b"z", b""], 6), NONE),
+            (Step::Set(0, b"abcdef"), (&[b"abcdef", b"z", b""], 7), NONE),
         ],
     ),
     (
@@ -87,6 +91,10 @@ fn takes(rt: &impl Abort, store: &mut Store<Lent<'_>>, step: Step) -> Result<(),
         Step::Swap(a, b) => {
             assert!(rt; a < slots && b < slots);
             store.swap(a, b);
+        }
+        Step::Set(slot, line) => {
+            assert!(rt; slot < slots && line.len() < 64);
+            store.set_short(slot, line);
         }
         Step::Add => same(rt, &store.add()?, &slots),
     }

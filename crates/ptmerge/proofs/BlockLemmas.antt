@@ -2,25 +2,25 @@
 use Rattle.ptmerge.proofs
 use Rattle.ptmerge.specs
 use proofs.Common.{◌≡◌, ◌⊎◌, inl, inr, ℕ, ◌+◌, ◌<◌, ◌≤◌, List, [], ◌∷◌, ◌++◌, refl, sym, ◌∙◌, ap, arith, Comm, Output, length}
-use proofs.Common.{PushEffect, Some, None, Option, true, false, suc, drop, length-append, append_assoc, append-nil}
+use proofs.Common.{PushEffect, Some, None, Option, true, false, drop, length-append, append_assoc, append-nil}
 use proofs.Common.{unlines, IsLine, Side, First, Second, Lines, MergeTool, other, with_side, Cmp, Key, both, length_push}
-use proofs.Common.{Reader, Sorted, Head, budget, length-drop, ◌^◌, ◌-◌}
+use proofs.Common.{Reader, Sorted, Head, budget, length-drop, ◌^◌}
 use Rattle.std.specs.Prelude.{take}
 use Rattle.ptlines.specs.Calls.Readers.{IsSound}
 use specs.Calls.MergeSteps.{IsReaderOf}
-use specs.Private.Passed.{CanResume, IsResumed}
+use specs.Private.Passed.{CanResume}
 use specs.declared.merging.cursor.Reached.{Reached}
 use specs.declared.tools.comm.block_lines.Column.{Column}
-use proofs.Common.{usual, rules, push_nothing, Less, Equal, Greater, is_gt}
+use proofs.Common.{usual, push_nothing, is_gt}
 use proofs.MergeLemmas.{MergeInvariant, IsKeyOrder, Bound, AtLeast, AtMost, Above, Written, alone, output_of, all_keys}
 use proofs.MergeLemmas.{write_least_run, line_is_least_run, IsLeastKeyRun, IsLater, same_bound, bounds_change, Each-weaker}
-use proofs.MergeLemmas.{at_most_trans, greater_flips, less_flips, is_greater, lines_with_key-above, MayCome, side_case}
+use proofs.MergeLemmas.{at_most_trans, greater_flips, is_greater, lines_with_key-above, MayCome, side_case}
 use proofs.MergeLemmas.{from_key, self_at_most, EachKey-append}
 use proofs.Common.{Bool, entries_by_key, unlines-append, push_trans}
 use proofs.MergeLemmas.{put_same, put_other, unlines_push, EachKey, IsSortedFrom, entries_of_key, lines_with_key}
 use proofs.CommLemmas.{entries_alone, entries_of_pair, entries_both, hidden_of, tabs_of, is_line_by_line}
 use Rattle.ptlines.proofs.TextLaws.{AreLines_push}
-use Rattle.ptlines.proofs.LineSearch.{line_before_terminator, take_with_terminator, drop_at_terminator}
+use Rattle.ptlines.proofs.LineSearch.{line_before_terminator}
 use Rattle.memchr.specs.Find.{IsFirstByte, is_byte}
 use specs.Calls.Comm.{comm_with}
 use specs.Comm.{tab_if_shown}

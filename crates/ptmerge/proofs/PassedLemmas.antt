@@ -4,7 +4,7 @@ use proofs.Common.{◌≡◌, ℕ, ◌-◌, false, List, [], ◌∷◌, ◌++◌
 use proofs.Common.{unlines, unlines-append, IsLine, AreLines, Lines, Cmp, Key, Reader, inl, length-append, length_push}
 use proofs.Common.{usual, advance_ok_trans}
 use proofs.MergeLemmas.{IsSortedUpTo, IsSortedFrom, LinesRead, is_disordered, unlines_push}
-use proofs.Common.{◌+◌, ◌<◌, Side, MergeTool, Sorted, Slots, Head, line, inr, line_of_with_line, length-set}
+use proofs.Common.{◌<◌, Side, MergeTool, Sorted, Slots, Head, line, inr, line_of_with_line, length-set}
 use proofs.MergeLemmas.{IsKeyOrder, Bound, AtLeast, SideInvariant, IsAtCurrentLine, at_current_line, reads_nothing}
 use proofs.MergeLemmas.{after_from, self_at_most, low_slot, GroupStore, Extends, group_store_line, side_extends, put_same}
 use proofs.Common.{◌≤◌, HasSlots, with_line, with_side, max_length}

@@ -1,6 +1,6 @@
 -- One lemma of `CommLemmas` for each iteration, and one of `CommLemmas` or `MergeLemmas` for each exit.
 use Rattle.ptmerge.proofs
-use proofs.Common.{refl, ◌∙◌, comm_job, First, Second, arith}
+use proofs.Common.{refl, ◌∙◌, comm_job, First, Second}
 use proofs.MergeLemmas.{advance_pre, fails_by, start_fault, start_ok, open_merge, reads_less, between_next, ends_well}
 use proofs.MergeLemmas.{ends_fallen, kept_order, fails, ends}
 use proofs.CommLemmas.{alone_continues, alone_fails, pair_continues, pair_fails, second_advance_pre, second_fails}

@@ -1,7 +1,6 @@
 use Rattle.ptmerge.proofs
 use proofs.Common.{◌∙◌, First, Second, arith, refl, inr}
 use proofs.BlockLemmas.{can_resume}
-use proofs.PassedLemmas.{blocks_on}
 use proofs.tools.comm.merge_in_blocks.Goals as goal
 
 pub resume-requires-clause-fits : goal.resume-requires-clause-fits

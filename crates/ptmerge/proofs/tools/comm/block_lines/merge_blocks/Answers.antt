@@ -1,6 +1,6 @@
 -- Each arm passes one line, or one of each input.
 use Rattle.ptmerge.proofs
-use proofs.Common.{refl, ap, usual, arith, is_gt, First, Second, both, comm_job}
+use proofs.Common.{refl, ap, arith, is_gt, First, Second, both, comm_job}
 use proofs.MergeLemmas.{less_flips, IsKeyOrder}
 use Rattle.ptmerge.specs.Calls.Sides.{whole_line}
 use proofs.BlockLemmas.{merge_starts, alone_goes_on, alone_failed, pair_goes_on, pair_failed, run_failed}
