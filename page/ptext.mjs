@@ -1,20 +1,20 @@
-// Calls of the module ptext.wasm, which runs commands over bytes in memory. Its addresses have 64 bits, and so a number
-// goes in and comes out as a BigInt.
+// Calls of the module ptext.wasm, which runs commands over streams. Its addresses have 64 bits, and so a number goes in
+// and comes out as a BigInt.
 
-/** Statuses after the exit statuses of the program, 0 to 2. */
-export const ROOM = 3, MEMORY = 4, ARGUMENTS = 5;
+/** The status of a run for which there was too little memory. The others are those of the program, 0 to 2. */
+export const MEMORY = 4;
 
-const NO_FILE = 2n ** 64n - 1n;
 const ANSWER_SIZE = 40;
-const FIRST_ROOM = 65536;
 const PAGE_SIZE = 65536;
 const HEADER_SIZE = 16;
 /** A module with more memory than this is loaded anew before its next call, since its memory never shrinks. */
-const KEPT_MEMORY = 2 ** 28;
+const KEPT_MEMORY = 2 ** 26;
 /** The most memory that a call gets, in bytes: a command that needs more ends with status 4. */
 const LIMIT = 2 ** 30;
-/** By these the module would read and write streams. No command is run over streams here. */
-const NO_STREAMS = { read: () => 0n, write: () => -1n };
+/** The size of the pieces in which the output is handed out. */
+export const PIECE = 2 ** 16;
+/** The numbers of the streams of a run. The files that the words name come after them. */
+const OUTPUT = 1, FIRST_FILE = 3;
 
 class NoMemory extends Error {
     constructor() {
@@ -140,85 +140,108 @@ export class Heap {
     }
 }
 
-/** The tools over bytes in memory. */
+/** The tools over streams. */
 export class Ptext {
     constructor(module, limit = LIMIT) {
         this.module = module;
         this.heap = new Heap(limit);
         this.exports = null;
+        /** How the streams of the run are read and written, and those whose last read gave less than its room. */
+        this.streams = null;
+        this.short = new Set();
     }
 
-    /** Loads a module from its bytes. It fails with a CompileError where memories with 64-bit addresses are unknown. */
+    /** Loads a module from its bytes. It fails with a CompileError where the memories of the module are unknown. */
     static async load(bytes, limit) {
         return new Ptext(await WebAssembly.compile(bytes), limit);
     }
 
     /** Returns the names of the files that a command reads, in their order, and that of its output file, or null. */
     names(words) {
-        return this.#guarded(() => {
-            const given = this.#lay([bytesOfWords(words)]);
-            const names = this.#room(Number(given[1])), output = this.#room(Number(given[1]));
-            const answer = this.#room(ANSWER_SIZE)[0];
+        return this.#guarded(null, () => {
+            const given = this.#lay(bytesOfWords(words)), names = this.#room(Number(given[1]));
+            const output = this.#room(Number(given[1])), answer = this.#room(ANSWER_SIZE)[0];
             this.exports.ptext_names_in_memory(...given, ...names, ...output, answer);
-            const { out, messages, status } = this.#answer(answer, names[0], output[0]);
-            if (status === MEMORY) throw new NoMemory();
-            return { read: namesIn(out.bytes), output: namesIn(messages.bytes)[0] ?? null };
+            const view = this.heap.view(), number = (place) => Number(view.getBigUint64(Number(answer) + place, true));
+            if (view.getUint8(Number(answer) + 32) === MEMORY) throw new NoMemory();
+            const [read, written] = [[names, 0], [output, 16]].map(([[at], place]) => namesIn(this.#at(at, number(place))));
+            return { read, output: written[0] ?? null };
         });
     }
 
     /**
-     * Runs a command, the name of the tool first. `stdin` is standard input, and `files` a Map with each file by its
-     * name; a file that it lacks cannot be opened. Each is a string (taken as UTF-8), an ArrayBuffer, or a view of one.
-     * Returns the status, the bytes of the output and of the messages, and the name of the file to which the output
-     * goes, or null.
+     * Runs a command, the name of the tool first. `open` gets the name of each file that the command reads, and null for
+     * standard input. It returns null if the file cannot be opened, or a function that reads it: it puts bytes into the
+     * room that it gets and returns how many, 0 at the end. Before it waits, it may call its second argument, which hands
+     * out the output so far. `take` gets the output in pieces, which it may not keep.
+     *
+     * Returns the exit status, the bytes of the messages, and the names that `names` finds. An error that a function
+     * throws ends the run, and comes through.
      */
-    run(words, stdin = "", files = new Map()) {
+    run(words, open, take) {
+        const out = new Collected(take), messages = [];
+        let found = { read: [], output: null }, status = MEMORY;
         try {
-            const { read, output } = this.names(words), input = bytesOf(stdin);
-            const contents = read.map((name) => files.get(name)).map((it) => (it === undefined ? null : bytesOf(it)));
-            const total = contents.reduce((sum, it) => sum + (it ? it.length : 0), input.length);
-            let rooms = [total + FIRST_ROOM, FIRST_ROOM];
-            for (;;) {
-                const { out, messages, status } = this.#guarded(() => this.#call(words, input, contents, rooms));
-                if (status !== ROOM) return { status, out: out.bytes, messages: messages.bytes, output };
-                rooms = [out, messages].map((it) => it.bytes.length + it.lacking);
-            }
+            found = this.names(words);
+            const readers = [open(null), null, null, ...found.read.map((name) => open(name))];
+            const opened = Uint8Array.from(readers.slice(FIRST_FILE), (it) => (it ? 1 : 0));
+            const read = (number, room) => readers[number](room, () => out.flush());
+            const write = (number, bytes) => (number === OUTPUT ? out.write(bytes) : messages.push(bytes.slice()));
+            status = this.#guarded({ read, write }, () => {
+                return this.exports.ptext_run_streams(...this.#lay(bytesOfWords(words)), ...this.#lay(opened));
+            });
+            out.flush();
         } catch (error) {
             if (!(error instanceof NoMemory)) throw error;
-            return { status: MEMORY, out: new Uint8Array(0), messages: encode("ptext: out of memory\n"), output: null };
+            messages.push(encode("ptext: out of memory\n"));
         }
-    }
-
-    /** Calls the module once, with rooms of these sizes for the output and for the messages. */
-    #call(words, stdin, contents, rooms) {
-        const ends = [];
-        let end = 0;
-        for (const it of contents) {
-            end += it ? it.length : 0;
-            ends.push(it ? BigInt(end) : NO_FILE);
-        }
-        const [endsAt] = this.#lay([new Uint8Array(new BigUint64Array(ends).buffer)]);
-        const given = [this.#lay([bytesOfWords(words)]), this.#lay([stdin]), this.#lay(contents.filter((it) => it))];
-        const [out, messages] = rooms.map((it) => this.#room(it));
-        const answer = this.#room(ANSWER_SIZE)[0];
-        this.exports.ptext_run_in_memory(...given.flat(), endsAt, BigInt(ends.length), ...out, ...messages, answer);
-        const found = this.#answer(answer, out[0], messages[0]);
-        if (found.status === ARGUMENTS) throw new Error("the module refused its arguments");
-        return found;
+        return { status, messages: joined(messages), ...found };
     }
 
     /** Begins a call over an empty heap. A module whose call has failed is not called again. */
-    #guarded(call) {
+    #guarded(streams, call) {
+        if (this.streams) throw new Error("a call within a call of the same module");
         if (!this.exports || this.exports.memory.buffer.byteLength > KEPT_MEMORY) {
-            this.exports = new WebAssembly.Instance(this.module, { host: { ...this.heap.imports(), ...NO_STREAMS } }).exports;
+            const host = { ...this.heap.imports(), ...this.#imports() };
+            this.exports = new WebAssembly.Instance(this.module, { host }).exports;
         }
         this.heap.begin(this.exports.memory, Number(this.exports.__heap_base.value));
+        this.streams = streams ?? {};
+        this.short.clear();
         try {
             return call();
         } catch (error) {
             this.exports = null;
             throw error;
+        } finally {
+            this.streams = null;
         }
+    }
+
+    /**
+     * The functions by which the module reads and writes. It asks again after a read that gave less than its room, where
+     * 0 is not the end of the stream; and it asks a number with all bits changed whether the stream is sound. As each
+     * failure ends the run, it always is.
+     */
+    #imports() {
+        return {
+            read: (number, at, size) => {
+                if (this.short.delete(number)) return 0n;
+                const room = this.#at(at, Number(size)), count = this.streams.read(number, room);
+                if (!(count >= 0 && count <= room.length)) throw new RangeError("a read of more than its room");
+                if (count && count < room.length) this.short.add(number);
+                return BigInt(count);
+            },
+            write: (number, at, size) => {
+                if (number >= 0) this.streams.write(number, this.#at(at, Number(size)));
+                return size;
+            },
+        };
+    }
+
+    /** The bytes at an address of the memory. */
+    #at(address, size) {
+        return new Uint8Array(this.exports.memory.buffer, Number(address), size);
     }
 
     /** Returns the address and the size of a room, as the module takes them. */
@@ -228,40 +251,80 @@ export class Ptext {
         return [BigInt(address), BigInt(size)];
     }
 
-    /** Lays these texts into memory, one after another. Returns the address and the size of all. */
-    #lay(texts) {
-        const room = this.#room(texts.reduce((sum, it) => sum + it.length, 0));
-        let at = Number(room[0]);
-        for (const it of texts) {
-            this.heap.bytes().set(it, at);
-            at += it.length;
-        }
+    /** Lays bytes into memory. Returns their address and their size. */
+    #lay(bytes) {
+        const room = this.#room(bytes.length);
+        this.#at(room[0], bytes.length).set(bytes);
         return room;
     }
+}
 
-    /** Reads what the module has written: two texts, each with the number of bytes for which it had no room. */
-    #answer(answer, out, messages) {
-        const view = this.heap.view(), number = (place) => Number(view.getBigUint64(Number(answer) + place, true));
-        const part = (room, place) => {
-            const begin = Number(room);
-            return { bytes: this.heap.bytes().slice(begin, begin + number(place)), lacking: number(place + 8) };
-        };
-        return { out: part(out, 0), messages: part(messages, 16), status: view.getUint8(Number(answer) + 32) };
+/** Output that is handed on in pieces. */
+class Collected {
+    constructor(take) {
+        this.take = take;
+        this.room = new Uint8Array(PIECE);
+        this.count = 0;
     }
+
+    write(bytes) {
+        for (let at = 0; at < bytes.length; ) {
+            const part = bytes.subarray(at, at + PIECE - this.count);
+            this.room.set(part, this.count);
+            this.count += part.length;
+            at += part.length;
+            if (this.count === PIECE) this.flush();
+        }
+    }
+
+    flush() {
+        const { count } = this;
+        this.count = 0;
+        if (count) this.take(this.room.subarray(0, count));
+    }
+}
+
+/** A function that reads pieces, each of which is asked for when it is needed: strings, buffers, or views of buffers. */
+export function readerOf(pieces) {
+    const iterator = pieces[Symbol.iterator]();
+    let left = new Uint8Array(0);
+    return (room) => {
+        while (!left.length) {
+            const { done, value } = iterator.next();
+            if (done) return 0;
+            left = bytesOf(value);
+        }
+        const part = left.subarray(0, room.length);
+        room.set(part);
+        left = left.subarray(part.length);
+        return part.length;
+    };
 }
 
 function encode(text) {
     return new TextEncoder().encode(text);
 }
 
-/** The bytes of an input. */
-function bytesOf(given) {
-    if (typeof given === "string") return encode(given);
-    if (ArrayBuffer.isView(given)) return new Uint8Array(given.buffer, given.byteOffset, given.byteLength);
+/** Whether this is a text or a buffer, all of whose bytes are there. */
+export function isBytes(given) {
     // (A buffer may be of another window, so it is known by its name.)
     const name = Object.prototype.toString.call(given);
-    if (["[object ArrayBuffer]", "[object SharedArrayBuffer]"].includes(name)) return new Uint8Array(given);
-    throw new TypeError("an input is a string, an ArrayBuffer or a view of one");
+    return typeof given === "string" || ArrayBuffer.isView(given) || /^.object (Shared)?ArrayBuffer.$/.test(name);
+}
+
+/** The bytes of a string (as UTF-8), of a buffer, or of a view of one. */
+export function bytesOf(given) {
+    if (!isBytes(given)) throw new TypeError("a piece of an input is a string, an ArrayBuffer or a view of one");
+    if (typeof given === "string") return encode(given);
+    if (ArrayBuffer.isView(given)) return new Uint8Array(given.buffer, given.byteOffset, given.byteLength);
+    return new Uint8Array(given);
+}
+
+/** One array of these. */
+export function joined(pieces) {
+    const whole = new Uint8Array(pieces.reduce((sum, it) => sum + it.length, 0));
+    pieces.reduce((at, it) => (whole.set(it, at), at + it.length), 0);
+    return whole;
 }
 
 /** The size of a block with room for this many bytes. */

@@ -1,0 +1,241 @@
+// cut, paste, join, comm, uniq and tr for node, by the proved library as WebAssembly. ptext.d.ts describes each function.
+import fs from "node:fs";
+import { Worker } from "node:worker_threads";
+import { MEMORY, PIECE, Ptext, bytesOf, isBytes, joined, readerOf } from "./module.mjs";
+
+const at = (name) => new URL(name, import.meta.url);
+/** How many modules and threads that have ended their run are kept for the next one. */
+const KEPT = 4;
+
+let compiled = null;
+const modules = [], threads = [];
+
+/** The compiled module, which all threads share. */
+function compile() {
+    compiled ??= new WebAssembly.Module(fs.readFileSync(at("ptext.wasm")));
+    return compiled;
+}
+
+/** A command has ended with a status that is not 0. */
+export class PtextError extends Error {
+    constructor(status, messages, out, unknown) {
+        const lacking = unknown.map((it) => JSON.stringify(it)).join(", ");
+        super(messages.trimEnd() + (lacking && ` (\`files\` has no ${lacking}: no file is opened by its name)`));
+        Object.assign(this, { name: "PtextError", status, messages, out, unknown });
+    }
+}
+
+// ---- inputs
+
+/** Whether bytes can be had again. */
+const canBeRepeated = (given) => isBytes(given) || given instanceof URL || given instanceof Blob || Array.isArray(given);
+
+/** The inputs of a command: standard input, and the files by their names. */
+class Inputs {
+    constructor(stdin, files, kinds) {
+        this.stdin = stdin;
+        // (An object has names of its own kind, as `constructor`, which are no files.)
+        this.files = files instanceof Map ? files : new Map(Object.entries(files));
+        this.kinds = kinds;
+        this.taken = new Set();
+        this.#check("stdin", stdin);
+        for (const [name, it] of this.files) if (this.has(name)) this.#check(`files[${JSON.stringify(name)}]`, it);
+    }
+
+    #check(what, given) {
+        if (!this.kinds.some((is) => is(given))) {
+            throw new TypeError(`${what} is no input: a string, a buffer, an iterable of these, or the URL of a file`);
+        }
+    }
+
+    has(name) {
+        return (this.files.get(name) ?? null) !== null;
+    }
+
+    /** A file, or standard input if the name is null. What can be read only once is not given twice. */
+    take(name) {
+        const given = name === null ? this.stdin : this.files.get(name);
+        if (!canBeRepeated(given)) {
+            if (this.taken.has(given)) throw new Error(`${name ?? "stdin"} is read twice, and can be read only once`);
+            this.taken.add(given);
+        }
+        return given;
+    }
+}
+
+const isIterable = (it) => typeof it?.[Symbol.iterator] === "function";
+const SYNC = [isBytes, (it) => it instanceof URL, isIterable];
+const ASYNC = [...SYNC, (it) => it instanceof Blob, (it) => typeof it?.[Symbol.asyncIterator] === "function"];
+
+/** The pieces of an input that need not be waited for. */
+function* piecesOf(given) {
+    if (isBytes(given)) return yield given;
+    if (!(given instanceof URL)) return yield* given;
+    const file = fs.openSync(given), room = Buffer.allocUnsafeSlow(PIECE);
+    try {
+        for (let count; (count = fs.readSync(file, room)); ) yield room.subarray(0, count);
+    } finally {
+        fs.closeSync(file);
+    }
+}
+
+/** The pieces of any input. */
+async function* awaitedPiecesOf(given) {
+    if (given instanceof URL) yield* fs.createReadStream(given, { highWaterMark: PIECE });
+    else if (given instanceof Blob) yield* given.stream();
+    else if (isBytes(given)) yield given;
+    else yield* given;
+}
+
+// ---- in this thread
+
+export function names(words) {
+    return withModule(undefined, (module) => module.names(words));
+}
+
+/** Calls a function with a module that is in no other call. */
+function withModule(memory, call) {
+    const module = (memory === undefined && modules.pop()) || new Ptext(compile(), memory);
+    try {
+        return call(module);
+    } finally {
+        if (memory === undefined && modules.length < KEPT) modules.push(module);
+    }
+}
+
+export function run(words, { stdin = "", files = {}, memory, write } = {}) {
+    const inputs = new Inputs(stdin, files, SYNC), out = [], iterators = [];
+    const open = (name) => {
+        if (name !== null && !inputs.has(name)) return null;
+        let reader = null;
+        return (room) => {
+            if (!reader) {
+                iterators.push(piecesOf(inputs.take(name)));
+                reader = readerOf(iterators.at(-1));
+            }
+            return reader(room);
+        };
+    };
+    const take = (piece) => (write ? write(piece.slice()) : out.push(piece.slice()));
+    try {
+        const did = withModule(memory, (module) => module.run(words, open, take));
+        const whole = joined(out);
+        check(did, inputs, whole);
+        return write ? undefined : whole;
+    } finally {
+        for (const it of iterators) it.return();
+    }
+}
+
+/** Throws what a status other than 0 means. */
+function check({ status, messages, read }, inputs, out) {
+    if (!status) return;
+    const unknown = status === 1 ? [...new Set(read)].filter((name) => !inputs.has(name)) : [];
+    throw new PtextError(status, new TextDecoder().decode(messages), out, unknown);
+}
+
+// ---- in a thread of its own, which waits for inputs and for whoever reads the output
+
+/** A thread that runs one command at a time, step by step. Nothing runs in it between two steps. */
+class Thread {
+    constructor() {
+        this.shared = new SharedArrayBuffer(8 + PIECE);
+        [this.control, this.piece] = [new Int32Array(this.shared, 0, 2), new Uint8Array(this.shared, 8)];
+        this.worker = new Worker(at("worker.mjs"), { workerData: { module: compile(), shared: this.shared } });
+        this.worker.unref();
+        this.worker.on("message", (step) => this.good(step));
+        this.worker.on("error", (error) => this.bad?.(error));
+    }
+
+    /** The next step: that of a command that begins, or, with a number, after that many bytes of the piece. */
+    next(command) {
+        // (The thread keeps the process alive only while it is waited for.)
+        this.worker.ref();
+        const step = new Promise((good, bad) => Object.assign(this, { good, bad }));
+        if (typeof command !== "number") this.worker.postMessage(command);
+        else {
+            this.control[1] = command;
+            Atomics.store(this.control, 0, 1);
+            Atomics.notify(this.control, 0);
+        }
+        return step.finally(() => this.worker.unref());
+    }
+}
+
+/** A command that runs in a thread. */
+class Running {
+    constructor(words, inputs, memory) {
+        Object.assign(this, { words, inputs, memory, thread: null, isClosed: false });
+        /** By the number of the stream: the pieces that are still to come, and the rest of the last one. */
+        this.iterators = new Map();
+        this.rests = new Map();
+        this.answer = 0;
+    }
+
+    /** The next piece of the output, or null at its end. */
+    async next() {
+        try {
+            for (;;) {
+                const step = await this.#step();
+                if (step.ended) return this.#end(step);
+                this.answer = 0;
+                if (!step.reads) return this.thread.piece.slice(0, step.size);
+                this.answer = await this.#give(step.reads);
+            }
+        } catch (error) {
+            this.close();
+            throw error;
+        }
+    }
+
+    #step() {
+        if (this.thread) return this.thread.next(this.answer);
+        this.thread = threads.pop() ?? new Thread();
+        const known = [...this.inputs.files.keys()].filter((name) => this.inputs.has(name));
+        return this.thread.next({ words: this.words, known, memory: this.memory });
+    }
+
+    /** Puts the next bytes of an input into the piece. Returns how many there are, 0 at the end. */
+    async #give([number, name]) {
+        if (!this.iterators.has(number)) this.iterators.set(number, awaitedPiecesOf(this.inputs.take(name)));
+        let rest = this.rests.get(number);
+        while (!rest?.length) {
+            const { done, value } = await this.iterators.get(number).next();
+            if (this.isClosed) throw new Error("the stream was closed");
+            if (done) return 0;
+            rest = bytesOf(value);
+        }
+        const part = rest.subarray(0, PIECE);
+        this.thread.piece.set(part);
+        this.rests.set(number, rest.subarray(part.length));
+        return part.length;
+    }
+
+    #end({ error, ended }) {
+        if (error) throw error;
+        if (threads.length < KEPT) threads.push(this.thread);
+        else this.thread.worker.terminate();
+        this.thread = null;
+        this.close();
+        check(ended, this.inputs, new Uint8Array(0));
+        return null;
+    }
+
+    /** Ends the command, if it has not ended, and closes its inputs. */
+    close() {
+        if (this.isClosed) return;
+        this.isClosed = true;
+        this.thread?.worker.terminate();
+        for (const it of this.iterators.values()) it.return().catch(() => {});
+    }
+}
+
+export function stream(words, { stdin = "", files = {}, memory } = {}) {
+    const running = new Running(words, new Inputs(stdin, files, ASYNC), memory);
+    const pull = async (controller) => {
+        const piece = await running.next();
+        if (piece) controller.enqueue(piece);
+        else controller.close();
+    };
+    return new ReadableStream({ pull, cancel: () => running.close() }, { highWaterMark: 0 });
+}
