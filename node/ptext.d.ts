@@ -21,7 +21,8 @@ export interface Options<Kind> {
 
 /**
  * Runs a command, the name of the tool first, in this thread, and returns its output. With `write` the output goes there,
- * in pieces as they come. Throws a PtextError if the status is not 0.
+ * in pieces as they come, whose bytes are others after that call: copy what you keep. Throws a PtextError if the status is
+ * not 0.
  */
 export function run(words: readonly string[], options?: Options<SyncInput>): Uint8Array;
 export function run(words: readonly string[], options: Options<SyncInput> & { write(piece: Uint8Array): void }): void;
@@ -32,7 +33,10 @@ export function run(words: readonly string[], options: Options<SyncInput> & { wr
  * piece it throws a PtextError if the status is not 0. What an input throws comes through. Leaving the loop, or
  * `cancel()`, ends the command.
  */
-export function stream(words: readonly string[], options?: Options<Input>): ReadableStream<Uint8Array> & AsyncIterable<Uint8Array>;
+export function stream(
+    words: readonly string[],
+    options?: Options<Input>,
+): ReadableStream<Uint8Array> & AsyncIterable<Uint8Array>;
 
 /** The names of the files that a command reads, in their order, and that of its output file, if it has one. */
 export function names(words: readonly string[]): { read: string[]; output: string | null };

@@ -116,7 +116,7 @@ export function run(words, { stdin = "", files = {}, memory, write } = {}) {
             return reader(room);
         };
     };
-    const take = (piece) => (write ? write(piece.slice()) : out.push(piece.slice()));
+    const take = write ?? ((piece) => out.push(piece.slice()));
     try {
         const did = withModule(memory, (module) => module.run(words, open, take));
         const whole = joined(out);
@@ -141,7 +141,9 @@ class Thread {
     constructor() {
         this.shared = new SharedArrayBuffer(8 + PIECE);
         [this.control, this.piece] = [new Int32Array(this.shared, 0, 2), new Uint8Array(this.shared, 8)];
-        this.worker = new Worker(at("worker.mjs"), { workerData: { module: compile(), shared: this.shared } });
+        // (With little room for what is new, the buffers that a run leaves are collected soon.)
+        const resourceLimits = { maxYoungGenerationSizeMb: 1 }, workerData = { module: compile(), shared: this.shared };
+        this.worker = new Worker(at("worker.mjs"), { workerData, resourceLimits });
         this.worker.unref();
         this.worker.on("message", (step) => this.good(step));
         this.worker.on("error", (error) => this.bad?.(error));

@@ -1,4 +1,5 @@
 // A command as one types it: words with quotes, and several commands with `|` between them.
+import { joined } from "./ptext.mjs";
 
 /** A command that is not taken. Its message says why. */
 export class Refused extends Error {}
@@ -61,20 +62,19 @@ export function commands(text) {
 }
 
 /**
- * Runs commands, each over the output of the one before it. Returns the statuses of all, the status of the last one and
- * its output, the name of the file to which that output goes (or null), and the messages of all.
+ * Runs commands, each over the output of the one before it, by a function that gets the words of one, its standard input,
+ * its files by their names, and whether it is the last, and returns the status, the messages, the output, and the name of
+ * the file to which that goes (or null). Returns the same of the last one, with the statuses and the messages of all.
  */
-export function runAll(ptext, all, stdin, files) {
+export function runAll(run, all, stdin, files) {
     const known = new Map(files), messages = [], statuses = [];
     let input = stdin, last = null;
     for (const words of all) {
-        last = ptext.run(words, input, known);
+        last = run(words, input, known, statuses.length === all.length - 1);
         messages.push(last.messages);
         statuses.push(last.status);
         if (last.output !== null) known.set(last.output, last.out);
-        input = last.output === null ? last.out : new Uint8Array(0);
+        input = last.output === null ? last.out : "";
     }
-    const size = messages.reduce((sum, it) => sum + it.length, 0), together = new Uint8Array(size);
-    messages.reduce((at, it) => (together.set(it, at), at + it.length), 0);
-    return { ...last, statuses, messages: together };
+    return { ...last, statuses, messages: joined(messages) };
 }

@@ -10,6 +10,7 @@ const INPUTS = ["stdin", "file1", "file2"];
 const SHOWN = 65536, EDITED = 100_000;
 /** How much of an input is shown that cannot be edited. */
 const BEGINNING = 2000;
+const CUT = `, of which the first ${SHOWN.toLocaleString("en")} are shown`;
 const LACKS = "This browser cannot run the module, which needs memories with 64-bit addresses in WebAssembly "
     + "(Chromium and Chrome have them since version 133, Firefox since 134).";
 const STATUSES = {
@@ -21,9 +22,15 @@ const STATUSES = {
 /** The differences if commands are chained. */
 const OF_LAST = { ...STATUSES, 0: "the output of the last command was written", 2: "the last command is wrong" };
 
-/** The inputs that no field can hold, as a text or as bytes: long ones, and those that are not UTF-8. */
+/** How long the part of a link after # may be, and how many bytes of the output are copied. */
+const LINKED = 50_000, COPIED = 10_000_000;
+const NOTHING = new Uint8Array(0);
+
+/** The inputs that no field can hold, as a text or as a file: long ones, and those that are not UTF-8. */
 const held = new Map();
 let compiled = null, worker = null, number = 0, isRunning = false, waiting = 0, patience = 0, address = "";
+/** The output that is shown, and the last part of the address that this page has made itself. */
+let output = new Blob([]), linked = "";
 
 /** Makes a worker from the scripts of this page. */
 function newWorker() {
@@ -32,7 +39,7 @@ function newWorker() {
     const made = new Worker(place);
     made.onmessage = ({ data }) => {
         URL.revokeObjectURL(place);
-        if (data.number === number) finish(data);
+        if (data.number === number) (data.part ? showPart : finish)(data.part ?? data);
     };
     made.onerror = () => {
         settle();
@@ -45,6 +52,7 @@ function newWorker() {
 // ---- inputs
 
 const inputOf = (id) => held.get(id) ?? at(id).value;
+const sizeOf = (input) => input.size ?? input.length;
 
 /** Empties an input, so that it can be edited. */
 function empty(id) {
@@ -62,23 +70,32 @@ function forget(id) {
 
 const counted = (count, unit) => `${count.toLocaleString("en")} ${unit}${count === 1 ? "" : "s"}`;
 
-/** Sets an input. If a field cannot hold it, the field shows its beginning, and cannot be edited. */
-function setInput(id, given) {
-    empty(id);
-    const text = typeof given === "string" ? given : decoded(given);
-    if (text !== null && text.length <= EDITED && !/[\0\r]/.test(text)) {
-        at(id).value = text;
-        return;
-    }
+const isEdited = (text) => text.length <= EDITED && !/[\0\r]/.test(text);
+
+/** Holds an input for which there is no field: it shows its beginning, and cannot be edited. */
+function hold(id, given, beginning, isLong) {
     held.set(id, given);
-    const isLong = (text ?? given).length > BEGINNING;
-    const asText = () => shown(firstOf(given, BEGINNING)).map((it) => it.text).join("");
-    at(id).value = text === null ? asText() : text.slice(0, BEGINNING);
+    at(id).value = beginning;
     at(id).readOnly = true;
-    const count = counted(given.length, typeof given === "string" ? "character" : "byte");
     const what = isLong ? "of which the beginning is shown" : "which cannot be edited here";
-    at(`${id}-held`).textContent = `${count}, ${what}.`;
+    at(`${id}-held`).textContent = `${counted(sizeOf(given), given instanceof Blob ? "byte" : "character")}, ${what}.`;
     at(`${id}-empty`).hidden = false;
+}
+
+/** Sets an input to a text. */
+function setText(id, text) {
+    empty(id);
+    if (isEdited(text)) at(id).value = text;
+    else hold(id, text, text.slice(0, BEGINNING), text.length > BEGINNING);
+}
+
+/** Sets an input to a file, of which only the first bytes are read now. */
+function setFile(id, file, bytes) {
+    empty(id);
+    const text = file.size <= EDITED ? decoded(bytes) : null;
+    if (text !== null && isEdited(text)) at(id).value = text;
+    else if (text !== null) hold(id, file, text.slice(0, BEGINNING), text.length > BEGINNING);
+    else hold(id, file, shown(firstOf(bytes, BEGINNING)).map((it) => it.text).join(""), file.size > BEGINNING);
 }
 
 /** The text of these bytes, or null if they are not UTF-8. */
@@ -97,7 +114,7 @@ function paste(event) {
     event.preventDefault();
     const { value, selectionStart, selectionEnd } = field;
     const pasted = text.replaceAll("\r\n", "\n");
-    setInput(field.id, value.slice(0, selectionStart) + pasted + value.slice(selectionEnd));
+    setText(field.id, value.slice(0, selectionStart) + pasted + value.slice(selectionEnd));
     forget(field.id);
     change();
 }
@@ -107,14 +124,13 @@ async function open(id, chosen) {
     if (!chosen) return;
     let bytes = null;
     try {
-        bytes = new Uint8Array(await chosen.arrayBuffer());
+        bytes = new Uint8Array(await chosen.slice(0, EDITED).arrayBuffer());
     } catch (error) {
-        // (A browser reads no file of more than some 2 GB.)
         at(`${id}-held`).textContent = `${chosen.name} could not be read, and nothing was changed: ${error.message}`;
         forget(id);
         return;
     }
-    setInput(id, bytes);
+    setFile(id, chosen, bytes);
     const name = at(id.replace("file", "name"));
     if (id !== "stdin" && name.value === "") name.value = chosen.name;
     change();
@@ -155,7 +171,7 @@ function run() {
         }, 400);
     } catch (error) {
         if (!(error instanceof Refused)) throw error;
-        show(new Uint8Array(0), new TextEncoder().encode(`${error.message}\n`), null);
+        show({ messages: new TextEncoder().encode(`${error.message}\n`) });
         say("Not run", "this page could not split the command");
     }
 }
@@ -163,7 +179,7 @@ function run() {
 function stop() {
     abandon();
     number++;
-    show(new Uint8Array(0), new Uint8Array(0), null);
+    show({});
     say("Stopped", "");
 }
 
@@ -173,11 +189,11 @@ function stop() {
 function finish(data) {
     settle();
     if (data.error) {
-        show(new Uint8Array(0), new TextEncoder().encode(`${data.error}\n`), null);
+        show({ messages: new TextEncoder().encode(`${data.error}\n`) });
         say("Failed", "the module stopped");
         return;
     }
-    show(data.out, data.messages, data.output);
+    show(data);
     say(`Status ${data.status}`, meaningOf(data.statuses));
 }
 
@@ -193,15 +209,26 @@ function say(status, meaning) {
     if (at("status").textContent !== text) at("status").textContent = text;
 }
 
+/** Shows the beginning of an output that is not all there. */
+function showPart({ first, size }) {
+    showBeginning(first, size);
+    at("size").textContent += " so far";
+}
+
+function showBeginning(first, size) {
+    fill("out", first);
+    at("size").textContent = counted(size, "byte") + (size > SHOWN ? CUT : "");
+}
+
 /** Shows the output and the messages, and offers the whole output as a file. */
-function show(out, messages, file) {
-    const cut = `, of which the first ${SHOWN.toLocaleString("en")} are shown`;
-    at("size").textContent = counted(out.length, "byte") + (fill("out", out) ? cut : "");
+function show({ first = NOTHING, out = new Blob([]), messages = NOTHING, output: file = null }) {
+    showBeginning(first, out.size);
     const isCut = fill("messages", messages);
-    at("messages-size").textContent = isCut ? `${counted(messages.length, "byte")}${cut}. ` : "";
+    at("messages-size").textContent = isCut ? `${counted(messages.length, "byte")}${CUT}. ` : "";
     at("where").textContent = file === null ? "" : `to the file ${file}`;
     URL.revokeObjectURL(address);
-    address = URL.createObjectURL(new Blob([out]));
+    output = out;
+    address = URL.createObjectURL(out);
     at("download").href = address;
     at("download").download = file ?? "output.txt";
 }
@@ -224,7 +251,8 @@ function fill(id, bytes) {
 /** Runs soon, unless more is typed before. */
 function change() {
     clearTimeout(waiting);
-    const size = INPUTS.reduce((sum, it) => sum + inputOf(it).length, 0);
+    at("done").textContent = "";
+    const size = INPUTS.reduce((sum, it) => sum + sizeOf(inputOf(it)), 0);
     waiting = setTimeout(run, size > 1_000_000 ? 500 : 80);
 }
 
@@ -233,9 +261,54 @@ function take(example) {
         empty(it);
         forget(it);
     }
-    for (const it of FIELDS) at(it).value = example[it] ?? "";
+    for (const it of FIELDS) {
+        if (INPUTS.includes(it)) setText(it, example[it] ?? "");
+        else at(it).value = example[it] ?? "";
+    }
+    at("done").textContent = "";
     clearTimeout(waiting);
     run();
+}
+
+/** Puts a text into the clipboard, and says what was done. */
+async function copy(text, what) {
+    try {
+        await navigator.clipboard.writeText(text);
+    } catch {
+        // (Some browsers have no clipboard for a page from a folder.)
+        const field = document.createElement("textarea");
+        field.value = text;
+        document.body.append(field);
+        field.select();
+        const isCopied = document.execCommand("copy");
+        field.remove();
+        if (!isCopied) {
+            at("done").textContent = "This browser does not let the page copy.";
+            return;
+        }
+    }
+    at("done").textContent = what;
+}
+
+/** Puts the command and the inputs into the address of the page, and copies it. */
+function link() {
+    const fields = FIELDS.filter((it) => at(it).value && !held.has(it));
+    const text = String(new URLSearchParams(fields.map((it) => [it, at(it).value])));
+    if (text.length > LINKED) {
+        at("done").textContent = "This is too long for a link.";
+        return;
+    }
+    linked = `#${text}`;
+    location.replace(linked);
+    copy(location.href, `The link is copied${held.size ? ", without the inputs that cannot be edited" : ""}.`);
+}
+
+/** Fills the fields from the address of the page. Returns whether it has a command. */
+function follow() {
+    const given = Object.fromEntries(new URLSearchParams(location.hash.slice(1)));
+    if (given.command === undefined) return false;
+    take(given);
+    return true;
 }
 
 async function begin() {
@@ -262,6 +335,9 @@ async function begin() {
         });
     }
     at("stop").addEventListener("click", stop);
+    at("link").addEventListener("click", link);
+    at("copy").addEventListener("click", async () => copy(await output.slice(0, COPIED).text(), "The output is copied."));
+    addEventListener("hashchange", () => location.hash !== linked && follow());
     for (const it of document.querySelectorAll("[data-example]")) {
         it.addEventListener("click", () => {
             take(examples[it.dataset.example]);
@@ -270,6 +346,7 @@ async function begin() {
     }
     document.body.dataset.ready = "yes";
     // (A browser may fill the fields with what was there before.)
+    if (follow()) return;
     if (at("command").value) run();
     else take(examples[0]);
 }

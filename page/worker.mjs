@@ -1,18 +1,70 @@
 // Runs commands beside the page, so that it stays responsive. The page sends a compiled module first.
-import { Ptext } from "./ptext.mjs";
+import { Ptext, bytesOf, isBytes, joined, readerOf } from "./ptext.mjs";
 import { runAll } from "./command.mjs";
 
+/** How much of a Blob is read at a time, and how much of the output becomes one, in bytes. */
+const PART = 2 ** 20;
+/** How much of the output is sent to be shown. (The last byte tells whether there is more.) */
+const SENT = 65537;
+
 let ptext = null;
+
+/** The parts of a Blob, or of a file that was chosen. The memory that they take is that of one. */
+function* partsOf(blob) {
+    const reader = new FileReaderSync();
+    for (let at = 0; at < blob.size; at += PART) yield reader.readAsArrayBuffer(blob.slice(at, at + PART));
+}
+
+/** An output. The browser keeps its Blobs outside of the memory of scripts. */
+class Output {
+    constructor(tell) {
+        Object.assign(this, { tell, size: 0, first: [], left: SENT, pieces: [], waiting: 0, blobs: [] });
+    }
+
+    add(piece) {
+        const bytes = piece.slice();
+        if (this.left) {
+            this.first.push(bytes.slice(0, this.left));
+            this.left -= this.first.at(-1).length;
+        }
+        this.pieces.push(bytes);
+        this.waiting += bytes.length;
+        this.size += bytes.length;
+        if (this.waiting >= PART) {
+            this.keep();
+            this.tell({ first: joined(this.first), size: this.size });
+        }
+    }
+
+    keep() {
+        this.blobs.push(new Blob(this.pieces));
+        [this.pieces, this.waiting] = [[], 0];
+    }
+
+    whole() {
+        this.keep();
+        return new Blob(this.blobs);
+    }
+}
+
+/** Runs a command. `tell` gets the beginning of its output and how long it is so far. */
+function run(words, stdin, files, tell) {
+    const read = (given) => readerOf(isBytes(given) ? [bytesOf(given)] : partsOf(given));
+    const open = (name) => (name === null ? read(stdin) : files.has(name) ? read(files.get(name)) : null);
+    const out = new Output(tell), did = ptext.run(words, open, (piece) => out.add(piece));
+    return { ...did, out: out.whole(), first: joined(out.first) };
+}
 
 self.onmessage = ({ data }) => {
     if (data.module) {
         ptext = new Ptext(data.module);
         return;
     }
+    const { number, commands, stdin, files } = data, tell = (part) => self.postMessage({ number, part });
     try {
-        const did = runAll(ptext, data.commands, data.stdin, data.files);
-        self.postMessage({ number: data.number, ...did }, [did.out.buffer, did.messages.buffer]);
+        const one = (words, input, known, isLast) => run(words, input, known, isLast ? tell : () => {});
+        self.postMessage({ number, ...runAll(one, commands, stdin, files) });
     } catch (error) {
-        self.postMessage({ number: data.number, error: String(error) });
+        self.postMessage({ number, error: String(error) });
     }
 };

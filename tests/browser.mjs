@@ -1,24 +1,14 @@
-// Tests of a built page in a browser without a window: types, clicks, and compares with the program.
+// Tests of a built page in Chromium without a window: types, clicks, and compares with the program.
 // usage: node tests/browser.mjs CHROMIUM PAGE PROGRAM [PICTURE]      PICTURE: a picture of the page is put there
-import { spawn, spawnSync } from "node:child_process";
+import { spawn } from "node:child_process";
 import fs from "node:fs";
-import os from "node:os";
 import path from "node:path";
 import { pathToFileURL } from "node:url";
+import { FIELDS, RESULT, byProgram, counts, is, numbered, room } from "./shown.mjs";
 
 const [chromium, page, program, picture] = process.argv.slice(2);
-const room = fs.mkdtempSync(path.join(os.tmpdir(), "ptext-page-"));
 const address = pathToFileURL(path.resolve(page)).href;
-let tests = 0, failed = 0, browser = null;
-
-function is(what, found, wanted) {
-    tests++;
-    const [one, two] = [found, wanted].map((it) => JSON.stringify(it) ?? "nothing");
-    if (one !== two) {
-        failed++;
-        console.log(`FAILED: ${what}\nwanted: ${two.slice(0, 300)}\nfound:  ${one.slice(0, 300)}`);
-    }
-}
+let browser = null;
 
 /** A browser, to which messages go by a pipe, as the protocol of its developer tools has them. */
 class Browser {
@@ -96,36 +86,6 @@ class Browser {
     }
 }
 
-// The texts that the page shows. Escapes are shown, too: so these inputs have none.
-const RESULT = `Object.fromEntries(["status", "out", "messages"]
-    .map((id) => [id, document.getElementById(id).textContent]))`;
-const FIELDS = `Object.fromEntries(["command", "stdin", "name1", "file1", "name2", "file2"]
-    .map((id) => [id, document.getElementById(id).value]))`;
-
-/** The results of the program for what the fields hold, by a shell. */
-function byProgram(fields) {
-    const folder = fs.mkdtempSync(`${room}/here-`);
-    fs.mkdirSync(`${folder}/bin`);
-    for (const tool of ["cut", "paste", "join", "comm", "uniq", "tr"]) {
-        const text = `#!/bin/sh\nexec '${path.resolve(program)}' ${tool} "$@"\n`;
-        fs.writeFileSync(`${folder}/bin/${tool}`, text, { mode: 0o755 });
-    }
-    fs.mkdirSync(`${folder}/files`);
-    for (const it of [1, 2]) {
-        if (fields[`name${it}`]) fs.writeFileSync(`${folder}/files/${fields[`name${it}`]}`, fields[`file${it}`]);
-    }
-    const before = fs.readdirSync(`${folder}/files`);
-    const environment = { ...process.env, PATH: `${folder}/bin:${process.env.PATH}` };
-    const how = { cwd: `${folder}/files`, input: fields.stdin, env: environment, encoding: "utf8" };
-    const did = spawnSync("sh", ["-c", fields.command], how);
-    // (The output of `uniq` may be in a file.)
-    const made = fs.readdirSync(`${folder}/files`).filter((it) => !before.includes(it));
-    const out = made.length ? fs.readFileSync(`${folder}/files/${made[0]}`, "utf8") : did.stdout;
-    return { status: did.status, out, messages: did.stderr };
-}
-
-const numbered = ({ status, ...rest }) => ({ status: Number(/^Status (\d)/.exec(status)?.[1] ?? -1), ...rest });
-
 /** Clicks the link, and compares the file with these bytes. */
 async function downloaded(browser, wanted) {
     await browser.send("Page.setDownloadBehavior", { behavior: "allow", downloadPath: `${room}/downloads` });
@@ -146,7 +106,7 @@ async function typed(browser) {
     await browser.type("file1", "b:2\n");
     await browser.type("command", "cut -d : -f 1 names nowhere");
     is("a file that is not there", await browser.until(`(${RESULT}).status.startsWith("Status 1: ")`), true);
-    is("its result", numbered(await browser.value(RESULT)), byProgram(await browser.value(FIELDS)));
+    is("its result", numbered(await browser.value(RESULT)), byProgram(await browser.value(FIELDS), program));
     await browser.type("command", "cut -q");
     is("a wrong command", await browser.until(`(${RESULT}).status.startsWith("Status 2: ")`), true);
     const wrong = { status: 2, out: "", messages: "cut: unknown option in -q\n" };
@@ -188,7 +148,7 @@ async function clicked(browser) {
         const fields = await browser.value(FIELDS);
         is(`example ${number} is run`, shows, true);
         is(`the button of example ${number}`, await browser.value(`${button}.textContent`), fields.command);
-        is(`example: ${fields.command}`, numbered(await browser.value(RESULT)), byProgram(fields));
+        is(`example: ${fields.command}`, numbered(await browser.value(RESULT)), byProgram(fields, program));
     }
 }
 
@@ -220,37 +180,81 @@ async function large(browser) {
     is("a run after it", await browser.until(`(${RESULT}).out === "20000 k some more words\\n"`), true);
 }
 
+/** A file is read in parts: neither it nor the output is in the memory of the page or of its worker. */
+async function huge(browser) {
+    const size = 300 * 10 ** 6, shows = `document.getElementById("size").textContent`;
+    fs.writeFileSync(`${room}/huge`, "");
+    fs.truncateSync(`${room}/huge`, size);
+    await browser.type("command", "tr '\\0' x | cut -b 2");
+    await choose(browser, "stdin-open", "huge");
+    const wanted = "2 bytes";
+    is("a file of 300 MB", await browser.until(`${shows} === ${JSON.stringify(wanted)}`, 120), true);
+    await browser.type("command", "tr '\\0' '\\n' | tr -d x");
+    is("300 MB of output", await browser.until(`${shows}.startsWith("300,000,000 bytes, of which")
+        && !${shows}.endsWith("so far")`, 120), true);
+    await browser.value(`document.getElementById("stdin-empty").click()`);
+    fs.rmSync(`${room}/huge`);
+}
+
+async function shared(browser) {
+    const done = `document.getElementById("done").textContent`, press = (id) => browser.value(`document.getElementById("${id}").click()`);
+    await browser.send("Browser.grantPermissions", { permissions: ["clipboardReadWrite", "clipboardSanitizedWrite"] });
+    for (const it of ["name1", "file1", "name2", "file2"]) await browser.type(it, "");
+    await browser.type("stdin", "é=1&2\nb\n");
+    await browser.type("command", "tr -d '+ #%' | cut -d = -f 2");
+    is("before a link", await browser.until(`(${RESULT}).out === "1&2\nb\n"`), true);
+    await press("link");
+    is("a link", await browser.until(`${done} === "The link is copied."`), true);
+    const linked = await browser.value("location.href");
+    await browser.value(`document.querySelector("[data-example]").click()`);
+    await press("copy");
+    is("a copy", await browser.until(`${done} === "The output is copied."`), true);
+    await browser.value(`window.focus()`);
+    is("its text", await browser.value("navigator.clipboard.readText().catch(String)"), await browser.value(`(${RESULT}).out`));
+    await browser.value(`location.replace("#")`);
+    await browser.value(`location.replace(${JSON.stringify(linked)})`);
+    is("it is followed", await browser.until(`(${RESULT}).out === "1&2\nb\n"`), true);
+    is("its fields", await browser.value(FIELDS), { command: "tr -d '+ #%' | cut -d = -f 2", stdin: "é=1&2\nb\n",
+        name1: "", file1: "", name2: "", file2: "" });
+    await browser.type("command", `tr ${"a".repeat(60000)} b`);
+    await press("link");
+    is("what is too long", await browser.value(done), "This is too long for a link.");
+    is("the address stays", await browser.value("location.href"), linked);
+}
+
 /** A run at which the worker fails is told, and so is the one after it. */
 async function failing(browser) {
     await browser.value(`{ const send = Worker.prototype.postMessage;
         Worker.prototype.postMessage = function (message, ...rest) {
             const isRun = message.commands && message.commands[0][0] === "uniq";
-            return send.call(this, isRun ? { ...message, stdin: 7 } : message, ...rest);
+            return send.call(this, isRun ? { ...message, commands: [["uniq", 7]] } : message, ...rest);
         }; }`);
     await browser.type("command", "uniq");
     is("a run that fails", await browser.until(`(${RESULT}).status.startsWith("Failed")`), true);
     const failed = { status: "Failed: the module stopped", out: "",
-        messages: "TypeError: an input is a string, an ArrayBuffer or a view of one\n" };
+        messages: "TypeError: words are a list of strings, as ['cut', '-f', '1']\n" };
     is("its result", await browser.value(RESULT), failed);
     await browser.type("command", "cut -q");
     is("a run after it", await browser.until(`(${RESULT}).status.startsWith("Status 2: ")`), true);
 }
 
+/** Chooses a file. */
+async function choose(browser, id, file) {
+    const { root } = await browser.send("DOM.getDocument");
+    const { nodeId } = await browser.send("DOM.querySelector", { nodeId: root.nodeId, selector: `#${id}` });
+    await browser.send("DOM.setFileInputFiles", { files: [`${room}/${file}`], nodeId });
+}
+
 /** Chooses a file of bytes that are no text, and one that cannot be read. */
 async function chosen(browser) {
     fs.writeFileSync(`${room}/bytes`, Buffer.from([0x61, 0xff, 0x0d, 0x0a]));
-    const choose = async () => {
-        const { root } = await browser.send("DOM.getDocument");
-        const { nodeId } = await browser.send("DOM.querySelector", { nodeId: root.nodeId, selector: "#file1-open" });
-        await browser.send("DOM.setFileInputFiles", { files: [`${room}/bytes`], nodeId });
-    };
     const count = `document.getElementById("file1-open").files.length`;
     const held = `document.getElementById("file1-held").textContent`;
     for (const turn of ["Empty", "an example", "typing"]) {
         for (const it of ["name1", "file1", "name2", "file2", "stdin"]) await browser.type(it, "");
         await browser.type("command", "cut -b 1- bytes");
         is(`no file is chosen before: ${turn}`, await browser.value(count), 0);
-        await choose();
+        await choose(browser, "file1-open", "bytes");
         // (Until then the output is that of the turn before.)
         const isTaken = `${held} !== "" && (${RESULT}).out.startsWith("a\\\\xff")`;
         is("a file is taken", await browser.until(isTaken), true);
@@ -262,18 +266,18 @@ async function chosen(browser) {
     }
     await browser.value(`document.getElementById("file1-empty").click()`);
     fs.writeFileSync(`${room}/bytes`, "€\r".repeat(600));
-    await choose();
+    await choose(browser, "file1-open", "bytes");
     const all = "2,400 bytes, which cannot be edited here.";
     is("all of many bytes is shown", await browser.until(`${held} === "${all}"`), true);
     await browser.value(`document.getElementById("file1-empty").click()`);
     fs.writeFileSync(`${room}/bytes`, "some text\n");
     await browser.value(`document.getElementById("file1-empty").click()`);
-    await choose();
+    await choose(browser, "file1-open", "bytes");
     is("a text is taken", await browser.until(`(${RESULT}).out === "some text\\n"`), true);
     await browser.type("file1", "another text");
     is("typing forgets the file", await browser.value(count), 0);
     await browser.value(`Blob.prototype.arrayBuffer = async () => { throw new Error("too large"); }`);
-    await choose();
+    await choose(browser, "file1-open", "bytes");
     is("a file that cannot be read", await browser.until(`${held}.startsWith("bytes could not be read")`), true);
     is("nothing was changed", await browser.value(`[document.getElementById("file1").value, ${count}]`),
         ["another text", 0]);
@@ -305,7 +309,10 @@ async function names(browser) {
 async function narrow(browser) {
     const phone = { width: 360, height: 740, deviceScaleFactor: 2, mobile: true };
     await browser.send("Emulation.setDeviceMetricsOverride", phone);
+    await browser.value("scrollTo(0, 0)");
     is("on a phone nothing is cut off", await browser.value("document.documentElement.scrollWidth"), 360);
+    is("examples can be seen at once",
+        await browser.value(`document.querySelector(".examples").getBoundingClientRect().bottom < 500`), true);
     await browser.send("Emulation.clearDeviceMetricsOverride");
     const colors = async (scheme) => {
         const features = [{ name: "prefers-color-scheme", value: scheme }];
@@ -337,10 +344,12 @@ async function main() {
     await chosen(browser);
     await messages(browser);
     await large(browser);
+    await huge(browser);
+    await shared(browser);
     await failing(browser);
     const requests = browser.events.filter((it) => it.method === "Network.requestWillBeSent");
     const asked = requests.map((it) => it.params.request.url);
-    is("requests beside the page", asked.filter((it) => it !== address && !/^(blob|data):/.test(it)), []);
+    is("requests beside the page", asked.filter((it) => it.replace(/#.*/, "") !== address && !/^(blob|data):/.test(it)), []);
     const thrown = browser.events.filter((it) => it.method === "Runtime.exceptionThrown");
     is("errors", thrown.map((it) => it.params.exceptionDetails.exception?.description), []);
     await browser.open(address, `WebAssembly.compile = async () => { throw new WebAssembly.CompileError(""); }`);
@@ -348,7 +357,7 @@ async function main() {
     const lacks = await browser.value(`document.getElementById("lacks").textContent`);
     is("it says so", lacks.includes("64-bit addresses"), true);
     await browser.close();
-    console.log(`${tests} tests in a browser: ${failed} failed`);
+    console.log(`${counts.tests} tests in Chromium: ${counts.failed} failed`);
 }
 
 /** Ends the browser and removes all files. */
@@ -361,5 +370,5 @@ function end(status) {
 for (const it of ["SIGTERM", "SIGINT", "SIGHUP"]) process.on(it, () => end(1));
 main().catch((error) => {
     console.log(`FAILED: ${error.stack}`);
-    failed++;
-}).finally(() => end(failed ? 1 : 0));
+    counts.failed++;
+}).finally(() => end(counts.failed ? 1 : 0));

@@ -1,10 +1,10 @@
-// Tests of the module of a page, and of the scripts around it, by node. usage: node tests/page.mjs PAGE
+// Tests of the module of a page, and of the scripts around it, by node. usage: node tests/page.mjs MODULE
+import fs from "node:fs";
 import { commands, runAll, Refused } from "../page/command.mjs";
-import { load } from "../page/node.mjs";
-import { Heap } from "../page/ptext.mjs";
+import { Heap, Ptext, joined, readerOf } from "../page/ptext.mjs";
 import { firstOf, shown } from "../page/shown.mjs";
 
-const page = process.argv[2];
+const module = fs.readFileSync(process.argv[2]);
 let tests = 0, failed = 0;
 
 function is(what, found, wanted) {
@@ -18,12 +18,24 @@ function is(what, found, wanted) {
 
 const encode = (text) => new TextEncoder().encode(text);
 const decode = (bytes) => new TextDecoder("utf-8", { ignoreBOM: true }).decode(bytes);
-const ptext = await load(page);
+const load = (limit) => Ptext.load(module, limit);
+const ptext = await load();
 
-/** Runs a command as it is typed. */
-function run(text, stdin = "", files = {}, by = ptext) {
-    const given = Object.entries(files).map(([name, it]) => [name, encode(it)]);
-    const did = runAll(by, commands(text), typeof stdin === "string" ? encode(stdin) : stdin, new Map(given));
+/** Runs a command over bytes, whose output is one array. */
+function runOver(words, stdin, files, by = ptext) {
+    const out = [], read = (given) => readerOf([given]);
+    const open = (name) => (name === null ? read(stdin) : files.has(name) ? read(files.get(name)) : null);
+    const did = by.run(words, open, (piece) => out.push(piece.slice()));
+    return { ...did, out: joined(out) };
+}
+
+/** Runs commands as they are typed. */
+function runTyped(text, stdin = "", files = {}, by = ptext) {
+    return runAll((...given) => runOver(...given.slice(0, 3), by), commands(text), stdin, new Map(Object.entries(files)));
+}
+
+function run(...given) {
+    const did = runTyped(...given);
     return [did.status, decode(did.out), decode(did.messages)];
 }
 
@@ -68,7 +80,7 @@ is("no words", run("")[0], 2);
 is("ptext alone", run("ptext")[0], 2);
 is("no tool", run("head -1")[0], 2);
 const every = Uint8Array.from({ length: 256 }, (_, index) => index);
-is("all bytes", ptext.run(["tr", "-d", "\\n"], every, new Map()).out, every.filter((it) => it !== 10));
+is("all bytes", runOver(["tr", "-d", "\\n"], every).out, every.filter((it) => it !== 10));
 
 // ---- the names of files
 is("names", ptext.names(["paste", "a", "-", "b"]), { read: ["a", "b"], output: null });
@@ -90,8 +102,8 @@ const TYPES = [
     ["bytes within a buffer", inner, "ab\n"],
 ];
 for (const [what, given, wanted] of TYPES) {
-    is(`standard input: ${what}`, decode(ptext.run(["cut", "-b", "1-"], given).out), wanted);
-    is(`a file: ${what}`, decode(ptext.run(["cut", "-b", "1-", "f"], "", new Map([["f", given]])).out), wanted);
+    is(`standard input: ${what}`, decode(runOver(["cut", "-b", "1-"], given).out), wanted);
+    is(`a file: ${what}`, decode(runOver(["cut", "-b", "1-", "f"], "", new Map([["f", given]])).out), wanted);
 }
 /** The name of the error of a call, or nothing. */
 function errorOf(call) {
@@ -104,13 +116,13 @@ function errorOf(call) {
 }
 for (const given of [null, 7, {}, [97, 10], new Date(0), new Blob(["a"])]) {
     const files = new Map([["f", given]]);
-    is(`standard input is refused: ${given}`, errorOf(() => ptext.run(["uniq"], given)), "TypeError");
-    is(`a file is refused: ${given}`, errorOf(() => ptext.run(["uniq", "f"], "", files)), "TypeError");
+    is(`standard input is refused: ${given}`, errorOf(() => runOver(["uniq"], given)), "TypeError");
+    is(`a file is refused: ${given}`, errorOf(() => runOver(["uniq", "f"], "", files)), "TypeError");
 }
 for (const words of ["uniq", undefined, ["cut", "-f", 1], [["uniq"]]]) {
-    is(`words are refused: ${JSON.stringify(words)}`, errorOf(() => ptext.run(words, "", new Map())), "TypeError");
+    is(`words are refused: ${JSON.stringify(words)}`, errorOf(() => runOver(words, "")), "TypeError");
 }
-is("a word with byte 0", errorOf(() => ptext.run(["cut\0"], "", new Map())), "Error");
+is("a word with byte 0", errorOf(() => runOver(["cut\0"], "")), "Error");
 
 // ---- much: a megabyte, more output than input, two runs after one another, and a module that is loaded anew
 const rows = Array.from({ length: 60000 }, (_, index) => `${index},some words,${index * 7}`);
@@ -132,104 +144,145 @@ is("500 files", run(`paste ${names.join(" ")}`, "", many), [0, `${names.join("\t
 const none = Array.from({ length: 500 }, (_, index) => `${"none".repeat(50)}${index}`);
 is("more than 64 KiB of messages", run(`cut -f 1 ${none.join(" ")}`),
     [1, "", none.map((it) => `cut: ${it}: cannot be opened\n`).join("")]);
-const statuses = runAll(ptext, commands("cut -q | cut -f 1 - none | tr a b"), "a\n", new Map()).statuses;
-is("the statuses of a chain", statuses, [2, 1, 0]);
+is("the statuses of a chain", runTyped("cut -q | cut -f 1 - none | tr a b", "a\n").statuses, [2, 1, 0]);
 is("the messages of a chain", run("cut -q | cut -f 1 - none | tr a"), [2, "", "cut: unknown option in -q\n"
     + "cut: none: cannot be opened\ntr: wrong number of operands\n"]);
 
+// ---- pieces: how often each stream is read, what a short read is, and where the output goes
+const lines = ["1 ann", "\n2 b", "", "ob\n3", " cid\n"];
+for (const size of [1, 2, 5, 8191, 8192, 8193, 100000]) {
+    const long = "0123456789".repeat(20000), read = { count: 0 }, found = [];
+    const open = () => {
+        let left = encode(long);
+        return (into) => {
+            read.count++;
+            const part = left.subarray(0, Math.min(size, into.length));
+            into.set(part);
+            left = left.subarray(part.length);
+            return part.length;
+        };
+    };
+    ptext.run(["tr", "0-9", "a-j"], open, (piece) => found.push(piece.slice()));
+    is(`reads of ${size} bytes`, decode(joined(found)) === "abcdefghij".repeat(20000), true);
+    is(`they end once: ${size}`, read.count, Math.ceil(200000 / Math.min(size, 8192)) + 1);
+}
+is("pieces of lines", decode(runOver(["cut", "-d", " ", "-f", "2"], lines.join("")).out), "ann\nbob\ncid\n");
+let wasFlushed = false;
+const early = [];
+ptext.run(["cut", "-b", "1"], () => {
+    const pieces = ["ab\n", "cd\n"];
+    return (into, flush) => {
+        flush();
+        wasFlushed ||= early.length > 0 && pieces.length > 0;
+        const piece = encode(pieces.shift() ?? "");
+        into.set(piece);
+        return piece.length;
+    };
+}, (piece) => early.push(decode(piece)));
+is("output before an input is waited for", [wasFlushed, early.join("")], [true, "a\nc\n"]);
+for (const wrong of [-1, 2 ** 20, NaN, "x"]) {
+    is(`a read of ${wrong} bytes`, errorOf(() => ptext.run(["uniq"], () => () => wrong, () => {})), "RangeError");
+}
+is("a call within a call", errorOf(() => ptext.run(["uniq"], () => () => ptext.names(["uniq"]).length, () => {})), "Error");
+is("a run after these", run("cut -c 1", "ab\n"), [0, "a\n", ""]);
+
 // ---- a module after calls of several kinds
 const sizeOf = (it) => it.exports.memory.buffer.byteLength;
-is("300 MB", run("tr x y", "x".repeat(150 * 10 ** 6))[0], 0);
-const most = sizeOf(ptext);
+is("300 MB", run("tr x y", "x".repeat(3 * 10 ** 8))[1].length, 3 * 10 ** 8);
+is("they take no memory of the module", sizeOf(ptext) < 6 * 2 ** 20, true);
+is("100 MB in a line", run("uniq", "x".repeat(10 ** 8))[0], 0);
+is("they are stored", sizeOf(ptext) > 10 ** 8, true);
 is("a small run after it", run("cut -c 1", "ab\n"), [0, "a\n", ""]);
-is("its module is a new one", most > 3 * 10 ** 8 && sizeOf(ptext) < 10 ** 7, true);
+is("its module is a new one", sizeOf(ptext) < 6 * 2 ** 20, true);
 // A call that the host ends leaves the module as it stopped, with its part of the stack taken.
-const stopped = await load(page), take = stopped.heap.take;
+const stopped = await load();
 for (let turn = 0; turn < 1000; turn++) {
-    let requests = 0;
-    stopped.heap.take = function (size) {
-        if (this.requests && ++requests > 3) throw new RangeError("stopped");
-        return take.call(this, size);
+    const open = () => () => {
+        throw new RangeError("stopped");
     };
-    const error = errorOf(() => stopped.run(["join", "f", "g"], "", new Map([["f", "a 1\n"], ["g", "a 2\n"]])));
+    const error = errorOf(() => stopped.run(["join", "f", "g"], open, () => {}));
     if (error !== "RangeError" || stopped.exports) is(`the host ends call ${turn}`, [error, stopped.exports], []);
 }
-stopped.heap.take = take;
+const full = () => {
+    throw new SyntaxError("full");
+};
+is("the output is not taken", errorOf(() => stopped.run(["uniq"], () => readerOf(["a\n"]), full)), "SyntaxError");
 is("a run after calls that failed", run("join f g", "", { f: "a 1\n", g: "a 2\n" }, stopped), [0, "a 1 2\n", ""]);
 
-// ---- a guard after each room that the module is given: nothing is written there
-const guarded = await load(page), { heap: ofGuarded } = guarded, GUARD = 64, rooms = [];
-const imports = ofGuarded.imports.bind(ofGuarded), ofHeap = ofGuarded.take.bind(ofGuarded);
-let isOfModule = false, faultsOfGuards = 0, looked = 0;
-const byModule = (call) => (...given) => {
-    isOfModule = true;
-    call(...given);
-    isOfModule = false;
+// ---- a guard after each block that the module gets: nothing is written there
+const guarded = await load(), GUARD = 64, rooms = new Map(), ofHeap = guarded.heap;
+const [take, give, start] = ["take", "give", "begin"].map((name) => ofHeap[name].bind(ofHeap));
+let faultsOfGuards = 0, looked = 0;
+const guard = (at, size) => {
+    if (!at) return at;
+    ofHeap.bytes().fill(0xa5, at + size, at + size + GUARD);
+    rooms.set(at, size);
+    return at;
 };
-ofGuarded.imports = () => Object.fromEntries(Object.entries(imports()).map(([name, call]) => [name, byModule(call)]));
-ofGuarded.take = (size) => {
-    const room = ofHeap(isOfModule ? size : size + GUARD);
-    if (!isOfModule && room) {
-        ofGuarded.bytes().fill(0xa5, room + size, room + size + GUARD);
-        rooms.push(room + size);
-    }
-    return room;
+const look = (at) => {
+    const end = at + rooms.get(at);
+    looked++;
+    if (!ofHeap.bytes().subarray(end, end + GUARD).every((it) => it === 0xa5)) faultsOfGuards++;
+    rooms.delete(at);
 };
-ofGuarded.begin = function (...given) {
-    rooms.length = 0;
-    Heap.prototype.begin.apply(this, given);
+ofHeap.begin = (...given) => {
+    for (const at of [...rooms.keys()]) look(at);
+    start(...given);
 };
-/** Looks at the guards after a call. */
-const thenLook = (call) => (...given) => {
-    call(...given);
-    looked += rooms.length;
-    const isIntact = (guard) => ofGuarded.bytes().subarray(guard, guard + GUARD).every((it) => it === 0xa5);
-    faultsOfGuards += rooms.filter((it) => !isIntact(it)).length;
+ofHeap.take = (size) => guard(take(size + GUARD), size);
+ofHeap.give = (at) => {
+    look(at);
+    give(at);
 };
-guarded.run(["uniq"], "a\n");
-const { ptext_names_in_memory: namesOf, ptext_run_in_memory: runOf, ...others } = guarded.exports;
-guarded.exports = { ...others, ptext_names_in_memory: thenLook(namesOf), ptext_run_in_memory: thenLook(runOf) };
+ofHeap.resize = (at, kept, size) => {
+    const moved = ofHeap.take(size);
+    if (!moved) return 0;
+    ofHeap.bytes().copyWithin(moved, at, at + kept);
+    ofHeap.give(at);
+    return moved;
+};
 is("a guarded run", run("join f - | uniq -c", "k 1\n", { f: "k 2\n" }, guarded), [0, "1 k 2 1\n", ""]);
-is("the guards", [looked, faultsOfGuards], [22, 0]);
+const keys = "k some words\n".repeat(300);
+is("a guarded run that stores lines", run("join f -", keys, { f: keys }, guarded)[1].length, 300 * 300 * 24);
+is("names", guarded.names(["paste", "a", "-", "b"]), { read: ["a", "b"], output: null });
+is("the guards", [looked > 20, faultsOfGuards], [true, 0]);
 
 // ---- the worker: it answers each run, also one that fails
 const answers = [];
 globalThis.self = { postMessage: (message) => answers.push(message) };
 await import("../page/worker.mjs");
 globalThis.self.onmessage({ data: { module: ptext.module } });
-globalThis.self.onmessage({ data: { number: 1, commands: [["uniq"]], stdin: 7, files: [] } });
+globalThis.self.onmessage({ data: { number: 1, commands: [["uniq", 7]], stdin: "", files: [] } });
 globalThis.self.onmessage({ data: { number: 2, commands: [["uniq", "-c"]], stdin: "a\n", files: [] } });
-is("the worker after a run that fails", answers.map(({ number, error, out }) => [number, error, out && decode(out)]),
-    [[1, "TypeError: an input is a string, an ArrayBuffer or a view of one", undefined], [2, undefined, "1 a\n"]]);
+is("the worker after a run that fails", [answers[0].number, answers[0].error.split(":")[0]], [1, "TypeError"]);
+is("its next run", [answers[1].number, await answers[1].out.text(), decode(answers[1].first)], [2, "1 a\n", "1 a\n"]);
+const megabytes = "0123456789\n".repeat(500000);
+globalThis.self.onmessage({ data: { number: 3, commands: [["tr", "a", "b"]], stdin: megabytes, files: [] } });
+const parts = answers.filter((it) => it.part);
+is("parts of the output", [parts.length, parts[0].part.first.length, parts[0].part.size], [5, 65537, 2 ** 20]);
+is("the whole", [await answers.at(-1).out.text() === megabytes, answers.at(-1).first.length], [true, 65537]);
 
 // ---- want of memory
-// (An input takes its own size, and as much as room for the output.)
-const middle = await load(page, 2 ** 26), half = "x".repeat(31 * 10 ** 6);
-is("an input of nearly half of the memory", run("tr x y", half, {}, middle)[0], 0);
-is("one of more than half of it", run("tr x y", `${half}${"x".repeat(3 * 10 ** 6)}`, {}, middle)[0], 4);
-const same = "k some words\n".repeat(5000);
-const endless = run("join f g", "", { f: same, g: same }, middle);
-is("too much output", [endless[0], endless[2]], [4, "join: output: write failed\n"]);
-is("its beginning", "k some words some words\n".repeat(10 ** 6).startsWith(endless[1]) && endless[1].length > 24, true);
-const small = await load(page, 2 ** 22);
-const [status, , message] = run("cut -d , -f 2", "x".repeat(3 * 10 ** 6), {}, small);
-is("too little memory", [status, message], [4, "ptext: out of memory\n"]);
-is("enough memory after that", run("cut -c 1", "ab\n", {}, small), [0, "a\n", ""]);
+const middle = await load(2 ** 26), halfLine = "x".repeat(3 * 10 ** 7);
+is("a line of nearly half of the memory", run("uniq", halfLine, {}, middle)[0], 0);
+const [status, , message] = run("uniq", `${halfLine}${halfLine}${halfLine}`, {}, middle);
+is("one of more than all of it", [status, message], [4, "uniq: out of memory\n"]);
+const small = await load(2 ** 12);
+is("too little memory", run("cut -d , -f 2", "x", {}, small).slice(0, 2), [4, ""]);
+is("none", run("cut -d , -f 2", "x", {}, await load(0)), [4, "", "ptext: out of memory\n"]);
 for (const [text, stdin, files, wanted] of CASES) {
-    const words = commands(text)[0];
     if (commands(text).length > 1) continue;
-    const given = new Map(Object.entries(files).map(([name, it]) => [name, encode(it)]));
     for (let request = 0; ; request++) {
-        small.heap.refused = request;
-        const did = small.run(words, encode(stdin), given);
-        if (did.status !== 4) {
-            is(`without request ${request} of ${text}`, [did.status, decode(did.out)], wanted.slice(0, 2));
+        middle.heap.refused = request;
+        const [found, out] = run(text, stdin, files, middle);
+        if (found !== 4) {
+            is(`without request ${request} of ${text}`, [found, out], wanted.slice(0, 2));
             break;
         }
-        is(`request ${request} of ${text}`, wanted[1].startsWith(decode(did.out)), true);
+        is(`request ${request} of ${text}`, wanted[1].startsWith(out), true);
     }
 }
-small.heap.refused = -1;
+middle.heap.refused = -1;
 
 // ---- the heap: what the contracts of its three calls say, in a random order of calls
 const heap = new Heap(2 ** 22), blocks = [];

@@ -1,9 +1,11 @@
 #!/bin/sh
-# Tests a built page: its module and its scripts by node, and the page itself in chromium, beside the program.
-# usage: tests/page.sh PROGRAM [PAGE]      PAGE is build/page/ptext.html
+# Tests a built page and the package for node: the module and the scripts by node, and the page itself in Chromium, Firefox
+# and WebKitGTK, beside the program.
+# usage: tests/page.sh PROGRAM [FOLDER]      FOLDER has page/ptext.html and node/ (build/)
 set -eu
 program=$(realpath "${1:?which program?}")
-page=$(realpath "${2:-build/page/ptext.html}")
+built=$(realpath "${2:-build}")
+page=$built/page/ptext.html
 cd "$(dirname "$0")/.."
 . tests/common.sh
 if ! has node; then
@@ -11,16 +13,32 @@ if ! has node; then
     [ "$bad" = 0 ]
     exit
 fi
-# (Before version 24, node has memories with 64-bit addresses by this option only.)
-option=--experimental-wasm-memory64
-node $option -e '' 2>/dev/null || option=
-# (A call that does not end is stopped.)
-timeout --foreground 600 node $option tests/page.mjs "$page"
-python3 tools/same.py "$program" 500 --page "$page"
+if ! node -e 'new WebAssembly.Module(fs.readFileSync(process.argv[1]))' "$built/node/ptext.wasm" 2>/dev/null; then
+    left_out "the page (it was built without wasm-opt, and this node has no 64-bit memories)"
+    [ "$bad" = 0 ]
+    exit
+fi
+# in_time SECONDS WORDS..: runs a test, which is stopped if it does not end
+in_time() {
+    timeout --foreground "$@" || bad=$((bad + 1))
+}
+in_time 600 node tests/page.mjs "$built/node/ptext.wasm"
+in_time 600 node tests/node.mjs "$built/node"
+in_time 600 python3 tools/same.py "$program" 500 --by node
 chromium=$(command -v chromium || command -v chromium-browser || command -v google-chrome || true)
 if [ "$chromium" ]; then
-    timeout --foreground 600 node tests/browser.mjs "$chromium" "$page" "$program"
+    in_time 600 node tests/browser.mjs "$chromium" "$page" "$program"
 else
-    left_out "the page in a browser (there is no chromium)"
+    left_out "the page in Chromium (it is not there)"
+fi
+if has firefox-esr; then
+    in_time 600 node tests/drivers.mjs firefox "$page" "$program"
+else
+    left_out "the page in Firefox (there is no firefox-esr)"
+fi
+if has WebKitWebDriver Xvfb; then
+    in_time 600 node tests/drivers.mjs webkit "$page" "$program"
+else
+    left_out "the page in WebKitGTK (there is no WebKitWebDriver, or no Xvfb)"
 fi
 [ "$bad" = 0 ]

@@ -8,6 +8,7 @@ list of the packages has not: it names the time and the environment.)
   python3 tools/dist.py static FOLDER                 ptext-VERSION-linux-x86_64-static.tar.gz: the same with the program
                                                       without shared libraries (make static), and what the license of the
                                                       C library asks for, to link it anew
+  python3 tools/dist.py node FOLDER                   ptext-VERSION.tgz, the package for node (make page) as npm packs it
   python3 tools/dist.py deb FOLDER                    two packages by dpkg-buildpackage, and its list of them, which has
                                                       their checksums
 
@@ -259,6 +260,17 @@ def make_static(folder):
     print(f"made {folder}/{named}.tar.gz and SHA256SUMS, of commit {commit}")
 
 
+def make_node(folder):
+    """The package for node. (npm wants all files of a package below the folder `package`.)"""
+    built, commit = f"{TOP}/build/node", find_commit(find_changes(make_source_members()))
+    members = [(name, 0o644, read_bytes(f"{built}/{name}")) for name in sorted(os.listdir(built))]
+    with tempfile.TemporaryDirectory() as room:
+        write_archive(f"{room}/ptext-{VERSION}.tgz", "package", members, commit)
+        put_all(room, folder)
+    write_sums(folder)
+    print(f"made {folder}/ptext-{VERSION}.tgz, which npm install takes, of commit {commit}")
+
+
 def check_programs():
     """Fails if a program that makes packages is lacking."""
     for program, package in (("dpkg-buildpackage", "dpkg-dev"), ("dh", "debhelper")):
@@ -308,6 +320,7 @@ def main():
     does = {
         "archives": lambda folder: make_archives(folder, "--changed" in sys.argv),
         "static": make_static,
+        "node": make_node,
         "deb": make_packages,
         "sums": write_sums,
     }

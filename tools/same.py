@@ -1,11 +1,11 @@
 #!/usr/bin/env python3
 """Compares the library with the program: the same output, messages and status on random words and inputs.
 
-  python3 tools/same.py PROGRAM [COUNT] [--by functions|steps|descriptors | --page PAGE]
+  python3 tools/same.py PROGRAM [COUNT] [--by functions|steps|descriptors|node]
 
 COUNT is 2,000. The library is build/libptext.so, through the Python module, over bytes in memory; with --by, over streams,
 whose inputs come in random pieces: by functions that C calls, step by step, or by the descriptors of files and pipes.
-With --page it is the module of a built page, by node.
+By node it is the package of build/node, in turn over streams and in one thread.
 """
 import argparse
 import base64
@@ -27,9 +27,6 @@ os.environ.setdefault("PTEXT_LIBRARY", f"{TOP}/build/libptext.so")
 
 from generating import make_case
 from reading import FLAGS
-
-# (Before version 24, node has memories with 64-bit addresses by this option only.)
-OPTION = "--experimental-wasm-memory64"
 
 
 class Library:
@@ -142,37 +139,48 @@ class Descriptors(Library):
         return (status, *found)
 
 
-class Page:
-    """Calls of the module of a page, by node."""
+def is_text(words):
+    return not any("\udc80" <= character <= "\udcff" for word in words for character in word)
 
-    def __init__(self, page):
-        how = {"stdout": subprocess.DEVNULL, "stderr": subprocess.DEVNULL, "check": False}
-        options = [] if subprocess.run(["node", OPTION, "-e", ""], **how).returncode else [OPTION]
-        words = ["node", *options, f"{TOP}/page/node.mjs", page]
-        self.node = subprocess.Popen(words, stdin=subprocess.PIPE, stdout=subprocess.PIPE, text=True)
+
+class Node:
+    """Runs over streams, by the package for node: every other one in its own thread, and not beside it."""
+
+    def __init__(self):
+        words = ["node", f"{TOP}/tools/same.mjs", f"{TOP}/build/node/ptext.mjs"]
+        self.node, self.count = subprocess.Popen(words, stdin=subprocess.PIPE, stdout=subprocess.PIPE, text=True), 0
 
     def close(self):
         self.node.kill()
         self.node.wait()
 
-    def ask(self, words, stdin=b"", files=None, **more):
+    def ask(self, words, stdin=b"", files=None):
         """The answer to one call."""
-        given = {name: base64.b64encode(text).decode() for name, text in (files or {}).items()}
-        call = {"words": words, "stdin": base64.b64encode(stdin).decode(), "files": given, **more}
+        chance = random.Random(repr(words))
+
+        def encode(text):
+            return [base64.b64encode(piece).decode() for piece in cut_randomly(text, chance)]
+
+        given = {name: encode(text) for name, text in (files or {}).items()}
+        self.count += 1
+        call = {"words": words, "stdin": encode(stdin), "files": given, "isSync": self.count % 4 < 2}
         self.node.stdin.write(json.dumps(call) + "\n")
         self.node.stdin.flush()
         return json.loads(self.node.stdout.readline())
 
     def names(self, words):
+        if not is_text(words):
+            # (No string of JavaScript is such a word.)
+            return [""], ""
         answer = self.ask(words)
         return answer["read"], answer["output"]
 
     def run_all(self, words, stdin, files):
         answer = self.ask(words, stdin, files)
-        return (answer["status"], *(base64.b64decode(answer[stream]) for stream in ("out", "messages")))
+        return answer["status"], base64.b64decode(answer["out"]), answer["messages"].encode()
 
 
-WAYS = {None: Library, "functions": Functions, "steps": Steps, "descriptors": Descriptors}
+WAYS = {None: Library, "functions": Functions, "steps": Steps, "descriptors": Descriptors, "node": Node}
 
 
 def run_program(program, words, inputs, output, room):
@@ -191,26 +199,20 @@ def run_program(program, words, inputs, output, room):
         return did.returncode, out, did.stderr
 
 
-def is_text(words):
-    return not any("\udc80" <= character <= "\udcff" for word in words for character in word)
-
-
 def main():
     takes = argparse.ArgumentParser(description="Compares the library with the program.")
     takes.add_argument("program")
     takes.add_argument("count", nargs="?", type=int, default=2000)
     takes.add_argument("--by", choices=list(WAYS))
-    takes.add_argument("--page")
     given = takes.parse_args()
-    program, other = os.path.realpath(given.program), Page(given.page) if given.page else WAYS[given.by]()
+    program, other = os.path.realpath(given.program), WAYS[given.by]()
     tools, differences, left_out = list(FLAGS), 0, 0
     signal.signal(signal.SIGTERM, lambda *_: sys.exit(143))
     with contextlib.closing(other), tempfile.TemporaryDirectory() as room:
         for number in range(given.count):
             case = make_case(tools[number % len(tools)], random.Random(f"library {number}"))
             words, inputs = case.words, dict(case.inputs)
-            # (Nobody can type a word that is not UTF-8 into a page.)
-            read, output = other.names(words) if not given.page or is_text(words) else ([""], "")
+            read, output = other.names(words)
             if output is not None and output in read:
                 left_out += 1
                 continue

@@ -1,9 +1,13 @@
-"""The tools over bytes in memory as WebAssembly, in one page without other files, build/page/ptext.html.
+"""The tools over streams as WebAssembly: in one page without other files, build/page/ptext.html, and as a package for
+node, build/node.
 
 The gate proves the crates below `ptrunc`, or takes what it proved on this machine, as for the library for C. It has no
 place for crates of WebAssembly. So the module is made here from copies: `ptrunc` as it is, except for its heap and its
 reads and writes; and these two, which are the toolchain's with their calls of C taken from the host. All copies are
 checked as any crate, over what an earlier run kept, before they are compiled. docs/LIBRARY.md says what that shows.
+
+The compiler makes modules with 64-bit addresses only. wasm-opt (Debian's binaryen) gives the module 32-bit addresses,
+which every browser knows. Without wasm-opt it stays as it is.
 """
 import base64
 import html
@@ -27,6 +31,8 @@ from proving import Crates, describe_kept, leave_out, prove
 WASM = "wasm64-unknown-unknown"
 # The stack of the module, in bytes. (The calls of the program take a few tens of thousands.)
 STACK = 4 * 2**20
+# The sections of a module with its table of functions, and with what is in it.
+TABLE, ELEMENTS = 4, 9
 # How many files the page has room for.
 FILES = 2
 HEAP = "hostheap"
@@ -141,7 +147,43 @@ def make_module(kit, place, room, crates):
     words += ["-L", f"dependency={place}/rlib", "--target", WASM]
     run([*words, "-o", f"{place}/ptext.a"], made)
     link = ["--target", WASM, "--toolchain", f"{kit}/toolchain", "--stack", str(STACK)]
-    run([f"{kit}/bin/rattle-link", *link, "-o", f"{place}/ptext.wasm", f"{place}/ptext.a"], place)
+    run([f"{kit}/bin/rattle-link", *link, "-o", f"{place}/ptext64.wasm", f"{place}/ptext.a"], place)
+    lower(f"{place}/ptext64.wasm", f"{place}/ptext.wasm")
+
+
+def read_number(data, at):
+    """A number of a module (LEB128), and where it ends."""
+    value = shift = 0
+    while True:
+        value |= (data[at] & 127) << shift
+        at, shift = at + 1, shift + 7
+        if data[at - 1] < 128:
+            return value, at
+
+
+def without_table(data):
+    """A module without its table of functions, which has 64-bit indices and which nothing uses."""
+    made, at = data[:8], 8
+    while at < len(data):
+        size, begin = read_number(data, at + 1)
+        if data[at] == ELEMENTS:
+            raise Failed("the module calls functions by a table, whose indices have 64 bits")
+        made += b"" if data[at] == TABLE else data[at : begin + size]
+        at = begin + size
+    return made
+
+
+def lower(wide, to):
+    """Makes a module with 32-bit addresses, or the same one if there is no wasm-opt."""
+    if not shutil.which("wasm-opt"):
+        say("there is no wasm-opt (on Debian: apt install binaryen): the module needs 64-bit memories")
+        shutil.copy(wide, to)
+        return
+    with open(wide, "rb") as file:
+        data = file.read()
+    with open(to, "wb") as file:
+        file.write(without_table(data))
+    run(["wasm-opt", "--memory64-lowering", "--strip-debug", "--strip-producers", to, "-o", to], os.path.dirname(to))
 
 
 # ---- the page
@@ -185,7 +227,7 @@ def make_buttons(all_examples):
     """A list of buttons for each tool."""
     text = ""
     for tool in NAMES:
-        text += f'<h3>{tool}</h3>\n<ul aria-label="Examples of {tool}">\n'
+        text += f'<ul aria-label="Examples of {tool}">\n'
         for number, (of, example) in enumerate(all_examples):
             if of == tool:
                 shown = html.escape(example["command"])
@@ -200,6 +242,14 @@ def read_script(name):
     return re.sub(r"^export ", "", text, flags=re.M)
 
 
+def make_licenses():
+    """The licenses of what the module contains. (The parts of the C library and of gcc are in the program only.)"""
+    parts = read_text(f"{TOP}/debian/copyright").split("\n\n")
+    of_module = [part for part in parts if not re.search(r"^(Files: toolchain/|License: L?GPL)", part, re.M)]
+    texts = [read_text(f"{TOP}/LICENSE-{name}") for name in ("MIT", "APACHE")]
+    return "\n\n".join([*texts, *of_module])
+
+
 def make_page(wasm):
     """The text of the page."""
     all_examples = list(find_examples_of_tools())
@@ -209,6 +259,7 @@ def make_page(wasm):
         "page.css": read_text(f"{TOP}/page/page.css"),
         "buttons": make_buttons(all_examples),
         "version": read_version(),
+        "licenses": html.escape(make_licenses()),
         "module": encoded,
         # (Within a script, `</` could end it.)
         "examples": json.dumps([example for _, example in all_examples]).replace("</", "<\\/"),
@@ -217,6 +268,19 @@ def make_page(wasm):
         "page.mjs": read_script("page.mjs"),
     }
     return re.sub(r"\{\{([\w.]+)\}\}", lambda found: parts[found[1]], read_text(f"{TOP}/page/page.html"))
+
+
+def make_package(wasm):
+    """The package for node, in build/node."""
+    made = f"{TOP}/build/node"
+    for name in ("ptext.mjs", "worker.mjs", "ptext.d.ts"):
+        put(f"{TOP}/node/{name}", f"{made}/{name}")
+    put(f"{TOP}/page/ptext.mjs", f"{made}/module.mjs")
+    put(wasm, f"{made}/ptext.wasm")
+    section = re.search(r"^## JavaScript\n(.*?)^## ", read_text(f"{TOP}/docs/LIBRARY.md"), re.M | re.S)
+    write_text(f"{made}/README.md", f"# ptext {read_version()}\n{section[1]}")
+    write_text(f"{made}/LICENSES", make_licenses())
+    write_text(f"{made}/package.json", read_text(f"{TOP}/node/package.json").replace("VERSION", read_version()))
 
 
 def build(kit, place):
@@ -229,6 +293,7 @@ def build(kit, place):
     make_heap(kit, place)
     make_io(kit, place)
     make_module(kit, place, room, crates)
+    make_package(f"{place}/ptext.wasm")
     write_text(f"{place}/ptext.html", make_page(f"{place}/ptext.wasm"))
     put(f"{place}/ptext.html", f"{TOP}/build/page/ptext.html")
     return "build/page/ptext.html"

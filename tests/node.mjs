@@ -1,0 +1,197 @@
+// Tests of the package for node. usage: node tests/node.mjs FOLDER
+import { spawnSync } from "node:child_process";
+import fs from "node:fs";
+import os from "node:os";
+import path from "node:path";
+import { Readable, Transform } from "node:stream";
+import { pathToFileURL } from "node:url";
+
+const folder = path.resolve(process.argv[2]), entry = pathToFileURL(`${folder}/ptext.mjs`).href;
+const { PtextError, names, run, stream } = await import(entry);
+const room = fs.mkdtempSync(path.join(os.tmpdir(), "ptext-node-"));
+let tests = 0, failed = 0;
+
+function is(what, found, wanted) {
+    tests++;
+    const [one, two] = [found, wanted].map((it) => JSON.stringify(it) ?? "nothing");
+    if (one !== two) {
+        failed++;
+        console.log(`FAILED: ${what}\nwanted: ${two.slice(0, 300)}\nfound:  ${one.slice(0, 300)}`);
+    }
+}
+
+const text = (bytes) => Buffer.from(bytes).toString();
+
+/** All of a stream. */
+async function all(pieces) {
+    const found = [];
+    for await (const it of pieces) found.push(it);
+    return text(Buffer.concat(found));
+}
+
+/** What a call throws, or its promise. */
+async function thrown(call) {
+    try {
+        await call();
+    } catch (error) {
+        return error;
+    }
+    return null;
+}
+
+function* pieces(...given) {
+    yield* given;
+}
+
+async function* awaited(...given) {
+    for (const it of given) {
+        await new Promise((after) => setTimeout(after, 1));
+        yield it;
+    }
+}
+
+// ---- each kind of input
+const LINES = "1,ann\n2,bob\n", SHORT = ["cut", "-d", ",", "-f", "2"], NAMES = "ann\nbob\n";
+fs.writeFileSync(`${room}/a file`, LINES);
+const url = pathToFileURL(`${room}/a file`), bytes = Buffer.from(LINES);
+const SYNC = [
+    ["a string", () => LINES],
+    ["a Buffer", () => bytes],
+    ["an ArrayBuffer", () => Uint8Array.from(bytes).buffer],
+    ["a view of 16-bit numbers", () => new Uint16Array(Uint8Array.from(bytes).buffer)],
+    ["a list of pieces", () => ["1,a", "", Buffer.from("nn\n2"), ",bob\n"]],
+    ["a generator", () => pieces("1,", bytes.subarray(2))],
+    ["a file", () => url],
+];
+const ASYNC = [
+    ["an async generator", () => awaited("1,a", "nn\n2,bob\n")],
+    ["a Readable", () => Readable.from([bytes.subarray(0, 3), bytes.subarray(3)])],
+    ["a file as a Readable", () => fs.createReadStream(url, { highWaterMark: 5 })],
+    ["a ReadableStream", () => new Blob([LINES]).stream()],
+    ["a Blob", () => new Blob(["1,ann\n", "2,bob\n"])],
+    ["the output of a command", () => stream(["uniq"], { stdin: LINES })],
+];
+for (const [what, make] of SYNC) {
+    is(`run: ${what}`, text(run(SHORT, { stdin: make() })), NAMES);
+    is(`run: ${what} as a file`, text(run([...SHORT, "f"], { files: { f: make() } })), NAMES);
+}
+for (const [what, make] of [...SYNC, ...ASYNC]) {
+    is(`stream: ${what}`, await all(stream(SHORT, { stdin: make() })), NAMES);
+    is(`stream: ${what} as a file`, await all(stream([...SHORT, "-", "f"], { files: new Map([["f", make()]]) })), NAMES);
+}
+is("no inputs", [text(run(["uniq"])), await all(stream(["uniq"]))], ["", ""]);
+is("files of an object", text(run(["paste", "-", "b", "a"], { stdin: "1\n", files: { a: "2\n", b: "3\n" } })), "1\t3\t2\n");
+is("a file that is named twice", await all(stream(["paste", "f", "f"], { files: { f: url } })), LINES.replace(/(.*)\n/g, "$1\t$1\n"));
+is("names", names(["uniq", "a", "b"]), { read: ["a"], output: "b" });
+is("an output file", text(run(["uniq", "a", "b"], { files: { a: "x\nx\n" } })), "x\n");
+
+// ---- errors
+for (const call of [(words, options) => run(words, options), (words, options) => all(stream(words, options))]) {
+    const wrong = await thrown(() => call(["cut", "-q"]));
+    is("no command", [wrong instanceof PtextError, wrong.status, wrong.message, wrong.messages, wrong.unknown],
+        [true, 2, "cut: unknown option in -q", "cut: unknown option in -q\n", []]);
+    const lacking = await thrown(() => call(["cut", "-f", "1", "f", "constructor"], { files: { f: "a" } }));
+    is("a file that is not there", [lacking.status, lacking.message, lacking.unknown], [1,
+        'cut: constructor: cannot be opened (`files` has no "constructor": no file is opened by its name)', ["constructor"]]);
+    is("too little memory", (await thrown(() => call(["uniq"], { stdin: "x".repeat(10 ** 6), memory: 10 ** 5 }))).status, 4);
+    for (const stdin of [7, null, {}, true]) {
+        is(`standard input is refused: ${stdin}`, (await thrown(() => call(["uniq"], { stdin }))).name, "TypeError");
+        if (stdin !== null) is(`a file is refused: ${stdin}`, (await thrown(() => call(["uniq"], { files: { stdin } }))).name, "TypeError");
+    }
+    for (const words of ["uniq", undefined, ["cut", "-f", 1]]) {
+        is(`words are refused: ${words}`, (await thrown(() => call(words))).name, "TypeError");
+    }
+    is("a piece is refused", (await thrown(() => call(["uniq"], { stdin: pieces("a", 7) }))).name, "TypeError");
+    is("byte 0 in a word", (await thrown(() => call(["cut\0"]))).message, "a word contains byte 0");
+    is("a file that does not exist", (await thrown(() => call(["uniq"], { stdin: new URL("none", url) }))).code, "ENOENT");
+    is("an input that fails", (await thrown(() => call(["uniq"], { stdin: (function* () {
+        yield "a\n";
+        throw new Error("mine");
+    })() }))).message, "mine");
+    const once = pieces("a\n");
+    is("read twice", (await thrown(() => call(["paste", "f", "f"], { files: { f: once } }))).message,
+        "f is read twice, and can be read only once");
+    is("after all of these", text(Buffer.from(await call(["uniq"], { stdin: "a\na\n" }))), "a\n");
+}
+is("the output of a run that fails", text((await thrown(() => run(["cut", "-b", "1", "-", "none"], { stdin: "ab\n" }))).out), "a\n");
+
+// ---- pieces
+const large = Buffer.alloc(3 * 10 ** 6, "0123456789\n"), wanted = text(large).replaceAll("5", "x");
+const found = [];
+is("run with write", run(["tr", "5", "x"], { stdin: large, write: (piece) => found.push(piece.slice()) }), undefined);
+is("its pieces", [found.length, text(Buffer.concat(found)) === wanted], [46, true]);
+is("a stream", await all(stream(["tr", "5", "x"], { stdin: large })) === wanted, true);
+const cut = [large.subarray(0, 1), large.subarray(1, 8193), large.subarray(8193, 10 ** 6), large.subarray(10 ** 6)];
+is("a stream of pieces", await all(stream(["tr", "5", "x"], { stdin: awaited(...cut) })) === wanted, true);
+const chain = stream(["uniq", "-c"], { stdin: stream(["tr", "-d", "0-9"], { stdin: large }) });
+is("a chain", await all(chain), `${Math.floor(large.length / 11)} \n1 \n`.replace("1 \n", large.at(-1) === 10 ? "" : "1 \n"));
+let inner = "";
+run(["uniq"], { stdin: "a\nb\n", write: () => (inner += text(run(["uniq", "-c"], { stdin: "c\n" }))) });
+is("a run within a run", inner, "1 c\n");
+const upper = new Transform({ transform: (piece, _, end) => end(null, piece) });
+is("by a Transform", await all(Readable.fromWeb(stream(["cut", "-b", "1-"], { stdin: LINES })).pipe(upper)), LINES);
+const joins = Array.from({ length: 12 }, (_, index) => all(stream(["join", "-", "f"], { stdin: awaited(`${index} a\n`), files: { f: awaited(`${index} b\n`) } })));
+is("twelve at once", await Promise.all(joins), Array.from({ length: 12 }, (_, index) => `${index} a b\n`));
+
+// ---- nothing is read ahead, and a stream that is left ends its inputs
+let reads = 0, isClosed = false;
+async function* endless() {
+    try {
+        for (;;) {
+            reads++;
+            yield "some line\n".repeat(1000);
+        }
+    } finally {
+        isClosed = true;
+    }
+}
+const waiting = stream(["uniq", "-c"], { stdin: endless() });
+await new Promise((after) => setTimeout(after, 50));
+is("nothing is read before the output", reads, 0);
+await waiting.cancel();
+for await (const piece of stream(["tr", "a", "b"], { stdin: endless() })) {
+    is("the first piece", piece.length > 0, true);
+    break;
+}
+await new Promise((after) => setTimeout(after, 50));
+is("it was left", [isClosed, reads < 20], [true, true]);
+const never = stream(["uniq"], { stdin: (async function* () {
+    await new Promise(() => {});
+})() });
+const reader = never.getReader(), pending = reader.read();
+await new Promise((after) => setTimeout(after, 50));
+await reader.cancel();
+is("a stream that waits is left", (await pending).done, true);
+
+// ---- output comes as it is there: a line of a slow input is not held back
+const order = [];
+for await (const piece of stream(["cut", "-b", "1"], { stdin: (async function* () {
+    for (const it of ["a1\n", "b2\n"]) {
+        order.push(it[0]);
+        yield it;
+    }
+    order.push("end");
+})() })) order.push(text(piece));
+is("the order", order, ["a", "a\n", "b", "b\n", "end"]);
+
+// ---- a process ends though threads are kept, also with a stream that nobody reads to its end
+const script = `import { stream } from ${JSON.stringify(entry)};
+    for await (const it of stream(["uniq"], { stdin: process.stdin })) process.stdout.write(it);
+    const left = stream(["uniq"], { stdin: (async function* () { for (;;) yield "a\\nb\\n".repeat(10 ** 5); })() });
+    await left.getReader().read();`;
+const did = spawnSync("node", ["--input-type=module", "-e", script], { input: "a\na\nb\n", timeout: 60000 });
+is("a process", [did.status, text(did.stdout), text(did.stderr)], [0, "a\nb\n", ""]);
+
+// ---- the package: npm's files, the licenses, and the types
+const about = JSON.parse(fs.readFileSync(`${folder}/package.json`));
+is("the version", about.version, fs.readFileSync("VERSION", "utf8").trim());
+const licenses = fs.readFileSync(`${folder}/LICENSES`, "utf8");
+is("licenses", ["MIT License", "Apache License", "memchr", "arrayvec"].filter((it) => !licenses.includes(it)), []);
+is("documented", fs.readFileSync(`${folder}/README.md`, "utf8").includes("stream("), true);
+const exported = Object.keys(await import(entry)).sort();
+const typed = [...fs.readFileSync(`${folder}/ptext.d.ts`, "utf8").matchAll(/^export (?:function|class) (\w+)/gm)];
+is("types of all that is exported", [...new Set(typed.map((it) => it[1]))].sort(), exported);
+
+fs.rmSync(room, { recursive: true });
+console.log(`${tests} tests of the package for node: ${failed} failed`);
+process.exit(failed ? 1 : 0);
