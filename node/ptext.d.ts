@@ -15,14 +15,14 @@ export interface Options<Kind> {
     /** Standard input. Without it there are no bytes. */
     stdin?: Kind;
     files?: Files<Kind>;
-    /** The most bytes of memory that the command may have at a time, beside the 5 MiB of the module; 1 GiB is the usual. */
+    /** The most bytes of memory that the command may have at a time, beside the 5 MiB of the module (1 GiB). */
     memory?: number;
 }
 
 /**
- * Runs a command, the name of the tool first, in this thread, and returns its output. With `write` the output goes there,
- * in pieces as they come, whose bytes are others after that call: copy what you keep. Throws a PtextError if the status is
- * not 0.
+ * Runs a command, the name of the tool first, in this thread, and returns its output. With `write` the output goes
+ * there, in pieces as they come, whose bytes are others after that call: copy what you keep. Throws a PtextError if the
+ * status is not 0.
  */
 export function run(words: readonly string[], options?: Options<SyncInput>): Uint8Array;
 export function run(words: readonly string[], options: Options<SyncInput> & { write(piece: Uint8Array): void }): void;

@@ -1,4 +1,4 @@
-// cut, paste, join, comm, uniq and tr for node, by the proved library as WebAssembly. ptext.d.ts describes each function.
+// cut, paste, join, comm, uniq and tr for node, by the proved library as WebAssembly. ptext.d.ts describes its calls.
 import fs from "node:fs";
 import { Worker } from "node:worker_threads";
 import { MEMORY, PIECE, Ptext, bytesOf, isBytes, joined, readerOf } from "./module.mjs";
@@ -28,7 +28,7 @@ export class PtextError extends Error {
 // ---- inputs
 
 /** Whether bytes can be had again. */
-const canBeRepeated = (given) => isBytes(given) || given instanceof URL || given instanceof Blob || Array.isArray(given);
+const canBeRepeated = (it) => isBytes(it) || it instanceof URL || it instanceof Blob || Array.isArray(it);
 
 /** The inputs of a command: standard input, and the files by their names. */
 class Inputs {
@@ -143,7 +143,8 @@ class Thread {
         [this.control, this.piece] = [new Int32Array(this.shared, 0, 2), new Uint8Array(this.shared, 8)];
         // (With little room for what is new, the buffers that a run leaves are collected soon.)
         const resourceLimits = { maxYoungGenerationSizeMb: 1 }, workerData = { module: compile(), shared: this.shared };
-        this.worker = new Worker(at("worker.mjs"), { workerData, resourceLimits });
+        // (Options of the process, as `--input-type`, are not for this script.)
+        this.worker = new Worker(at("worker.mjs"), { workerData, resourceLimits, execArgv: [] });
         this.worker.unref();
         this.worker.on("message", (step) => this.good(step));
         this.worker.on("error", (error) => this.bad?.(error));

@@ -1,5 +1,5 @@
-// Runs commands beside the thread that reads their output, one at a time. At each step it sends what it wants, and waits
-// until that was given: bytes of an input, or that the output was taken. Both lie in `piece`.
+// Runs commands beside the thread that reads their output, one at a time. At each step it sends what it wants, and
+// waits until that was given: bytes of an input, or that the output was taken. Both lie in `piece`.
 import { parentPort, workerData } from "node:worker_threads";
 import { Ptext } from "./module.mjs";
 

@@ -336,7 +336,9 @@ async function begin() {
     }
     at("stop").addEventListener("click", stop);
     at("link").addEventListener("click", link);
-    at("copy").addEventListener("click", async () => copy(await output.slice(0, COPIED).text(), "The output is copied."));
+    at("copy").addEventListener("click", async () => {
+        copy(await output.slice(0, COPIED).text(), "The output is copied.");
+    });
     addEventListener("hashchange", () => location.hash !== linked && follow());
     for (const it of document.querySelectorAll("[data-example]")) {
         it.addEventListener("click", () => {

@@ -164,16 +164,16 @@ export class Ptext {
             this.exports.ptext_names_in_memory(...given, ...names, ...output, answer);
             const view = this.heap.view(), number = (place) => Number(view.getBigUint64(Number(answer) + place, true));
             if (view.getUint8(Number(answer) + 32) === MEMORY) throw new NoMemory();
-            const [read, written] = [[names, 0], [output, 16]].map(([[at], place]) => namesIn(this.#at(at, number(place))));
-            return { read, output: written[0] ?? null };
+            const found = ([at], place) => namesIn(this.#at(at, number(place)));
+            return { read: found(names, 0), output: found(output, 16)[0] ?? null };
         });
     }
 
     /**
-     * Runs a command, the name of the tool first. `open` gets the name of each file that the command reads, and null for
-     * standard input. It returns null if the file cannot be opened, or a function that reads it: it puts bytes into the
-     * room that it gets and returns how many, 0 at the end. Before it waits, it may call its second argument, which hands
-     * out the output so far. `take` gets the output in pieces, which it may not keep.
+     * Runs a command, the name of the tool first. `open` gets the name of each file that the command reads, and null
+     * for standard input. It returns null if the file cannot be opened, or a function that reads it: that puts bytes into
+     * the room that it gets and returns how many, 0 at the end. Before it waits, it may call its second argument, which
+     * hands out the output so far. `take` gets the output in pieces, which it may not keep.
      *
      * Returns the exit status, the bytes of the messages, and the names that `names` finds. An error that a function
      * throws ends the run, and comes through.
@@ -219,9 +219,9 @@ export class Ptext {
     }
 
     /**
-     * The functions by which the module reads and writes. It asks again after a read that gave less than its room, where
-     * 0 is not the end of the stream; and it asks a number with all bits changed whether the stream is sound. As each
-     * failure ends the run, it always is.
+     * The functions by which the module reads and writes. It asks again after a read that gave less than its room,
+     * where 0 is not the end of the stream. By a write to a number with all bits changed it asks whether that stream
+     * is sound: as each failure ends the run, it is.
      */
     #imports() {
         return {
@@ -284,7 +284,7 @@ class Collected {
     }
 }
 
-/** A function that reads pieces, each of which is asked for when it is needed: strings, buffers, or views of buffers. */
+/** A function that reads pieces (strings, buffers, or views of buffers), when they are needed. */
 export function readerOf(pieces) {
     const iterator = pieces[Symbol.iterator]();
     let left = new Uint8Array(0);

@@ -197,7 +197,8 @@ async function huge(browser) {
 }
 
 async function shared(browser) {
-    const done = `document.getElementById("done").textContent`, press = (id) => browser.value(`document.getElementById("${id}").click()`);
+    const done = `document.getElementById("done").textContent`;
+    const press = (id) => browser.value(`document.getElementById("${id}").click()`);
     await browser.send("Browser.grantPermissions", { permissions: ["clipboardReadWrite", "clipboardSanitizedWrite"] });
     for (const it of ["name1", "file1", "name2", "file2"]) await browser.type(it, "");
     await browser.type("stdin", "é=1&2\nb\n");
@@ -210,7 +211,8 @@ async function shared(browser) {
     await press("copy");
     is("a copy", await browser.until(`${done} === "The output is copied."`), true);
     await browser.value(`window.focus()`);
-    is("its text", await browser.value("navigator.clipboard.readText().catch(String)"), await browser.value(`(${RESULT}).out`));
+    const pasted = await browser.value("navigator.clipboard.readText().catch(String)");
+    is("its text", pasted, await browser.value(`(${RESULT}).out`));
     await browser.value(`location.replace("#")`);
     await browser.value(`location.replace(${JSON.stringify(linked)})`);
     is("it is followed", await browser.until(`(${RESULT}).out === "1&2\nb\n"`), true);
@@ -349,7 +351,8 @@ async function main() {
     await failing(browser);
     const requests = browser.events.filter((it) => it.method === "Network.requestWillBeSent");
     const asked = requests.map((it) => it.params.request.url);
-    is("requests beside the page", asked.filter((it) => it.replace(/#.*/, "") !== address && !/^(blob|data):/.test(it)), []);
+    const isOther = (it) => it.replace(/#.*/, "") !== address && !/^(blob|data):/.test(it);
+    is("requests beside the page", asked.filter(isOther), []);
     const thrown = browser.events.filter((it) => it.method === "Runtime.exceptionThrown");
     is("errors", thrown.map((it) => it.params.exceptionDetails.exception?.description), []);
     await browser.open(address, `WebAssembly.compile = async () => { throw new WebAssembly.CompileError(""); }`);

@@ -11,7 +11,9 @@ const [name, page, program] = process.argv.slice(2);
 const address = pathToFileURL(path.resolve(page)).href;
 /** The key of an element in the protocol of WebDriver. */
 const ELEMENT = "element-6066-11e4-a52e-4f735466cecf";
-const children = [];
+/** The browser of Debian's packages of WebKitGTK, and the number of the display that it gets. */
+const BROWSER = "/usr/lib/x86_64-linux-gnu/webkit2gtk-4.1/MiniBrowser";
+const display = 90 + (process.pid % 900), children = [];
 
 /** Starts a program that ends with this script. */
 function start(...words) {
@@ -19,7 +21,6 @@ function start(...words) {
     children.push(spawn(words[0], words.slice(1), { stdio: "ignore", env: environment, detached: true }));
 }
 
-const display = 90 + (process.pid % 900);
 const pause = (time) => new Promise((after) => setTimeout(after, time));
 
 /** Calls a function until it gives something. */
@@ -114,15 +115,16 @@ class WebKit {
     }
 }
 
-const BROWSER = "/usr/lib/x86_64-linux-gnu/webkit2gtk-4.1/MiniBrowser";
 const browser = name === "firefox" ? new Firefox() : new WebKit();
 const shows = (expression, seconds) => until(() => browser.value(expression), seconds).then(() => true, () => false);
 const textOf = (id) => `document.getElementById("${id}").textContent`;
 
 /** Types a text into a field, in the place of what is there. */
 function type(id, text) {
-    return browser.value(`{ const it = document.getElementById("${id}"); it.value = ${JSON.stringify(text)};
-        it.dispatchEvent(new Event("input", { bubbles: true })); }`.replace("{", "(() => {") + ")()");
+    return browser.value(`((it) => {
+        it.value = ${JSON.stringify(text)};
+        it.dispatchEvent(new Event("input", { bubbles: true }));
+    })(document.getElementById("${id}"))`);
 }
 
 async function examples() {
@@ -145,7 +147,8 @@ async function file() {
     is("a file is chosen", await shows(`${textOf("stdin-held")}.startsWith("64,000,000 bytes")`), true);
     const wanted = "24,000,000 bytes, of which the first 65,536 are shown";
     is("its output", await shows(`${textOf("size")} === "${wanted}"`, 120), true);
-    is("its status", await shows(`${textOf("status")} === "Status 0: the output of the last command was written"`), true);
+    const status = "Status 0: the output of the last command was written";
+    is("its status", await shows(`${textOf("status")} === "${status}"`), true);
     is("the beginning", await browser.value(`${textOf("out")} === "WORDS\\n".repeat(10923).slice(0, 65536)`), true);
 }
 

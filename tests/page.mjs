@@ -31,7 +31,8 @@ function runOver(words, stdin, files, by = ptext) {
 
 /** Runs commands as they are typed. */
 function runTyped(text, stdin = "", files = {}, by = ptext) {
-    return runAll((...given) => runOver(...given.slice(0, 3), by), commands(text), stdin, new Map(Object.entries(files)));
+    const one = (words, input, known) => runOver(words, input, known, by);
+    return runAll(one, commands(text), stdin, new Map(Object.entries(files)));
 }
 
 function run(...given) {
@@ -183,7 +184,8 @@ is("output before an input is waited for", [wasFlushed, early.join("")], [true, 
 for (const wrong of [-1, 2 ** 20, NaN, "x"]) {
     is(`a read of ${wrong} bytes`, errorOf(() => ptext.run(["uniq"], () => () => wrong, () => {})), "RangeError");
 }
-is("a call within a call", errorOf(() => ptext.run(["uniq"], () => () => ptext.names(["uniq"]).length, () => {})), "Error");
+const nested = () => ptext.run(["uniq"], () => () => ptext.names(["uniq"]).length, () => {});
+is("a call within a call", errorOf(nested), "Error");
 is("a run after these", run("cut -c 1", "ab\n"), [0, "a\n", ""]);
 
 // ---- a module after calls of several kinds

@@ -1,6 +1,6 @@
 #!/bin/sh
-# Tests a built page and the package for node: the module and the scripts by node, and the page itself in Chromium, Firefox
-# and WebKitGTK, beside the program.
+# Tests a built page and the package for node: the module and the scripts by node, and the page itself in Chromium,
+# Firefox and WebKitGTK, beside the program.
 # usage: tests/page.sh PROGRAM [FOLDER]      FOLDER has page/ptext.html and node/ (build/)
 set -eu
 program=$(realpath "${1:?which program?}")
@@ -25,6 +25,14 @@ in_time() {
 in_time 600 node tests/page.mjs "$built/node/ptext.wasm"
 in_time 600 node tests/node.mjs "$built/node"
 in_time 600 python3 tools/same.py "$program" 500 --by node
+if [ "$built" = "$PWD/build" ]; then
+    python3 tools/dist.py node "$room/dist" >"$room/said" || cat "$room/said"
+    mkdir -p "$room/app/node_modules"
+    tar -xzf "$room/dist/ptext-$(cat VERSION).tgz" -C "$room/app/node_modules"
+    mv "$room/app/node_modules/package" "$room/app/node_modules/ptext"
+    script='import { run } from "ptext"; process.stdout.write(run(["cut", "-b", "2"], { stdin: "abc" }));'
+    is "the archive of the package" b "$(cd "$room/app" && node --input-type=module -e "$script")"
+fi
 chromium=$(command -v chromium || command -v chromium-browser || command -v google-chrome || true)
 if [ "$chromium" ]; then
     in_time 600 node tests/browser.mjs "$chromium" "$page" "$program"

@@ -1,6 +1,6 @@
-// The package for node (build/node), for tools/same.py: it answers calls, one JSON object a line: {words, stdin, files}, with
-// the pieces of each input in base64, and `isSync` if they are run in this thread. The answer has `status`, `out`,
-// `messages`, and the names of the files, `read` and `output`.
+// Calls of the package for node, for tools/same.py, each one JSON object in a line: {words, stdin, files}, with the
+// pieces of each input in base64, and `isSync` if it is run in this thread. The answer has `status`, `out`, `messages`,
+// and the names of the files, `read` and `output`.
 import path from "node:path";
 import readline from "node:readline";
 import { pathToFileURL } from "node:url";
@@ -15,7 +15,8 @@ async function* awaited(pieces) {
 
 async function answer({ words, stdin, files, isSync }) {
     const given = (pieces) => (isSync ? decoded(pieces).values() : awaited(decoded(pieces)));
-    const options = { stdin: given(stdin), files: new Map(Object.entries(files).map(([name, it]) => [name, given(it)])) };
+    const named = Object.entries(files).map(([name, it]) => [name, given(it)]);
+    const options = { stdin: given(stdin), files: new Map(named) };
     const out = [];
     let status = 0, messages = "";
     try {

@@ -31,8 +31,10 @@ from proving import Crates, describe_kept, leave_out, prove
 WASM = "wasm64-unknown-unknown"
 # The stack of the module, in bytes. (The calls of the program take a few tens of thousands.)
 STACK = 4 * 2**20
-# The sections of a module with its table of functions, and with what is in it.
-TABLE, ELEMENTS = 4, 9
+# The sections of a module with its table of functions, with its exports, and with what is in the table.
+TABLE, EXPORTS, ELEMENTS = 4, 7, 9
+# The parts of WebAssembly that the compiler uses (its processor `lime1`). All browsers have those but memory64.
+FEATURES = ["memory64", "bulk-memory", "multivalue", "mutable-globals", "nontrapping-float-to-int", "sign-ext"]
 # How many files the page has room for.
 FILES = 2
 HEAP = "hostheap"
@@ -161,15 +163,34 @@ def read_number(data, at):
             return value, at
 
 
-def without_table(data):
-    """A module without its table of functions, which has 64-bit indices and which nothing uses."""
+def make_number(value):
+    return bytes([value & 127 | 128]) + make_number(value >> 7) if value > 127 else bytes([value])
+
+
+def leave_export_out(body, name):
+    """The body of a section of exports without this one. (Each has a name, a byte for its kind, and a number.)"""
+    count, at = read_number(body, 0)
+    made = b""
+    for _ in range(count):
+        size, begin = read_number(body, at)
+        end = read_number(body, begin + size + 1)[1]
+        made += b"" if body[begin : begin + size] == name else body[at:end]
+        at = end
+    return make_number(count - 1) + made
+
+
+def reduce(data):
+    """A module without its table of functions, which has 64-bit indices and which nothing uses, and without the export
+    of runs over bytes in memory, which are runs over streams here."""
     made, at = data[:8], 8
     while at < len(data):
-        size, begin = read_number(data, at + 1)
-        if data[at] == ELEMENTS:
+        kind, (size, begin) = data[at], read_number(data, at + 1)
+        body, at = data[begin : begin + size], begin + size
+        if kind == ELEMENTS:
             raise Failed("the module calls functions by a table, whose indices have 64 bits")
-        made += b"" if data[at] == TABLE else data[at : begin + size]
-        at = begin + size
+        if kind == EXPORTS:
+            body = leave_export_out(body, b"ptext_run_in_memory")
+        made += b"" if kind == TABLE else bytes([kind]) + make_number(len(body)) + body
     return made
 
 
@@ -182,8 +203,10 @@ def lower(wide, to):
     with open(wide, "rb") as file:
         data = file.read()
     with open(to, "wb") as file:
-        file.write(without_table(data))
-    run(["wasm-opt", "--memory64-lowering", "--strip-debug", "--strip-producers", to, "-o", to], os.path.dirname(to))
+        file.write(reduce(data))
+    known = [f"--enable-{name}" for name in FEATURES]
+    does = ["--memory64-lowering", "--remove-unused-module-elements", "--strip-debug", "--strip-producers", "--strip-target-features"]
+    run(["wasm-opt", *known, *does, to, "-o", to], os.path.dirname(to))
 
 
 # ---- the page
