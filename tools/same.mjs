@@ -14,9 +14,9 @@ async function* awaited(pieces) {
 }
 
 async function answer({ words, stdin, files, isSync }) {
-    const given = (pieces) => (isSync ? decoded(pieces).values() : awaited(decoded(pieces)));
-    const named = Object.entries(files).map(([name, it]) => [name, given(it)]);
-    const options = { stdin: given(stdin), files: new Map(named) };
+    const given = isSync ? decoded(stdin).values() : awaited(decoded(stdin));
+    // (A file that is named twice is read twice.)
+    const options = { stdin: given, files: new Map(Object.entries(files).map(([name, it]) => [name, decoded(it)])) };
     const out = [];
     let status = 0, messages = "";
     try {
