@@ -28,17 +28,15 @@ const NOTHING = new Uint8Array(0);
 
 /** The inputs that no field can hold, as a text or as a file: long ones, and those that are not UTF-8. */
 const held = new Map();
-let compiled = null, worker = null, number = 0, isRunning = false, waiting = 0, patience = 0, address = "";
+let compiled = null, worker = null, number = 0, isRunning = false, waiting = 0, patience = 0, address = "", place = "";
 /** The output that is shown, and the last part of the address that this page has made itself. */
 let output = new Blob([]), linked = "";
 
-/** Makes a worker from the scripts of this page. */
+/** Makes a worker from the scripts of this page. (Their place is kept: a run that is stopped may have left no room.) */
 function newWorker() {
-    const source = new Blob([textOf("library"), textOf("worker")], { type: "text/javascript" });
-    const place = URL.createObjectURL(source);
+    place ||= URL.createObjectURL(new Blob([textOf("library"), textOf("worker")], { type: "text/javascript" }));
     const made = new Worker(place);
     made.onmessage = ({ data }) => {
-        URL.revokeObjectURL(place);
         if (data.number === number) (data.part ? showPart : finish)(data.part ?? data);
     };
     made.onerror = () => {
@@ -211,18 +209,14 @@ function say(status, meaning) {
 
 /** Shows the beginning of an output that is not all there. */
 function showPart({ first, size }) {
-    showBeginning(first, size);
-    at("size").textContent += " so far";
-}
-
-function showBeginning(first, size) {
-    fill("out", first);
-    at("size").textContent = counted(size, "byte") + (size > SHOWN ? CUT : "");
+    if (first) fill("out", first);
+    at("size").textContent = `${counted(size, "byte")} so far`;
 }
 
 /** Shows the output and the messages, and offers the whole output as a file. */
 function show({ first = NOTHING, out = new Blob([]), messages = NOTHING, output: file = null }) {
-    showBeginning(first, out.size);
+    fill("out", first);
+    at("size").textContent = counted(out.size, "byte") + (out.size > SHOWN ? CUT : "");
     const isCut = fill("messages", messages);
     at("messages-size").textContent = isCut ? `${counted(messages.length, "byte")}${CUT}. ` : "";
     at("where").textContent = file === null ? "" : `to the file ${file}`;

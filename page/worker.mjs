@@ -6,6 +6,10 @@ import { runAll } from "./command.mjs";
 const PART = 2 ** 20;
 /** How much of the output is sent to be shown. (The last byte tells whether there is more.) */
 const SENT = 65537;
+/** The time between two reports of how long the output is so far, in milliseconds. */
+const PAUSE = 100;
+/** The longest output that is kept: a browser has no more room for Blobs than some gigabytes. */
+const MOST = 2 ** 31;
 
 let ptext = null;
 
@@ -18,7 +22,7 @@ function* partsOf(blob) {
 /** An output. The browser keeps its Blobs outside of the memory of scripts. */
 class Output {
     constructor(tell) {
-        Object.assign(this, { tell, size: 0, first: [], left: SENT, pieces: [], waiting: 0, blobs: [] });
+        Object.assign(this, { tell, told: 0, size: 0, first: [], left: SENT, pieces: [], waiting: 0, blobs: [] });
     }
 
     add(piece) {
@@ -30,9 +34,13 @@ class Output {
         this.pieces.push(bytes);
         this.waiting += bytes.length;
         this.size += bytes.length;
-        if (this.waiting >= PART) {
-            this.keep();
-            this.tell({ first: joined(this.first), size: this.size });
+        if (this.waiting < PART) return;
+        this.keep();
+        if (this.size > MOST) throw new Error("the output has more than 2 GiB, which this page does not keep");
+        const now = performance.now();
+        if (now - this.told > PAUSE) {
+            this.tell({ size: this.size, ...(!this.told && { first: joined(this.first) }) });
+            this.told = now;
         }
     }
 

@@ -190,8 +190,7 @@ async function huge(browser) {
     const wanted = "2 bytes";
     is("a file of 300 MB", await browser.until(`${shows} === ${JSON.stringify(wanted)}`, 120), true);
     await browser.type("command", "tr '\\0' '\\n' | tr -d x");
-    is("300 MB of output", await browser.until(`${shows}.startsWith("300,000,000 bytes, of which")
-        && !${shows}.endsWith("so far")`, 120), true);
+    is("300 MB of output", await browser.until(`${shows}.startsWith("300,000,000 bytes, of which")`, 120), true);
     await browser.value(`document.getElementById("stdin-empty").click()`);
     fs.rmSync(`${room}/huge`);
 }

@@ -261,7 +261,7 @@ is("its next run", [answers[1].number, await answers[1].out.text(), decode(answe
 const megabytes = "0123456789\n".repeat(500000);
 globalThis.self.onmessage({ data: { number: 3, commands: [["tr", "a", "b"]], stdin: megabytes, files: [] } });
 const parts = answers.filter((it) => it.part);
-is("parts of the output", [parts.length, parts[0].part.first.length, parts[0].part.size], [5, 65537, 2 ** 20]);
+is("a part of the output", [parts[0].part.first.length, parts[0].part.size], [65537, 2 ** 20]);
 is("the whole", [await answers.at(-1).out.text() === megabytes, answers.at(-1).first.length], [true, 65537]);
 
 // ---- want of memory
