@@ -6,6 +6,8 @@ import { runAll } from "./command.mjs";
 const PART = 2 ** 20;
 /** How much of the output is sent to be shown. (The last byte tells whether there is more.) */
 const SENT = 65537;
+/** How much of the output for another command is held in memory, in bytes, before it becomes a Blob. */
+const HELD = 2 ** 26;
 /** The time between two reports of how long the output is so far, in milliseconds. */
 const PAUSE = 100;
 /** The longest output that is kept: a browser has no more room for Blobs than some gigabytes. */
@@ -34,11 +36,11 @@ class Output {
         this.pieces.push(bytes);
         this.waiting += bytes.length;
         this.size += bytes.length;
-        if (this.waiting < PART) return;
+        if (this.waiting < (this.tell ? PART : HELD)) return;
         this.keep();
         if (this.size > MOST) throw new Error("the output has more than 2 GiB, which this page does not keep");
         const now = performance.now();
-        if (now - this.told > PAUSE) {
+        if (this.tell && now - this.told > PAUSE) {
             this.tell({ size: this.size, ...(!this.told && { first: joined(this.first) }) });
             this.told = now;
         }
@@ -49,18 +51,20 @@ class Output {
         [this.pieces, this.waiting] = [[], 0];
     }
 
-    whole() {
+    /** The whole output. For a command after this one, bytes are better: not each browser reads a new Blob at once. */
+    whole(isLast) {
+        if (!isLast && !this.blobs.length) return this.pieces;
         this.keep();
         return new Blob(this.blobs);
     }
 }
 
-/** Runs a command. `tell` gets the beginning of its output and how long it is so far. */
+/** Runs a command. `tell`, if it is not null, gets the beginning of its output and how long it is so far. */
 function run(words, stdin, files, tell) {
-    const read = (given) => readerOf(isBytes(given) ? [bytesOf(given)] : partsOf(given));
+    const read = (it) => readerOf(Array.isArray(it) ? it : isBytes(it) ? [bytesOf(it)] : partsOf(it));
     const open = (name) => (name === null ? read(stdin) : files.has(name) ? read(files.get(name)) : null);
     const out = new Output(tell), did = ptext.run(words, open, (piece) => out.add(piece));
-    return { ...did, out: out.whole(), first: joined(out.first) };
+    return { ...did, out: out.whole(tell !== null), first: joined(out.first) };
 }
 
 self.onmessage = ({ data }) => {
@@ -70,7 +74,7 @@ self.onmessage = ({ data }) => {
     }
     const { number, commands, stdin, files } = data, tell = (part) => self.postMessage({ number, part });
     try {
-        const one = (words, input, known, isLast) => run(words, input, known, isLast ? tell : () => {});
+        const one = (words, input, known, isLast) => run(words, input, known, isLast ? tell : null);
         self.postMessage({ number, ...runAll(one, commands, stdin, files) });
     } catch (error) {
         self.postMessage({ number, error: String(error) });

@@ -182,15 +182,15 @@ async function large(browser) {
 
 /** A file is read in parts: neither it nor the output is in the memory of the page or of its worker. */
 async function huge(browser) {
-    const size = 300 * 10 ** 6, shows = `document.getElementById("size").textContent`;
+    const size = 10 ** 8, shows = `document.getElementById("size").textContent`;
     fs.writeFileSync(`${room}/huge`, "");
     fs.truncateSync(`${room}/huge`, size);
     await browser.type("command", "tr '\\0' x | cut -b 2");
     await choose(browser, "stdin-open", "huge");
     const wanted = "2 bytes";
-    is("a file of 300 MB", await browser.until(`${shows} === ${JSON.stringify(wanted)}`, 120), true);
+    is("a file of 100 MB", await browser.until(`${shows} === ${JSON.stringify(wanted)}`, 120), true);
     await browser.type("command", "tr '\\0' '\\n' | tr -d x");
-    is("300 MB of output", await browser.until(`${shows}.startsWith("300,000,000 bytes, of which")`, 120), true);
+    is("100 MB of output", await browser.until(`${shows}.startsWith("100,000,000 bytes, of which")`, 120), true);
     await browser.value(`document.getElementById("stdin-empty").click()`);
     fs.rmSync(`${room}/huge`);
 }
@@ -277,11 +277,13 @@ async function chosen(browser) {
     is("a text is taken", await browser.until(`(${RESULT}).out === "some text\\n"`), true);
     await browser.type("file1", "another text");
     is("typing forgets the file", await browser.value(count), 0);
-    await browser.value(`Blob.prototype.arrayBuffer = async () => { throw new Error("too large"); }`);
+    await browser.value(`window.kept = Blob.prototype.arrayBuffer;
+        Blob.prototype.arrayBuffer = async () => { throw new Error("too large"); }`);
     await choose(browser, "file1-open", "bytes");
     is("a file that cannot be read", await browser.until(`${held}.startsWith("bytes could not be read")`), true);
     is("nothing was changed", await browser.value(`[document.getElementById("file1").value, ${count}]`),
         ["another text", 0]);
+    await browser.value(`Blob.prototype.arrayBuffer = window.kept`);
     await browser.value(`document.getElementById("file1-empty").click()`);
 }
 
