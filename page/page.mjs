@@ -333,7 +333,11 @@ async function begin() {
     at("copy").addEventListener("click", async () => {
         copy(await output.slice(0, COPIED).text(), "The output is copied.");
     });
-    addEventListener("hashchange", () => location.hash !== linked && follow());
+    addEventListener("hashchange", () => {
+        const isOwn = location.hash === linked;
+        linked = "";
+        if (!isOwn) follow();
+    });
     for (const it of document.querySelectorAll("[data-example]")) {
         it.addEventListener("click", () => {
             take(examples[it.dataset.example]);

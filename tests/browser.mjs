@@ -202,11 +202,12 @@ async function shared(browser) {
     for (const it of ["name1", "file1", "name2", "file2"]) await browser.type(it, "");
     await browser.type("stdin", "é=1&2\nb\n");
     await browser.type("command", "tr -d '+ #%' | cut -d = -f 2");
-    is("before a link", await browser.until(`(${RESULT}).out === "1&2\nb\n"`), true);
+    is("before a link", await browser.until(`(${RESULT}).out === "1&2\\nb\\n"`), true);
     await press("link");
     is("a link", await browser.until(`${done} === "The link is copied."`), true);
     const linked = await browser.value("location.href");
     await browser.value(`document.querySelector("[data-example]").click()`);
+    is("an example", await browser.until(`(${RESULT}).out === "root:0\\nbin:1\\n"`), true);
     await press("copy");
     is("a copy", await browser.until(`${done} === "The output is copied."`), true);
     await browser.value(`window.focus()`);
@@ -214,7 +215,7 @@ async function shared(browser) {
     is("its text", pasted, await browser.value(`(${RESULT}).out`));
     await browser.value(`location.replace("#")`);
     await browser.value(`location.replace(${JSON.stringify(linked)})`);
-    is("it is followed", await browser.until(`(${RESULT}).out === "1&2\nb\n"`), true);
+    is("it is followed", await browser.until(`(${RESULT}).out === "1&2\\nb\\n"`), true);
     is("its fields", await browser.value(FIELDS), { command: "tr -d '+ #%' | cut -d = -f 2", stdin: "é=1&2\nb\n",
         name1: "", file1: "", name2: "", file2: "" });
     await browser.type("command", `tr ${"a".repeat(60000)} b`);
