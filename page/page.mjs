@@ -186,6 +186,10 @@ function stop() {
 /** Shows the result of a run. */
 function finish(data) {
     settle();
+    if (data.error?.startsWith("NotReadableError") && [...held.values()].some((it) => it instanceof Blob)) {
+        readFiles();
+        return;
+    }
     if (data.error) {
         show({ messages: new TextEncoder().encode(`${data.error}\n`) });
         say("Failed", "the module stopped");
@@ -193,6 +197,18 @@ function finish(data) {
     }
     show(data);
     say(`Status ${data.status}`, meaningOf(data.statuses));
+}
+
+/** Reads the files that the worker cannot read, and runs again. (In WebKit that is so if the page is from a folder.) */
+async function readFiles() {
+    const own = number;
+    try {
+        for (const [id, it] of held) if (it instanceof Blob) held.set(id, new Uint8Array(await it.arrayBuffer()));
+        if (number === own) run();
+    } catch (error) {
+        show({ messages: new TextEncoder().encode(`${error}\n`) });
+        say("Failed", "a file could not be read");
+    }
 }
 
 /** Describes the statuses of chained commands. */
@@ -214,15 +230,15 @@ function showPart({ first, size }) {
 }
 
 /** Shows the output and the messages, and offers the whole output as a file. */
-function show({ first = NOTHING, out = new Blob([]), messages = NOTHING, output: file = null }) {
+function show({ first = NOTHING, out = [], messages = NOTHING, output: file = null }) {
+    output = new Blob(out);
     fill("out", first);
-    at("size").textContent = counted(out.size, "byte") + (out.size > SHOWN ? CUT : "");
+    at("size").textContent = counted(output.size, "byte") + (output.size > SHOWN ? CUT : "");
     const isCut = fill("messages", messages);
     at("messages-size").textContent = isCut ? `${counted(messages.length, "byte")}${CUT}. ` : "";
     at("where").textContent = file === null ? "" : `to the file ${file}`;
     URL.revokeObjectURL(address);
-    output = out;
-    address = URL.createObjectURL(out);
+    address = URL.createObjectURL(output);
     at("download").href = address;
     at("download").download = file ?? "output.txt";
 }

@@ -257,12 +257,12 @@ globalThis.self.onmessage({ data: { module: ptext.module } });
 globalThis.self.onmessage({ data: { number: 1, commands: [["uniq", 7]], stdin: "", files: [] } });
 globalThis.self.onmessage({ data: { number: 2, commands: [["uniq", "-c"]], stdin: "a\n", files: [] } });
 is("the worker after a run that fails", [answers[0].number, answers[0].error.split(":")[0]], [1, "TypeError"]);
-is("its next run", [answers[1].number, await answers[1].out.text(), decode(answers[1].first)], [2, "1 a\n", "1 a\n"]);
+is("its next run", [answers[1].number, decode(joined(answers[1].out)), decode(answers[1].first)], [2, "1 a\n", "1 a\n"]);
 const megabytes = "0123456789\n".repeat(500000);
 globalThis.self.onmessage({ data: { number: 3, commands: [["tr", "a", "b"]], stdin: megabytes, files: [] } });
 const parts = answers.filter((it) => it.part);
 is("a part of the output", [parts[0].part.first.length, parts[0].part.size], [65537, 2 ** 20]);
-is("the whole", [await answers.at(-1).out.text() === megabytes, answers.at(-1).first.length], [true, 65537]);
+is("the whole", [decode(joined(answers.at(-1).out)) === megabytes, answers.at(-1).first.length], [true, 65537]);
 
 // ---- want of memory
 const middle = await load(2 ** 26), halfLine = "x".repeat(3 * 10 ** 7);
