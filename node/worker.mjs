@@ -10,7 +10,8 @@ let kept = null;
 /** Waits for the answer to a step: a number of bytes. */
 function ask(step) {
     parentPort.postMessage(step);
-    Atomics.wait(control, 0, 0);
+    // (The call that wakes this thread may come late, when the thread has gone on and waits for the next answer.)
+    while (!Atomics.load(control, 0)) Atomics.wait(control, 0, 0);
     Atomics.store(control, 0, 0);
     return control[1];
 }

@@ -181,15 +181,20 @@ impl<K: KeyOrder> Merge<K> {
         &self.order
     }
 
-    // Checks whether both inputs are at lines of fewer than 64 bytes.
+    // Checks whether both inputs are at lines of fewer than 64 bytes, and after such lines. Among longer lines, a merge
+    // of their blocks would soon end, and cost more than it saves.
     #[inline(always)]
     pub(crate) fn has_short_heads<A: Allocator + Copy>(&self, store: &Store<A>) -> bool
         requires { AreValidCursors (K.key_of self.now.order) self.now.first self.now.second store.now }
-        ensures { result ≡ true → (side : SideType) → (both self.now.first self.now.second side).status ≡ status_is.Head }
+        ensures { let cursor = both self.now.first self.now.second in
+            result ≡ true → (side : SideType) → (cursor side).status ≡ status_is.Head }
     {
         match (self.first.status, self.second.status) {
             (Head, Head) => {
-                self.head(First, store).len() < 64 && self.head(Second, store).len() < 64
+                store.line(self.first.current_slot).len() < 64
+                    && store.line(self.second.current_slot).len() < 64
+                    && store.line(self.first.previous_slot).len() < 64
+                    && store.line(self.second.previous_slot).len() < 64
             }
             _ => false,
         }
