@@ -93,7 +93,7 @@ impl<A: Allocator + Drop> Sink for Kept<A> {
     }
 }
 
-/// A sink that counts its bytes, of which only contracts know more.
+/// A sink that counts its bytes. A write fails only if their number would pass the range of `usize`.
 #[derive(Drop)]
 pub struct Counted {
     pub count: usize,
@@ -136,7 +136,6 @@ impl Sink for Counted {
 
     ghost state = { λ s. counted_state s };
 
-    // A write fails if the count would pass the range of `usize`.
     fn put(&mut self, bytes: &[u8]) -> Result<usize, Failed> {
         let Some(count) = self.count.checked_add(bytes.len()) else {
             self.failed = true;

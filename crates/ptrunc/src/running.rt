@@ -97,7 +97,8 @@ fn append_file<A: Allocator + Drop>(out: &mut Filling<'_>, file: Option<Kept<A>>
     }
 }
 
-// Returns the exit status of a run, or `None` if memory ran out, which is all that these can have failed for.
+// Returns the exit status of a run, or `None` if memory ran out, or if what has no room is too much to be counted. These
+// can have failed for nothing else.
 fn exit_of(
     status: u8,
     out_of_memory: bool,
