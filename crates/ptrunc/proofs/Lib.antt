@@ -1,5 +1,6 @@
 pub mod Below
 pub mod FileLemmas
+pub mod GhostBytesMade
 pub mod GivenLemmas
 pub mod NamingLemmas
 pub mod Unread

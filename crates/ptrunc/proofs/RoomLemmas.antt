@@ -1,7 +1,7 @@
 -- A run that returns a sink to which it has added bytes has returned the sink of the same room: the state of a sink
 -- begins with the ghost name of its room. And what the room has is what the state says.
 use Rattle.std.proofs.Common.{◌≡◌, ℕ, ◌<◌, ◌⊎◌, Bool, true, false, List, [], ◌∷◌, ◌++◌, Option, Some, None, ap, sym, ◌∙◌, refl}
-use Rattle.std.proofs.Common.{arith, inl, inr, length, take, length-append, append_assoc, vec_len, ⊎_elim}
+use Rattle.std.proofs.Common.{arith, inl, inr, length, take, length-append, append_assoc, ⊎_elim}
 use Rattle.std.proofs.lemmas.Bool.{true≢false}
 use Rattle.std.proofs.lemmas.List.{append-nil, length-take-le}
 use Rattle.std.proofs.Math.Seq.{take-append_seam}
@@ -24,7 +24,7 @@ tail_of None = []
 tail_of (Some []) = []
 tail_of (Some (x ∷ xs)) = xs
 
-module _ {A : Type 0} (old new : Filling A) (bytes : List ℕ)
+module _ (old new : Filling) (bytes : List ℕ)
     (added : (filling_state new).accepted ≡ append_known (filling_state old).accepted bytes) where
   pub same_room : new.room.bytes.ghost_name ≡ old.room.bytes.ghost_name
   unfolding head_of
@@ -39,7 +39,7 @@ module _ {A : Type 0} (old new : Filling A) (bytes : List ℕ)
 
 -- ---- a file is appended
 
-module _ {A : Type 0} (old new : Filling A) (file : Kept A) where
+module _ {A : Type 0} (old new : Filling) (file : Kept A) where
   pub appended : old.rest.failed ≡ false → WriteOutOk (filling_state old) (filling_state new) file.bytes.items
       → AppendPost old new (Some file) file.failed
   appended unfailed all =
@@ -65,7 +65,7 @@ module _ {A : Type 0} (old new : Filling A) (file : Kept A) where
     cause = λ failed. inr part.failed;
   }
 
-pub nothing_appended : {A : Type 0} (out : Filling A) → AppendPost out out None out.rest.failed
+pub nothing_appended : {A : Type 0} (out : Filling) → AppendPost {A = A} out out None out.rest.failed
 nothing_appended out = record {
   same_room = refl;
   is_prefix = record { rest = []; is = refl };
@@ -75,7 +75,7 @@ nothing_appended out = record {
 
 -- ---- a room
 
-module _ {A : Type 0} (s : Filling A) where
+module _ (s : Filling) where
   written_length : length (take s.room.written s.room.bytes.now) ≡ s.room.written
   written_length = length-take-le s.room.written s.room.bytes.now s.room.within
 
@@ -86,16 +86,16 @@ module _ {A : Type 0} (s : Filling A) where
     counts = omega (
       arith,
       written_length,
-      s.rest.bytes.ok.0,
+      s.rest.counts,
       length-append (take s.room.written s.room.bytes.now) s.rest.bytes.items,
     );
     within = s.room.within;
     is_full = λ lacking. room_is_full lacking;
   })
     where
-      room_is_full : 0 < vec_len s.rest.bytes → s.room.written ≡ length s.room.bytes.now
+      room_is_full : 0 < s.rest.count → s.room.written ≡ length s.room.bytes.now
       room_is_full lacking =
-          ⊎_elim (λ space. absurd (omega (arith, lacking, s.rest.bytes.ok.0, ap length (s.rest_is_after space).0)))
+          ⊎_elim (λ space. absurd (omega (arith, lacking, s.rest.counts, ap length (s.rest_is_after space).0)))
           (λ full. omega (arith, full, s.room.within)) (below_or_not s.room.written (length s.room.bytes.now))
 
   pub full_if_failed : s.rest.failed ≡ true → IsFull s.room.bytes.now (part_of s)
@@ -127,7 +127,7 @@ module _ {A : Type 0} (s : Filling A) where
           ap length p.is,
           length-append (filling_bytes s) p.rest,
           written_length,
-          s.rest.bytes.ok.0,
+          s.rest.counts,
           length-append (take s.room.written s.room.bytes.now) s.rest.bytes.items,
         );
         full = full_if_failed failed;

@@ -147,7 +147,7 @@ all_created (Some k ∷ results) new is = some_is_none is
     some_is_none : Some (kept_state k) ∷ map (option_map kept_state) results ≡ None ∷ [] → ⊥
     some_is_none is = cc
 
-module _ {A : Type 0} (to_out out : Filling A) (out_new : IsNewFilling to_out) where
+module _ {A : Type 0} (to_out out : Filling) (out_new : IsNewFilling to_out) where
   to_standard : (file : Option (Kept A)) → option_map kept_state file ≡ None
       → Directed (filling_bytes out ++ bytes_of_file file) out.rest.failed (has_failed file) (filling_state to_out)
       (filling_state out)
@@ -164,7 +164,7 @@ module _ {A : Type 0} (to_out out : Filling A) (out_new : IsNewFilling to_out) w
   to_nothing None none same = record {
     added = λ bytes is. append-nil (filling_bytes out) ∙ ap filling_bytes same ∙ out_new.empty ∙ nothing_added bytes is;
     unfailed = λ fine file. refl;
-    failed = λ fine. (ap (λ (s : Filling A). s.rest.failed) same ∙ out_new.unfailed, refl);
+    failed = λ fine. (ap (λ (s : Filling). s.rest.failed) same ∙ out_new.unfailed, refl);
   }
   to_nothing (Some f) none same = absurd (none_is_some none)
 
@@ -178,7 +178,7 @@ module _ {A : Type 0} (to_out out : Filling A) (out_new : IsNewFilling to_out) w
             ap (λ (l : List ℕ). l ++ f.bytes.items) (ap filling_bytes same ∙ out_new.empty)
             ∙ added_to_none new added;
         unfailed = λ fine file. file;
-        failed = λ fine. (ap (λ (s : Filling A). s.rest.failed) same ∙ out_new.unfailed, fine);
+        failed = λ fine. (ap (λ (s : Filling). s.rest.failed) same ∙ out_new.unfailed, fine);
       })
 
 -- ---- how the run ended
@@ -196,7 +196,7 @@ pub record Ran (words : List (List ℕ)) (w : InputBytes) (output message : List
       ⊎ ((text ≡ messages (spec_of_args words) w) × (out_of_memory ≡ false) × (denied ≡ false) × (out_failed ≡ false)
       × (file_failed ≡ false)))
 
-said_of : {A : Type 0} (to_messages messages' : Filling A) (text : List ℕ) → IsNewFilling to_messages
+said_of : (to_messages messages' : Filling) (text : List ℕ) → IsNewFilling to_messages
     → HasSaid (filling_state to_messages) (filling_state messages') text
     → IsPrefix (filling_bytes messages') text × (messages'.rest.failed ≡ false → filling_bytes messages' ≡ text)
 said_of to_messages messages' text new said =
@@ -207,7 +207,7 @@ said_of to_messages messages' text new said =
     )
 
 module _ {A : Type 0} (words : List (List ℕ)) (input : List ℕ) (files : InputBytes) (short : length input < 2 ^ 63)
-    (to_out to_messages out messages' : Filling A) (out_new : IsNewFilling to_out)
+    (to_out to_messages out messages' : Filling) (out_new : IsNewFilling to_out)
     (messages_new : IsNewFilling to_messages) (file : Option (Kept A)) (results : List (Option (Kept A)))
     (results_new : All IsNewFile results) (place : FilesState)
     (results_are : place.outputs ≡ map (option_map kept_state) results) (store : Slots) (o : Outcome)
@@ -394,7 +394,7 @@ prefix_of_prefix {a} p q = record {
   is = q.is ∙ ap (λ (l : List ℕ). l ++ q.rest) p.is ∙ append_assoc a p.rest q.rest;
 }
 
-module _ {A : Type 0} (words : List (List ℕ)) (w : InputBytes) (out final messages' : Filling A)
+module _ {A : Type 0} (words : List (List ℕ)) (w : InputBytes) (out final messages' : Filling)
     (file : Option (Kept A)) (status : ℕ) (out_of_memory denied failed : Bool)
     (ran : Ran words w (filling_bytes out ++ bytes_of_file file) (filling_bytes messages') status out_of_memory denied
     out.rest.failed (has_failed file) messages'.rest.failed)
@@ -463,7 +463,7 @@ module _ {A : Type 0} (words : List (List ℕ)) (w : InputBytes) (out final mess
 
 -- The run, and what was appended to its output, as an answer.
 pub answer_of_run : {A : Type 0} (words : List (List ℕ)) (input : List ℕ) (files : InputBytes) → length input < 2 ^ 63
-    → (to_out to_messages out messages' final : Filling A) → IsNewFilling to_out → IsNewFilling to_messages
+    → (to_out to_messages out messages' final : Filling) → IsNewFilling to_out → IsNewFilling to_messages
     → (file : Option (Kept A)) (results : List (Option (Kept A))) → All IsNewFile results
     → {old place : FilesState} {standard : SourceState} {o : Outcome} {out_of_memory : Bool}
     → old ≡ unopened_files files → standard ≡ source_of input → place.outputs ≡ map (option_map kept_state) results
@@ -520,29 +520,29 @@ none_created (Some f) none = absurd (none_is_some none)
 
 -- A file was created only if standard output is not used.
 pub file_leaves_out : {A : Type 0} {words : List (List ℕ)} {old place : FilesState} {standard : SourceState}
-    {out_state messages_state : SinkState} {o : Outcome} {out_of_memory : Bool} {Failing : Type 0} {to_out out : Filling A}
+    {out_state messages_state : SinkState} {o : Outcome} {out_of_memory : Bool} {Failing : Type 0} {to_out out : Filling}
     {file : Option (Kept A)}
     → RunOverFilesInOwnStore words old place standard out_state messages_state (option_map kept_state file) out_of_memory o
     (out ≡ to_out) Failing
     → IsNewFilling to_out → (file ≡ None) ⊎ (out.rest.failed ≡ false)
 file_leaves_out {A} {file = file} post new = ⊎_elim (λ used. inl (none_created file used.no_file))
-    (λ unused. inr (ap (λ (s : Filling A). s.rest.failed) unused ∙ new.unfailed)) (is_used post.1)
+    (λ unused. inr (ap (λ (s : Filling). s.rest.failed) unused ∙ new.unfailed)) (is_used post.1)
 
 -- The run returned the sink that fills the room of the output.
-pub same_out : {A : Type 0} {words : List (List ℕ)} {old place : FilesState} {standard : SourceState}
+pub same_out : {words : List (List ℕ)} {old place : FilesState} {standard : SourceState}
     {messages_state : SinkState} {o : Outcome} {out_of_memory : Bool} {file : Output} {Failing : Type 0}
-    (to_out out : Filling A)
+    (to_out out : Filling)
     → RunOverFilesInOwnStore words old place standard (filling_state to_out) messages_state file out_of_memory o
     (out ≡ to_out) Failing
     → o.out ≡ filling_state out → out.room.bytes.ghost_name ≡ to_out.room.bytes.ghost_name
-same_out {A} to_out out post is = ⊎_elim
+same_out to_out out post is = ⊎_elim
     (λ used. same_room to_out out used.written (ap (λ s. s.accepted) (sym is) ∙ used.accepted))
-    (λ unused. ap (λ (s : Filling A). s.room.bytes.ghost_name) unused) (is_used post.1)
+    (λ unused. ap (λ (s : Filling). s.room.bytes.ghost_name) unused) (is_used post.1)
 
 -- And the one that fills the room of the messages.
-pub same_messages : {A : Type 0} {words : List (List ℕ)} {old place : FilesState} {standard : SourceState}
+pub same_messages : {words : List (List ℕ)} {old place : FilesState} {standard : SourceState}
     {out_state : SinkState} {o : Outcome} {out_of_memory : Bool} {file : Output} {Unused Failing : Type 0}
-    (to_messages messages' : Filling A)
+    (to_messages messages' : Filling)
     → RunOverFilesInOwnStore words old place standard out_state (filling_state to_messages) file out_of_memory o Unused
     Failing
     → o.messages ≡ filling_state messages'

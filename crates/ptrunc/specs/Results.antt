@@ -27,7 +27,8 @@ pub record IsExactInMemory (m : CommandSpec) (w : InputBytes) (out messages' : L
 
 -- ---- memory ran out
 
--- A request for memory can fail, and so can a write: the bytes for which there is no room need memory. No read fails.
+-- A request for memory can fail, and so can a write: the bytes of a created file need memory, and those for which there is
+-- no room may be too many to be counted. No read fails.
 abbrev pub IsOfMemory : FlowFault → Type 0
 IsOfMemory Memory = ⊤
 IsOfMemory Write = ⊤
@@ -44,7 +45,7 @@ pub record IsStoppedRun (m : CommandSpec) (w : InputBytes) (text : List ℕ) : T
   pub of_memory : IsOfMemory fault
   pub text_is : text ≡ operand_messages m w operands ++ fault_message m.tool m.names fault
 
--- The run was complete, but one of the rooms is full, and there was no memory for what did not fit.
+-- The run was complete, but one of the rooms is full, and what did not fit is too much to be counted.
 abbrev pub IsFull : List ℕ → Part → Type 0
 IsFull room part = part.written ≡ length room
 
@@ -53,7 +54,7 @@ pub record IsUncounted (m : CommandSpec) (w : InputBytes) (out messages' : List 
     pub text_is : text ≡ messages m w
     pub full : IsFull out a.out ⊎ IsFull messages' a.messages
 
--- The room of the messages is full, and there was no memory to count all of the text that did not fit.
+-- The room of the messages is full, and the text that did not fit is too much to be counted.
 pub record HoldsBeginning (room : List ℕ) (part : Part) (text : List ℕ) : Type 0 where
   pub begins : IsPrefix (take part.written room) text
   pub counts : part.written + part.lacking ≤ length text

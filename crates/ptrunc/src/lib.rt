@@ -5,6 +5,7 @@
 
 mod answer;
 mod files;
+mod ghost_bytes;
 mod given;
 mod host;
 mod memory;

@@ -3,6 +3,7 @@
 ghost use Rattle.std.specs.Prelude.{◌≡◌, ◌+◌, ◌-◌, ◌≤◌, ◌<◌, ◌^◌, false, [], ◌++◌, length, min, take};
 
 use crate::answer::Part;
+use crate::ghost_bytes::GhostBytes;
 use ptlines::{Failed, Sink};
 use std::alloc::Allocator;
 
@@ -52,7 +53,6 @@ pub struct Kept<A: Allocator> {
 
 impl<A: Allocator> Kept<A> {
     ghost use Rattle.std.specs.Prelude.{◌≡◌};
-    ghost use Rattle.ptlines.specs.Sinks.{flushes_after};
     ghost use Rattle.ptrunc.specs.Private.Rooms.{IsNewKept};
 
     /// Keeps no bytes yet.
@@ -65,14 +65,6 @@ impl<A: Allocator> Kept<A> {
             unflushed: false,
             flushes: 0,
         }
-    }
-
-    // Records a flush.
-    fn set_flushed(&mut self)
-        ensures { self.new ≡ record self.old { unflushed = false; flushes = flushes_after self.old.flushes } }
-    {
-        self.unflushed = false;
-        self.flushes = self.flushes.saturating_add(1);
     }
 }
 
@@ -95,33 +87,93 @@ impl<A: Allocator + Drop> Sink for Kept<A> {
     }
 
     fn flush(&mut self) -> Result<(), Failed> {
+        self.unflushed = false;
+        self.flushes = self.flushes.saturating_add(1);
+        Ok(())
+    }
+}
+
+/// A sink that counts its bytes. A write fails only if their number would pass the range of `usize`.
+#[derive(Drop)]
+pub struct Counted {
+    pub count: usize,
+    pub failed: bool,
+    pub unflushed: bool,
+    pub flushes: u64,
+    pub bytes: GhostBytes,
+    ghost counts: { count ≡ length bytes.items },
+}
+
+impl Counted {
+    ghost use Rattle.std.specs.Prelude.{◌≡◌};
+    ghost use Rattle.ptlines.specs.Sinks.{flushes_after};
+    ghost use Rattle.ptrunc.specs.Private.Rooms.{IsNewCounted};
+
+    /// Counts no bytes yet.
+    pub fn new() -> Self
+        ensures { IsNewCounted result }
+    {
+        Counted {
+            count: 0,
+            failed: false,
+            unflushed: false,
+            flushes: 0,
+            bytes: GhostBytes::new(),
+        }
+    }
+
+    // Records a flush.
+    fn set_flushed(&mut self)
+        ensures { self.new ≡ record self.old { unflushed = false; flushes = flushes_after self.old.flushes } }
+    {
+        self.unflushed = false;
+        self.flushes = self.flushes.saturating_add(1);
+    }
+}
+
+impl Sink for Counted {
+    ghost use Rattle.ptrunc.specs.Private.Rooms.{counted_state};
+
+    ghost state = { λ s. counted_state s };
+
+    fn put(&mut self, bytes: &[u8]) -> Result<usize, Failed> {
+        let Some(count) = self.count.checked_add(bytes.len()) else {
+            self.failed = true;
+            return Err(Failed);
+        };
+        self.count = count;
+        self.bytes = self.bytes.with(bytes);
+        self.unflushed = true;
+        Ok(bytes.len())
+    }
+
+    fn flush(&mut self) -> Result<(), Failed> {
         self.set_flushed();
         Ok(())
     }
 }
 
-/// A sink that fills a room. Bytes that do not fit are kept, so that no write fails for want of room, and their number
-/// is known in the end.
+/// A sink that fills a room. Bytes that do not fit are counted, so that no write fails for want of room.
 #[derive(Drop)]
-pub struct Filling<'a, A: Allocator> {
+pub struct Filling<'a> {
     pub room: Room<'a>,
-    pub rest: Kept<A>,
+    pub rest: Counted,
     ghost rest_is_after: { room.written < length room.bytes.now
         → (rest.bytes.items ≡ []) × (rest.failed ≡ false) },
 }
 
-impl<'a, A: Allocator + Drop> Filling<'a, A> {
+impl<'a> Filling<'a> {
     ghost use Rattle.std.specs.Prelude.{◌≡◌};
     ghost use Rattle.ptrunc.specs.Private.Rooms.{IsNewFilling, part_of};
 
     /// Fills a room.
-    pub fn new(alloc: A, room: Room<'a>) -> Self
+    pub fn new(room: Room<'a>) -> Self
         ensures same_room { result.room.bytes.ghost_name ≡ room.entry.bytes.ghost_name }
         ensures is_new { room.entry.written ≡ 0 → IsNewFilling result }
     {
         Filling {
             room,
-            rest: Kept::new(alloc),
+            rest: Counted::new(),
         }
     }
 
@@ -139,12 +191,12 @@ impl<'a, A: Allocator + Drop> Filling<'a, A> {
     {
         Part {
             written: self.room.written,
-            lacking: self.rest.bytes.len(),
+            lacking: self.rest.count,
         }
     }
 }
 
-impl<A: Allocator + Drop> Sink for Filling<'_, A> {
+impl Sink for Filling<'_> {
     ghost use Rattle.ptrunc.specs.Private.Rooms.{filling_state};
 
     ghost state = { λ s. filling_state s };

@@ -58,8 +58,8 @@ fn run_into<'a, A: Allocator + Copy + Drop>(
     let mut memory = MemoryFiles::new(alloc, files);
     let streams = Streams {
         standard: Bytes::new(input),
-        out: Filling::new(alloc, mem::replace(out, Room::new(&mut []))),
-        messages: Filling::new(alloc, mem::replace(messages, Room::new(&mut []))),
+        out: Filling::new(mem::replace(out, Room::new(&mut []))),
+        messages: Filling::new(mem::replace(messages, Room::new(&mut []))),
     };
     let FilesReport {
         report,
@@ -84,7 +84,7 @@ fn run_into<'a, A: Allocator + Copy + Drop>(
 }
 
 // Appends the file that was created for the output, if there is one. Returns whether a write of the output has failed.
-fn append_file<A: Allocator + Drop>(out: &mut Filling<'_, A>, file: Option<Kept<A>>) -> bool
+fn append_file<A: Allocator + Drop>(out: &mut Filling<'_>, file: Option<Kept<A>>) -> bool
     requires { (file ≡ None) ⊎ (out.old.rest.failed ≡ false) }
     ensures { AppendPost out.old out.new file result }
 {
@@ -97,7 +97,8 @@ fn append_file<A: Allocator + Drop>(out: &mut Filling<'_, A>, file: Option<Kept<
     }
 }
 
-// Returns the exit status of a run, or `None` if memory ran out, which is all that these can have failed for.
+// Returns the exit status of a run, or `None` if memory ran out, or if what has no room is too much to be counted. These
+// can have failed for nothing else.
 fn exit_of(
     status: u8,
     out_of_memory: bool,
