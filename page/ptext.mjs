@@ -173,6 +173,7 @@ export class Ptext {
      * goes, or null.
      */
     run(words, stdin = "", files = new Map()) {
+        let begun = { out: new Uint8Array(0), output: null };
         try {
             const { read, output } = this.names(words), input = bytesOf(stdin);
             const contents = read.map((name) => files.get(name)).map((it) => (it === undefined ? null : bytesOf(it)));
@@ -181,11 +182,12 @@ export class Ptext {
             for (;;) {
                 const { out, messages, status } = this.#guarded(() => this.#call(words, input, contents, rooms));
                 if (status !== ROOM) return { status, out: out.bytes, messages: messages.bytes, output };
+                begun = { out: out.bytes, output };
                 rooms = [out, messages].map((it) => it.bytes.length + it.lacking);
             }
         } catch (error) {
             if (!(error instanceof NoMemory)) throw error;
-            return { status: MEMORY, out: new Uint8Array(0), messages: encode("ptext: out of memory\n"), output: null };
+            return { status: MEMORY, messages: encode("ptext: out of memory\n"), ...begun };
         }
     }
 

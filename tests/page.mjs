@@ -207,9 +207,9 @@ is("the worker after a run that fails", answers.map(({ number, error, out }) => 
 const middle = await load(page, 2 ** 26), half = "x".repeat(31 * 10 ** 6);
 is("an input of nearly half of the memory", run("tr x y", half, {}, middle)[0], 0);
 is("one of more than half of it", run("tr x y", `${half}${"x".repeat(3 * 10 ** 6)}`, {}, middle)[0], 4);
-const same = "k some words\n".repeat(5000);
+const same = "k some words\n".repeat(3000);
 const endless = run("join f g", "", { f: same, g: same }, middle);
-is("too much output", [endless[0], endless[2]], [4, "join: output: write failed\n"]);
+is("too much output", [endless[0], endless[2]], [4, "ptext: out of memory\n"]);
 is("its beginning", "k some words some words\n".repeat(10 ** 6).startsWith(endless[1]) && endless[1].length > 24, true);
 const small = await load(page, 2 ** 22);
 const [status, , message] = run("cut -d , -f 2", "x".repeat(3 * 10 ** 6), {}, small);
