@@ -141,15 +141,19 @@ def run_all(
     for index, part in enumerate(parts):
         end += 0 if part is None else len(part)
         ends[index] = NO_FILE if part is None else end
+    fixed = (given, len(given), text, len(text), joined, len(joined), ends, len(ends))
     room, messages_room, answer = len(text) + len(joined) + FIRST_ROOM, FIRST_ROOM, _Answer()
-    while True:
-        out, messages = ctypes.create_string_buffer(room), ctypes.create_string_buffer(messages_room)
-        fixed = (given, len(given), text, len(text), joined, len(joined), ends, len(ends))
-        status = _RUN(*fixed, out, room, messages, messages_room, answer)
-        if status != ROOM:
-            break
+    out, messages = ctypes.create_string_buffer(room), ctypes.create_string_buffer(messages_room)
+    while (status := _RUN(*fixed, out, room, messages, messages_room, answer)) == ROOM:
         room = answer.out.written + answer.out.lacking + 1
         messages_room = answer.messages.written + answer.messages.lacking + 1
+        # (If there is no memory for more, what is there is a beginning of the output.)
+        try:
+            more = ctypes.create_string_buffer(room), ctypes.create_string_buffer(messages_room)
+        except MemoryError:
+            status = MEMORY
+            break
+        out, messages = more
     if status == ARGUMENTS:
         raise ValueError(messages.raw[: answer.messages.written].decode())
     return status, ctypes.string_at(out, answer.out.written), ctypes.string_at(messages, answer.messages.written)

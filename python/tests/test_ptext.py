@@ -22,7 +22,7 @@ NO_MEMORY = """
 import resource
 import ptext
 resource.setrlimit(resource.RLIMIT_AS, (400 << 20,) * 2)
-lines = b"k 0123456789\\n" * 20_000
+lines = b"k 0123456789\\n" * 5_000
 try:
     ptext.join("a", "b", files={"a": lines, "b": lines})
 except MemoryError as error:
