@@ -18,6 +18,8 @@ class Error(Exception):
     incomplete if it names a file that is not there, or if a line is out of order. `unknown` are the names that `files`
     lacks."""
 
+    __module__ = "ptext"
+
     def __init__(self, status: int, message: str, out: bytes, unknown: tuple[str, ...] = ()) -> None:
         super().__init__(message)
         self.status, self.message, self.out, self.unknown = status, message, out, unknown
