@@ -6,7 +6,7 @@ export type SyncInput = Piece | Iterable<Piece> | URL;
 
 /** An input for `stream`: also what has to be waited for, as a Readable, a ReadableStream, or the output of another
  * command. */
-export type Input = SyncInput | AsyncIterable<Piece> | Blob;
+export type Input = SyncInput | AsyncIterable<Piece> | ReadableStream<Piece> | Blob;
 
 /** Files by their names. A name that is not there cannot be opened. */
 export type Files<Kind> = Readonly<Record<string, Kind | undefined>> | ReadonlyMap<string, Kind>;
@@ -24,8 +24,8 @@ export interface Options<Kind> {
  * there, in pieces as they come, whose bytes are others after that call: copy what you keep. Throws a PtextError if the
  * status is not 0.
  */
-export function run(words: readonly string[], options?: Options<SyncInput>): Uint8Array;
 export function run(words: readonly string[], options: Options<SyncInput> & { write(piece: Uint8Array): void }): void;
+export function run(words: readonly string[], options?: Options<SyncInput>): Uint8Array;
 
 /**
  * Runs a command, the name of the tool first, in a thread of its own, and returns its output as a stream, over which
