@@ -347,7 +347,8 @@ async function begin() {
     at("stop").addEventListener("click", stop);
     at("link").addEventListener("click", link);
     at("copy").addEventListener("click", async () => {
-        copy(await output.slice(0, COPIED).text(), "The output is copied.");
+        const part = output.size > COPIED ? `The first ${COPIED.toLocaleString("en")} bytes` : "The output";
+        copy(await output.slice(0, COPIED).text(), `${part} ${output.size > COPIED ? "are" : "is"} copied.`);
     });
     addEventListener("hashchange", () => {
         const isOwn = location.hash === linked;
