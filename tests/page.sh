@@ -24,6 +24,8 @@ in_time() {
 }
 in_time 600 node tests/page.mjs "$built/node/ptext.wasm"
 in_time 600 node tests/node.mjs "$built/node"
+PTEXT_NODE=$built/node
+export PTEXT_NODE
 in_time 600 python3 tools/same.py "$program" 500 --by node
 if [ "$built" = "$PWD/build" ]; then
     python3 tools/dist.py node "$room/dist" >"$room/said" || cat "$room/said"

@@ -5,8 +5,8 @@
 
 COUNT is 2,000. The library is build/libptext.so, through the Python module, over bytes in memory; with --by, over
 streams, whose inputs come in random pieces: by functions that C calls, step by step, by the descriptors of files and
-pipes, by `ptext.stream` from inputs of random kinds, or by the package of build/node, in turn over streams and in one
-thread.
+pipes, by `ptext.stream` from inputs of random kinds, or by the package of build/node (or of the folder PTEXT_NODE), in
+turn over streams and in one thread.
 """
 import argparse
 import array
@@ -193,7 +193,8 @@ class Node:
     """Runs over streams, by the package for node: every other one in its own thread, and not beside it."""
 
     def __init__(self):
-        words = ["node", f"{TOP}/tools/same.mjs", f"{TOP}/build/node/ptext.mjs"]
+        package = os.environ.get("PTEXT_NODE", f"{TOP}/build/node")
+        words = ["node", f"{TOP}/tools/same.mjs", f"{package}/ptext.mjs"]
         self.node, self.count = subprocess.Popen(words, stdin=subprocess.PIPE, stdout=subprocess.PIPE, text=True), 0
 
     def close(self):
