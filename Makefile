@@ -11,7 +11,7 @@
 # make lib                  build/libptext.so and build/libptext.a with ptext.h: the tools as a library, for C
 # make install-lib          installs them and the page ptext(3) into PREFIX
 # make python               build/dist: a wheel of the Python module, with the library in it (docs/LIBRARY.md)
-# make page                 build/page/ptext.html: the tools in a browser, as one file; and build/node: a package for node
+# make page                 build/page/ptext.html: the tools in a browser, as one file; build/node: a package for node
 # make node                 build/dist: that package as an archive, which npm install takes (docs/LIBRARY.md)
 # make bench                ratios to the system's tools, by tool, work and length of a line: tables, data and chart in
 #                           bench/; and the tools over parts of their input, on all processors
@@ -59,8 +59,8 @@ WITH_RT = command -v rt >/dev/null || { echo 'there is no rt in PATH: it is part
     says what can be had without it (if it is unpacked: export PATH=/opt/rattle/bin:$$PATH)' >&2; exit 1; }
 AGAINST ?= system
 
-.PHONY: all try check must-fail check-program test static lib install-lib python page node bench compare definitions docs \
-    install is-built install-tools uninstall dist dist-static deb clean help
+.PHONY: all try check must-fail check-program test static lib install-lib python page node bench compare definitions \
+    docs install is-built install-tools uninstall dist dist-static deb clean help
 
 all: build/ptext
 	@echo '$$ echo abcd | build/ptext cut -c 3-,1' && echo abcd | build/ptext cut -c 3-,1

@@ -125,7 +125,7 @@ def make_wide_line(separator, count):
     """Makers of lines of so many fields."""
 
     def make(number):
-        fields = [str((number + place) * 7919 % 65536) for place in range(count - 1)]
+        fields = [str((number + index) * 7919 % 65536) for index in range(count - 1)]
         return separator.join([f"{number:08}", *fields]) + "\n"
 
     return make

@@ -35,7 +35,7 @@ HIGH = 0.6
 
 
 def list_fields(count, step):
-    return ",".join(str(place) for place in range(1, count + 1, step))
+    return ",".join(str(field) for field in range(1, count + 1, step))
 
 
 def make_prose(size):
@@ -98,7 +98,7 @@ WORDS, DICTIONARY, LETTERS, RANDOM = make_words_of_a_text, make_dictionary_file,
 CUT = [
     *[("passwords", PASSWORDS, ["-d", ":", "-f", fields]) for fields in ("1", "1,7", "3-")],
     *[("log", LOG, words) for words in (["-d", " ", "-f", "1,4,7"], ["-d", '"', "-f", "2"])],
-    *[("log", LOG, ["-c", places]) for places in ("1-15", "1-10,30-50")],
+    *[("log", LOG, ["-c", columns]) for columns in ("1-15", "1-10,30-50")],
     *[("10 fields", TEN, ["-d", ",", "-f", fields]) for fields in ("3", "1,3,5,7,9", "2-9")],
     *[("100 fields", HUNDRED, ["-d", ",", "-f", it]) for it in ("50", list_fields(100, 10), list_fields(100, 2))],
     *[("1000 fields", THOUSAND, ["-f", fields]) for fields in ("500", "1-999")],

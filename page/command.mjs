@@ -62,10 +62,10 @@ export function commands(text) {
 }
 
 /**
- * Runs commands, each over the output of the one before it. The function `run` runs one: it gets its words, its standard
- * input, its files by their names, and whether it is the last, and returns its status, its messages, its output, and the
- * name of the file to which that goes (or null). Returns the same of the last one, with the statuses and the messages of
- * all.
+ * Runs commands, each over the output of the one before it. The function `run` runs one: it gets its words, its
+ * standard input, its files by their names, and whether it is the last, and returns its status, its messages, its
+ * output, and the name of the file to which that goes (or null). Returns the same of the last one, with the statuses
+ * and the messages of all.
  */
 export function runAll(run, all, stdin, files) {
     const known = new Map(files), messages = [], statuses = [];

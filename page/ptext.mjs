@@ -162,18 +162,18 @@ export class Ptext {
             const given = this.#lay(bytesOfWords(words)), names = this.#room(Number(given[1]));
             const output = this.#room(Number(given[1])), answer = this.#room(ANSWER_SIZE)[0];
             this.exports.ptext_names_in_memory(...given, ...names, ...output, answer);
-            const view = this.heap.view(), number = (place) => Number(view.getBigUint64(Number(answer) + place, true));
+            const view = this.heap.view(), number = (offset) => Number(view.getBigUint64(Number(answer) + offset, true));
             if (view.getUint8(Number(answer) + 32) === MEMORY) throw new NoMemory();
-            const found = ([at], place) => namesIn(this.#at(at, number(place)));
+            const found = ([at], offset) => namesIn(this.#at(at, number(offset)));
             return { read: found(names, 0), output: found(output, 16)[0] ?? null };
         });
     }
 
     /**
      * Runs a command, the name of the tool first. `open` gets the name of each file that the command reads, and null
-     * for standard input. It returns null if the file cannot be opened, or a function that reads it: that puts bytes into
-     * the room that it gets and returns how many, 0 at the end. Before it waits, it may call its second argument, which
-     * hands out the output so far. `take` gets the output in pieces, which it may not keep.
+     * for standard input. It returns null if the file cannot be opened, or a function that reads it: that puts bytes
+     * into the room that it gets and returns how many, 0 at the end. Before it waits, it may call its second argument,
+     * which hands out the output so far. `take` gets the output in pieces, which it may not keep.
      *
      * Returns the exit status, the bytes of the messages, and the names that `names` finds. An error that a function
      * throws ends the run, and comes through.

@@ -24,8 +24,8 @@ function canRead() {
 
 const CAN_READ = canRead();
 
-/** The bytes of an input: of a text, of a file that was chosen, or of a list of bytes and Blobs. Of a Blob, one part at a
- * time is in memory. */
+/** The bytes of an input: of a text, of a file that was chosen, or of a list of bytes and Blobs. Of a Blob, one part at
+ * a time is in memory. */
 function* partsOf(input) {
     if (Array.isArray(input)) for (const it of input) yield* partsOf(it);
     else if (isBytes(input)) yield input;

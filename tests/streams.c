@@ -1,6 +1,6 @@
 /* Runs over streams, by functions and step by step: streams that end early, come in small pieces, fail at each call in
- * turn, or break the rules; runs in runs, in threads, stopped and closed at each step; signals; limits of memory; and how
- * deep stacks get. */
+ * turn, or break the rules; runs in runs, in threads, stopped and closed at each step; signals; limits of memory; and
+ * how deep stacks get. */
 #define _GNU_SOURCE
 #include "ptext.h"
 

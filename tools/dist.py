@@ -8,7 +8,8 @@ list of the packages has not: it names the time and the environment.)
   python3 tools/dist.py static FOLDER                 ptext-VERSION-linux-x86_64-static.tar.gz: the same with the program
                                                       without shared libraries (make static), and what the license of the
                                                       C library asks for, to link it anew
-  python3 tools/dist.py node FOLDER                   ptext-VERSION.tgz, the package for node (make page) as npm packs it
+  python3 tools/dist.py node FOLDER                   ptext-VERSION.tgz, the package for node (make page), as npm packs
+                                                      it
   python3 tools/dist.py deb FOLDER                    two packages by dpkg-buildpackage, and its list of them, which has
                                                       their checksums
 

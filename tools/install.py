@@ -288,6 +288,7 @@ def list_files_of_library(where, prefix):
     """The library for C. Programs that are linked with it look for it under a name with the first number of the version
     only."""
     whole, lib = f"libptext.so.{read_version()}", where["libdir"]
+    doc = f"{where['datadir']}/doc/libptext"
     return [
         (f"{lib}/libptext.a", 0o644, read_bytes(f"{TOP}/build/libptext.a")),
         (f"{lib}/{whole}", 0o755, read_bytes(f"{TOP}/build/{whole}")),
@@ -296,7 +297,7 @@ def list_files_of_library(where, prefix):
         (f"{lib}/pkgconfig/ptext.pc", 0o644, make_settings(where, prefix)),
         (f"{where['includedir']}/ptext.h", 0o644, read_bytes(f"{TOP}/lib/ptext.h")),
         (f"{where['mandir']}/man3/ptext.3", 0o644, make_page("ptext.3")),
-        *((f"{where['datadir']}/doc/libptext/{name}", 0o644, read_bytes(f"{TOP}/{source}")) for name, source in LICENSES),
+        *((f"{doc}/{name}", 0o644, read_bytes(f"{TOP}/{source}")) for name, source in LICENSES),
     ]
 
 
