@@ -99,6 +99,7 @@ function withModule(memory, call) {
     try {
         return call(module);
     } finally {
+        module.release();
         if (memory === undefined && modules.length < KEPT) modules.push(module);
     }
 }
@@ -214,9 +215,9 @@ class Running {
         return part.length;
     }
 
-    #end({ error, ended }) {
+    #end({ error, ended, isSmall }) {
         if (error) throw error;
-        if (threads.length < KEPT) threads.push(this.thread);
+        if (isSmall && threads.length < KEPT) threads.push(this.thread);
         else this.thread.worker.terminate();
         this.thread = null;
         this.close();

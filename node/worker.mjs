@@ -38,16 +38,19 @@ function run({ words, known, memory }) {
     const files = new Set(known);
     let count = 0;
     const open = (name) => (name === null || files.has(name) ? readerOf(count++, name) : null);
-    return ptext.run(words, open, (bytes) => {
+    const ended = ptext.run(words, open, (bytes) => {
         piece.set(bytes);
         ask({ size: bytes.length });
     });
+    ptext.release();
+    // (A thread that waits collects no garbage: one that had much memory is not kept.)
+    return { ended, isSmall: ptext.exports !== null };
 }
 
 parentPort.on("message", (command) => {
     let last = null;
     try {
-        last = { ended: run(command) };
+        last = run(command);
     } catch (error) {
         last = { ended: true, error };
     }

@@ -7,7 +7,7 @@ export const MEMORY = 4;
 const ANSWER_SIZE = 40;
 const PAGE_SIZE = 65536;
 const HEADER_SIZE = 16;
-/** A module with more memory than this is loaded anew before its next call, since its memory never shrinks. */
+/** A module with more memory than this is loaded anew for its next call, since its memory never shrinks. */
 const KEPT_MEMORY = 2 ** 26;
 /** The most memory that a call gets, in bytes: a command that needs more ends with status 4. */
 const LIMIT = 2 ** 30;
@@ -198,10 +198,16 @@ export class Ptext {
         return { status, messages: joined(messages), ...found };
     }
 
+    /** Lets go of the memory, if it is large. */
+    release() {
+        if (this.exports?.memory.buffer.byteLength > KEPT_MEMORY) this.exports = this.heap.memory = null;
+    }
+
     /** Begins a call over an empty heap. A module whose call has failed is not called again. */
     #guarded(streams, call) {
         if (this.streams) throw new Error("a call within a call of the same module");
-        if (!this.exports || this.exports.memory.buffer.byteLength > KEPT_MEMORY) {
+        this.release();
+        if (!this.exports) {
             const host = { ...this.heap.imports(), ...this.#imports() };
             this.exports = new WebAssembly.Instance(this.module, { host }).exports;
         }

@@ -196,6 +196,11 @@ is("100 MB in a line", run("uniq", "x".repeat(10 ** 8))[0], 0);
 is("they are stored", sizeOf(ptext) > 10 ** 8, true);
 is("a small run after it", run("cut -c 1", "ab\n"), [0, "a\n", ""]);
 is("its module is a new one", sizeOf(ptext) < 6 * 2 ** 20, true);
+ptext.release();
+is("it is kept", sizeOf(ptext) > 0, true);
+is("100 MB in a line again", run("uniq", "x".repeat(10 ** 8))[0], 0);
+ptext.release();
+is("its memory is let go", ptext.exports, null);
 // A call that the host ends leaves the module as it stopped, with its part of the stack taken.
 const stopped = await load();
 for (let turn = 0; turn < 1000; turn++) {
