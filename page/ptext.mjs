@@ -162,7 +162,8 @@ export class Ptext {
             const given = this.#lay(bytesOfWords(words)), names = this.#room(Number(given[1]));
             const output = this.#room(Number(given[1])), answer = this.#room(ANSWER_SIZE)[0];
             this.exports.ptext_names_in_memory(...given, ...names, ...output, answer);
-            const view = this.heap.view(), number = (offset) => Number(view.getBigUint64(Number(answer) + offset, true));
+            const view = this.heap.view();
+            const number = (offset) => Number(view.getBigUint64(Number(answer) + offset, true));
             if (view.getUint8(Number(answer) + 32) === MEMORY) throw new NoMemory();
             const found = ([at], offset) => namesIn(this.#at(at, number(offset)));
             return { read: found(names, 0), output: found(output, 16)[0] ?? null };
