@@ -61,8 +61,8 @@ static int can_be_written(const struct span *spans, size_t count) {
     return is_span(spans[MESSAGES]);
 }
 
-/* Says what is wrong with the arguments of ptext_run, in the room for messages if `is_sound`. If that is too little, a call
- * with enough gets the status, as for what the crate refuses. */
+/* Says what is wrong with the arguments of ptext_run, in the room for messages if `is_sound`. If that is too little, a
+ * call with enough gets the status, as for what the crate refuses. */
 static uint8_t refused(uint8_t *messages, size_t room, int is_sound, struct ptext_answer *answer) {
     static const char text[] = "ptext: a pointer is null, or rooms overlap\n";
     size_t size = sizeof text - 1, written = !is_sound ? 0 : room < size ? room : size;

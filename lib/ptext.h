@@ -45,9 +45,9 @@ struct ptext_answer {
  *
  * A pointer may be null if its size is 0; `answer` may not. No size is above PTRDIFF_MAX or reaches past the last
  * address. What is written to (`out`, `messages` and `answer`) may overlap neither each other nor what is read.
- * If not, the status is PTEXT_ARGUMENTS, and nothing is written but `answer` (unless it is null) and a message. If there
- * is too little room for the message, the status is PTEXT_ROOM. If something of this is wrong with `messages` itself, it
- * is PTEXT_ARGUMENTS, and all of the message is counted as lacking.
+ * If not, the status is PTEXT_ARGUMENTS, and nothing is written but `answer` (unless it is null) and a message. If
+ * there is too little room for the message, the status is PTEXT_ROOM. If something of this is wrong with `messages`
+ * itself, it is PTEXT_ARGUMENTS, and all of the message is counted as lacking.
  *
  * The caller owes that each pointer has as many bytes (or ends) behind it as its size says, that nobody else writes to
  * them during the call, and that malloc(3) aligns to 16 bytes. Threads may call at the same time. The call may not be

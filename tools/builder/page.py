@@ -205,7 +205,8 @@ def lower(wide, to):
     with open(to, "wb") as file:
         file.write(reduce(data))
     known = [f"--enable-{name}" for name in FEATURES]
-    does = ["--memory64-lowering", "--remove-unused-module-elements", "--strip-debug", "--strip-producers", "--strip-target-features"]
+    stripped = [f"--strip-{name}" for name in ("debug", "producers", "target-features")]
+    does = ["--memory64-lowering", "--remove-unused-module-elements", *stripped]
     run(["wasm-opt", *known, *does, to, "-o", to], os.path.dirname(to))
 
 
