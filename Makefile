@@ -128,7 +128,8 @@ python: build/libptext.a
 
 page: build/page/ptext.html
 
-build/page/ptext.html: $(BUILDER) $(wildcard page/* node/* man/ptext-*.1) docs/LIBRARY.md $(SOURCES)
+LICENSES := LICENSE-MIT LICENSE-APACHE debian/copyright
+build/page/ptext.html: $(BUILDER) $(wildcard page/* node/* man/ptext-*.1) docs/LIBRARY.md VERSION $(LICENSES) $(SOURCES)
 	@$(WITH_RT)
 	python3 tools/builder page
 
