@@ -93,6 +93,13 @@ export function names(words) {
     return withModule(undefined, (module) => module.names(words));
 }
 
+/** Throws unless this is a limit of memory, or none. */
+function checkMemory(memory) {
+    if (memory !== undefined && !(typeof memory === "number" && memory >= 0)) {
+        throw new TypeError("memory has to be a number of bytes");
+    }
+}
+
 /** Calls a function with a module that is in no other call. */
 function withModule(memory, call) {
     const module = (memory === undefined && modules.pop()) || new Ptext(compile(), memory);
@@ -105,6 +112,7 @@ function withModule(memory, call) {
 }
 
 export function run(words, { stdin = "", files = {}, memory, write } = {}) {
+    checkMemory(memory);
     const inputs = new Inputs(stdin, files, SYNC), out = [], iterators = [];
     const open = (name) => {
         if (name !== null && !inputs.has(name)) return null;
@@ -235,6 +243,7 @@ class Running {
 }
 
 export function stream(words, { stdin = "", files = {}, memory } = {}) {
+    checkMemory(memory);
     const running = new Running(words, new Inputs(stdin, files, ASYNC), memory);
     const pull = async (controller) => {
         const piece = await running.next();

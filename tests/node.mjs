@@ -99,6 +99,9 @@ for (const call of [(words, options) => run(words, options), (words, options) =>
         ["constructor"]]);
     const tooLong = { stdin: "x".repeat(10 ** 6), memory: 10 ** 5 };
     is("too little memory", (await thrown(() => call(["uniq"], tooLong))).status, 4);
+    for (const memory of [NaN, "1", null, -1]) {
+        is(`memory is refused: ${memory}`, (await thrown(() => call(["uniq"], { memory }))).name, "TypeError");
+    }
     for (const stdin of [7, null, {}, true]) {
         is(`standard input is refused: ${stdin}`, (await thrown(() => call(["uniq"], { stdin }))).name, "TypeError");
         if (stdin === null) continue;
