@@ -192,7 +192,7 @@ def measure_means(folder, ptext, other, quick, to):
             ratios.setdefault(tool, []).append(ratio)
             texts = work.make(COUNTED)
             count = 0 if quick else count_beyond_none(folder, write_files(folder, texts), ptext, work.words)
-            file.write(f"{tool}\t{work.title}\t{ratio:.3f}\t{count / work.count_units(texts):.1f}\n")
+            file.write(f"{tool}\t{work.title}\t{ratio:.3f}\t{count / max(work.count_units(texts), 1):.1f}\n")
             print(f"{tool:6} {work.title[:60]:60} {ratio:6.3f}", flush=True)
     return ratios
 
@@ -200,13 +200,12 @@ def measure_means(folder, ptext, other, quick, to):
 def run(folder, ptext, other, quick, to):
     load = os.getloadavg()[0]
     ratios = measure_means(folder, ptext, other, quick, to)
-    runs, size = (1, COUNTED) if quick else (RUNS, SIZE)
-    text = (
-        f"The best of {runs} runs, over {size >> 20} MB, on {os.cpu_count()} processors; other work on the machine at "
-        f"the start: {load:.1f} of them. means.tsv has each work.\n\n"
-        "| tool | works | geometric mean | least | largest |\n|---|---|---|---|---|\n"
+    found = [
+        f"{tool} {statistics.geometric_mean(all_of):.3f} ({min(all_of):.2f} to {max(all_of):.2f})"
+        for tool, all_of in ratios.items()
+    ]
+    size = (COUNTED if quick else SIZE) >> 20
+    return (
+        f"Geometric means, with the least and the largest ratio: {', '.join(found)}. Over {size} MB, with other work "
+        f"for {load:.1f} processors at the start. means.tsv has each work.\n"
     )
-    for tool, found in ratios.items():
-        mean = statistics.geometric_mean(found)
-        text += f"| {tool} | {len(found)} | {mean:.3f} | {min(found):.2f} | {max(found):.2f} |\n"
-    return text
