@@ -1,4 +1,5 @@
-//! Tests of `uniq` over in-memory inputs.
+//! Tests of `uniq` over in-memory inputs: counted runs of the example of POSIX and of short lines that repeat, and
+//! slots that cannot be allocated.
 
 ghost use Rattle.ptflow.specs.Calls.Passes.{PassPre};
 

@@ -1,4 +1,5 @@
-//! `ArraySink`, a sink that collects what is written in an array. Used by tests that must allocate nothing.
+//! `ArraySink`, a sink that collects what is written in an array, up to given limits. Used by tests that must allocate
+//! nothing.
 
 ghost use Rattle.std.specs.Prelude.{◌≡◌, ◌<◌, length};
 ghost use Rattle.ptlines.specs.Private.Sinks.{PutPost};

@@ -1,4 +1,5 @@
-//! `Output`, the sink of a command that does not write to standard output. Used by `shell`.
+//! `Output`, the sink of a command that does not write to standard output: its file, or a closed sink, on which every
+//! call fails. Used by `shell`.
 
 ghost use Rattle.std.specs.Prelude.{◌≡◌, option_map};
 ghost use Rattle.ptfiles.specs.Calls.Outputs.{file_of_output};

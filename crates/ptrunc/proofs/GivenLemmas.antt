@@ -1,4 +1,4 @@
--- How the files of a call are split at their ends.
+-- How the files of a call are split at their ends; and what holds of a call whose memory ran out before the run.
 use Rattle.std.proofs.Common.{◌≡◌, ◌⊎◌, ◌<◌, ◌≤◌, ℕ, true, false, List, [], ◌∷◌, ◌++◌, Option, Some, None}
 use Rattle.std.proofs.Common.{inl, inr, ap, sym, ◌∙◌, refl, arith, drop, length, take}
 use Rattle.std.proofs.Common.{get_or, ◌+◌, ◌-◌, append_assoc, codes}

@@ -1,4 +1,5 @@
-//! The engine of `comm`: each step of the merge writes one line, of one input or of both.
+//! The engine of `comm`: each step of the merge writes one line, of one input or of both. Before a step, short
+//! lines are merged in the blocks where they are (`block_lines`).
 
 ghost use Rattle.std.specs.Prelude.{◌≡◌, ℕ, List, false};
 ghost use Rattle.ptlangs.specs.Jobs.{comm_job};
