@@ -1,4 +1,4 @@
--- The sink of a command that does not write to standard output.
+-- The state of a closed sink: that of a command which is to write no output.
 use Rattle.std.specs.Prelude.{Bool, false, [], ◌∷◌, Some}
 use Rattle.ptlines.specs.Sinks.{SinkState}
 

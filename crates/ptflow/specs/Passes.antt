@@ -1,4 +1,4 @@
--- The precondition and the postcondition of an engine that is called on one input.
+-- The engine of a tool with one input. The contract of a call is in Calls/Passes.
 use Rattle.std.specs.Prelude.{false, None}
 use Rattle.ptflow.specs.ToolSpec.{ToolSpec}
 use Rattle.ptlines.specs.Engines.{EngineSpec}

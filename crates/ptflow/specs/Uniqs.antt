@@ -1,4 +1,5 @@
--- The output of `uniq` (POSIX.1-2017, XCU, `uniq`).
+-- The output of `uniq` (POSIX.1-2017, XCU, `uniq`). Also the output that a part of an input decides, and bounds of the
+-- store.
 use Rattle.std.specs.Prelude.{ℕ, zero, suc, ◌+◌, ◌*◌, ◌==◌, ◌&&◌, List, [], ◌∷◌, ◌++◌, Bool, false, not, if◌then◌else◌, drop}
 use Rattle.std.specs.Prelude.{slice_get, bytes_eq, decimal, nat_lt}
 use Rattle.std.specs.List.{flat_map}

@@ -1,5 +1,4 @@
--- The options of the five line tools, as plain values: the job of each tool, its defaults, and the view of the Rust
--- type.
+-- The options of the five line tools, as plain values: the job of each tool, and the view of the Rust type.
 use Rattle.std.specs.Prelude.{ℕ, List, Bool, true, false, Option, slice_index, slice_index_or}
 use Rattle.ptlangs.specs.CutLists.{is_selected}
 use Rattle.ptlangs.specs.declared.jobs.CommJob.{CommJob}

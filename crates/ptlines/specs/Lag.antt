@@ -1,5 +1,4 @@
--- Bounded lag: output follows input with a delay of at most two blocks of input and one block of output, also if the
--- run ends early. `I` identifies the inputs: one input, a side of a merge, or an index.
+-- What had come of an input at most two blocks earlier, for bounds on the lag of the output.
 use Rattle.std.specs.Prelude.{◌≡◌, ◌≤◌, ◌*◌, ℕ, true, List, ◌++◌, length}
 use Rattle.ptlines.specs.Received.{Received}
 use Rattle.ptlines.specs.declared.sizes.TheConstants.{BLOCK}

@@ -1,4 +1,5 @@
--- The output of `comm` (POSIX.1-2017, XCU, `comm`): a merge of two inputs by whole lines.
+-- The output of `comm` (POSIX.1-2017, XCU, `comm`): a merge of two inputs by whole lines. Also the output that parts of
+-- them decide, the disorder that is reported, and bounds of the store.
 use Rattle.std.specs.Prelude.{ℕ, ◌-◌, List, [], ◌∷◌, ◌++◌, length, min, Bool, false, if◌then◌else◌, replicate}
 use Rattle.std.specs.Prelude.{Option, option_map}
 use Rattle.std.specs.Str.{byte}

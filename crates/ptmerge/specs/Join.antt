@@ -1,4 +1,5 @@
--- The output of `join` (POSIX.1-2017, XCU, `join`): a merge of two inputs by join fields.
+-- The output of `join` (POSIX.1-2017, XCU, `join`): a merge of two inputs by join fields. Also the output that parts of
+-- them decide, the disorder that is reported, and bounds of the store.
 use Rattle.std.specs.Prelude.{ℕ, ◌-◌, ◌+◌, ◌==◌, List, [], ◌∷◌, ◌++◌, length, map, filter, max, Option, Some, None}
 use Rattle.std.specs.Prelude.{Bool, true, false, if◌then◌else◌, slice_index_or, remove, option_map}
 use Rattle.std.specs.List.{flat_map, slice_split, join_with_byte}

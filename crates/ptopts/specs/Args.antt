@@ -1,5 +1,5 @@
 -- The options and operands that the words of a command line give, by the utility syntax guidelines (POSIX.1-2017, XBD
--- 12.2): as a grammar, and as a parse from left to right. Also the lookup of options.
+-- 12.2), as a parse from left to right. Also the lookup of options. The grammar is in Laws/Args.
 use Rattle.std.specs.Prelude.{ℕ, ◌==◌, ◌&&◌, List, [], ◌∷◌, ◌++◌, Bool, true, false, not, Option, Some, None}
 use Rattle.std.specs.Prelude.{if◌then◌else◌, filter_map, drop, codes, bytes_eq, slice_get, find}
 use Rattle.std.specs.Prelude.{option_map, option_and_then}

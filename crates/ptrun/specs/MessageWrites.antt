@@ -1,4 +1,4 @@
--- The effect of a message on its sink.
+-- A message as a line, and its effect on a sink.
 use Rattle.std.specs.Prelude.{◌≡◌, ℕ, true, false, List, [], ◌∷◌, ◌++◌, flat_map}
 use Rattle.std.specs.Io.KnownBytes.{append_known}
 use Rattle.ptlines.specs.Sinks.{SinkState, unflushed_after}

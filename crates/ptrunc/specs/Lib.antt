@@ -1,4 +1,3 @@
--- the contract of a run over memory
 pub mod Results
 pub mod Inputs
 pub mod Calls

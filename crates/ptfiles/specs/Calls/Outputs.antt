@@ -1,4 +1,4 @@
--- The sink of a command that does not write to standard output.
+-- The file of an `Output`, if it has one.
 use Rattle.std.specs.Prelude.{Option, Some, None}
 use Rattle.ptfiles.specs.declared.output.Output.{Output}
 use Rattle.ptfiles.specs.declared.output.Output.TheVariants.{Closed, File}

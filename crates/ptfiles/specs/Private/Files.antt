@@ -1,4 +1,4 @@
--- The model of `Files`: the names that were opened and created, and what is known of the files.
+-- The contracts of the calls `open` and `create` of `Files`.
 use Rattle.std.specs.Prelude.{◌≡◌, ℕ, false, List, [], ◌∷◌, Option, Some, None, ⊤}
 use Rattle.std.specs.Prelude.{length, option_map}
 use Rattle.ptfiles.specs.Files.{FilesState, Input, IsContent, IsNewInput, Output, with_created, with_opened}

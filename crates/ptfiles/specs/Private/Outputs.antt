@@ -1,4 +1,4 @@
--- The sink of a command that does not write to standard output.
+-- The state of an `Output`: that of its file, or that of a closed sink.
 use Rattle.std.specs.Prelude.{◌∷◌, option_map}
 use Rattle.ptfiles.specs.Outputs.{closed_state}
 use Rattle.ptfiles.specs.declared.output.Output.{Output}

@@ -1,4 +1,4 @@
--- The contract of a run over files: which names are opened and created, and the run over them.
+-- The contracts of the private functions of `shell`: the inputs are opened, and the command is run over them.
 use Rattle.std.specs.Prelude.{◌≡◌, ◌⊎◌, ℕ, true, false, List, [], ◌∷◌, Option, Some, None, Result, Ok, Err}
 use Rattle.std.specs.Prelude.{All, length}
 use Rattle.ptfiles.specs.Files.{AreContents, FilesState, Input, IsNewInput, new_readers, with_opened}

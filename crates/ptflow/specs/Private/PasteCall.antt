@@ -1,5 +1,4 @@
--- The precondition and the postcondition of the engine of `paste` without `-s`. The parameter `cells` has, for each
--- column, the index of the reader of that column.
+-- A function that is changed at one index, as one of several readers is.
 use Rattle.std.specs.Prelude.{◌==◌, ℕ, if◌then◌else◌}
 
 -- A function that is `x` at one index and `f` at all others.

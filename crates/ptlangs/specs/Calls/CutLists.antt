@@ -1,4 +1,4 @@
--- The list of `cut`, options `-b`, `-c` and `-f` (POSIX.1-2017, XCU, `cut`).
+-- For the contract of `Ranges`: the fault that an error reports, and intervals that are separated.
 use Rattle.std.specs.Prelude.{ℕ, ◌+◌, ◌<◌, ◌≤◌, List, [], ◌∷◌}
 use Rattle.std.specs.Prelude.{Option, Some, None}
 use Rattle.ptlangs.specs.declared.ranges.Interval.{Interval}

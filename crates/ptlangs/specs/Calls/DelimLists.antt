@@ -1,5 +1,4 @@
--- The list of delimiters of `paste`, which is the value of option `-d` (POSIX.1-2017, XCU, `paste`). It is defined by a
--- parse and by a grammar, and `DelimListMatchesGrammar` states that the two agree.
+-- The fault that an error of `DelimList` reports.
 use Rattle.std.specs.Prelude.{Option, Some, None}
 use Rattle.ptlangs.specs.declared.delims.DelimFault.{DelimFault}
 use Rattle.ptlangs.specs.declared.delims.DelimFault.TheVariants.{Memory}

@@ -1,5 +1,4 @@
--- The options of the five line tools, as plain values: the job of each tool, its defaults, and the view of the Rust
--- type.
+-- The jobs of `paste` and `join` without options.
 use Rattle.std.specs.Prelude.{[], ◌∷◌, true, false, Some, None}
 use Rattle.ptlangs.specs.Jobs.{Join, Paste}
 

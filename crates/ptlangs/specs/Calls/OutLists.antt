@@ -1,4 +1,4 @@
--- The output list of `join`, option `-o` (POSIX.1-2017, XCU, `join`).
+-- For the contract of `OutList`: the fault that an error reports, and its fields as pairs of numbers.
 use Rattle.std.specs.Prelude.{ℕ, List, Option, Some, None}
 use Rattle.std.specs.Prelude.{option_map, slice_get}
 use Rattle.ptlangs.specs.declared.outlist.File.TheVariants.{First, Second}

@@ -1,4 +1,4 @@
--- How the result of a parsing function relates to the definition that it implements: postconditions for its contract.
+-- The postcondition of a parsing function that checks the whole text before it allocates.
 use Rattle.std.specs.Prelude.{Option, Result, Ok, Err, ◌≡◌}
 use Rattle.std.specs.Result.{result_err}
 

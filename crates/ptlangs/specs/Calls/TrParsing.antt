@@ -1,5 +1,4 @@
--- Definitions for the contracts of the private functions that read a string of `tr`: the characters after an index, the
--- bytes still to be read, and the pairs of the two arrays.
+-- A result with a function applied to its value.
 use Rattle.std.specs.Prelude.{Result}
 use Rattle.std.specs.Result.{result_map_both}
 

@@ -1,5 +1,4 @@
--- The plan of `tr`: the array of bytes of each string, and which bytes are deleted, translated and squeezed
--- (POSIX.1-2017, XCU, `tr`).
+-- The forms of `tr` that have a second string.
 use Rattle.std.specs.Prelude.{Bool, true}
 use Rattle.std.specs.Prelude.{false}
 use Rattle.ptlangs.specs.declared.tr.plan.Form.{Form}

@@ -1,4 +1,4 @@
--- The list of `cut`, options `-b`, `-c` and `-f` (POSIX.1-2017, XCU, `cut`).
+-- The grammar of the list of `cut`, and the law that `cut_list` agrees with it.
 use Rattle.std.specs.Prelude.{ℕ, ◌≤◌, ◌≡◌, ◌↔◌, List, [], ◌∷◌, ◌++◌, true}
 use Rattle.std.specs.Prelude.{Ok}
 use Rattle.std.specs.Str.{byte}

@@ -1,5 +1,4 @@
--- The list of delimiters of `paste`, which is the value of option `-d` (POSIX.1-2017, XCU, `paste`). It is defined by a
--- parse and by a grammar, and `DelimListMatchesGrammar` states that the two agree.
+-- The grammar of the list of delimiters of `paste`, and the law that `delim_list` agrees with it.
 use Rattle.std.specs.Prelude.{ℕ, ◌==◌, ◌≡◌, ◌↔◌, List, [], ◌∷◌, ◌++◌, false, Option, Some, None}
 use Rattle.std.specs.Prelude.{Ok, codes}
 use Rattle.ptlangs.specs.DelimLists.{backslash, delim_list}

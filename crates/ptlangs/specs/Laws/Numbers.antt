@@ -1,4 +1,4 @@
--- Decimal numbers, and lists of elements between separators.
+-- The grammar of lists of elements between separators.
 use Rattle.std.specs.Prelude.{ℕ, List, [], ◌∷◌, ◌++◌, ◌≡◌, true}
 use Rattle.ptlangs.specs.Numbers.{is_list_separator}
 

@@ -1,4 +1,4 @@
--- The output list of `join`, option `-o` (POSIX.1-2017, XCU, `join`).
+-- The grammar of the output list of `join`, and the law that `out_list` agrees with it.
 use Rattle.std.specs.Prelude.{ℕ, ◌≡◌, ◌≤◌, ◌↔◌, List, ◌++◌, true, Ok}
 use Rattle.std.specs.Prelude.{codes}
 use Rattle.ptlangs.specs.Laws.Numbers.{IsListOf}

@@ -1,4 +1,4 @@
--- The characters of a string of `tr`: plain bytes and escapes (POSIX.1-2017, XCU, `tr`, "EXTENDED DESCRIPTION").
+-- The grammar of the characters of a string of `tr`, and the law that `chars` agrees with it.
 use Rattle.std.specs.Prelude.{◌≡◌, ◌≢◌, ◌↔◌, ◌≤◌, ◌<◌, ℕ, List, [], ◌∷◌, ◌++◌, Bool, true, false}
 use Rattle.std.specs.Str.Parse.{digits_value}
 use Rattle.std.specs.Str.{byte}

@@ -1,5 +1,4 @@
--- The elements of a string of `tr`, over its characters: single characters, ranges, and the three bracketed forms
--- `[x*n]`, `[:class:]` and `[=x=]` (POSIX.1-2017, XCU, `tr`, "EXTENDED DESCRIPTION").
+-- The grammar of the elements of a string of `tr`, and the law that `set_elements` agrees with it.
 use Rattle.std.specs.Prelude.{◌≡◌, ◌↔◌, ◌≤◌, ◌<◌, ℕ, List, [], ◌∷◌, ◌++◌}
 use Rattle.std.specs.Prelude.{Ok, map}
 use Rattle.std.specs.Prelude.{IsTrue}

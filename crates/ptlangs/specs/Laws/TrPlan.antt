@@ -1,5 +1,4 @@
--- The plan of `tr`: the array of bytes of each string, and which bytes are deleted, translated and squeezed
--- (POSIX.1-2017, XCU, `tr`).
+-- Laws of the plan of `tr`: a string is rejected with its first fault, and never for lack of memory.
 use Rattle.std.specs.Prelude.{◌≡◌, ◌≢◌, ◌↔◌, ℕ, ◌||◌, List, ◌∷◌, Bool}
 use Rattle.std.specs.Prelude.{false, Option, Ok, Err}
 use Rattle.ptlangs.specs.Laws.TrElements.{StartsElement, StartsInvalid}

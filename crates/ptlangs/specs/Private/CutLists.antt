@@ -1,4 +1,4 @@
--- The list of `cut`, options `-b`, `-c` and `-f` (POSIX.1-2017, XCU, `cut`).
+-- The intervals of a list of `cut` in order, before they are merged.
 use Rattle.std.specs.Prelude.{ℕ, ◌≤◌, List, [], ◌∷◌}
 use Rattle.ptlangs.specs.declared.ranges.Interval.{Interval}
 

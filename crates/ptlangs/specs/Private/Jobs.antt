@@ -1,5 +1,4 @@
--- The options of the five line tools, as plain values: the job of each tool, its defaults, and the view of the Rust
--- type.
+-- The jobs of `uniq` and `comm` without options.
 use Rattle.std.specs.Prelude.{false}
 use Rattle.ptlangs.specs.Jobs.{Comm, Uniq}
 use Rattle.ptlangs.specs.declared.jobs.Show.TheVariants.{All}

@@ -1,4 +1,4 @@
--- The character classes of the POSIX locale, over ASCII (POSIX.1-2017, XBD 7.3.1).
+-- The bytes of a range of a class, which the code has as a pair.
 use Rattle.std.specs.Prelude.{ℕ, List}
 use Rattle.ptlangs.specs.TrClasses.{span}
 

@@ -1,4 +1,4 @@
--- The model of `Out`: a sink with a block of buffered output.
+-- The model of `Out`, a sink with a block of buffered output, and the effect of its calls.
 use Rattle.std.specs.Prelude.{◌≡◌, ◌⊎◌, ℕ, ◌+◌, ◌≤◌, Bool, true, false, List, [], ◌++◌, Option, Result, OnOk, OnErr}
 use Rattle.std.specs.Prelude.{length, max}
 use Rattle.std.specs.Io.KnownBytes.{append_known}

@@ -1,4 +1,4 @@
--- The effect of a reader's calls on the reader and on the store.
+-- The effect of the calls `fill` and `block` of a reader, on the reader and on the store.
 use Rattle.std.specs.Prelude.{◌≡◌, ◌⊎◌, ℕ, ◌<◌, Bool, true, false, List, [], ◌∷◌, ◌++◌, length, Option}
 use Rattle.std.specs.Prelude.{Result, Ok, Err, None, Some}
 use Rattle.std.specs.Borrow.{Bor}

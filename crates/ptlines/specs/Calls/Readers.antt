@@ -1,4 +1,4 @@
--- The model of `LineReader`: a source with a block of buffered input.
+-- The invariant of every reader, and how one moves on: it consumes bytes, with a fault or without.
 use Rattle.std.specs.Prelude.{◌≡◌, ℕ, ◌+◌, ◌-◌, ◌^◌, ◌<◌, ◌≤◌, ◌⊎◌, true, false, List, [], None, Some}
 use Rattle.std.specs.Prelude.{length}
 use Rattle.std.specs.Io.KnownBytes.{prepend_known, IsAtEnd}

@@ -1,4 +1,4 @@
--- The model of `Sink`: the bytes that it has accepted, and the effect of its calls.
+-- The effect of `flush` and of `write_out` on a sink.
 use Rattle.std.specs.Prelude.{◌≡◌, ℕ, ◌<◌, true, false, List, ◌++◌}
 use Rattle.std.specs.Prelude.{Result, Ok, Err, length}
 use Rattle.std.specs.Io.KnownBytes.{append_known}

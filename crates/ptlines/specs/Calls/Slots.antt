@@ -1,4 +1,4 @@
--- The model of `Store`: numbered slots for lines.
+-- The store after a slot was set or added, or after memory was denied; and the conditions of `swap` and `copy`.
 use Rattle.std.specs.Prelude.{ℕ, ◌<◌, ◌≡◌, ◌≢◌, ◌≤◌, true, false, List, [], ◌∷◌, ◌++◌, length}
 use Rattle.std.specs.Prelude.{max, slice_set, slice_index_or}
 use Rattle.ptlines.specs.Slots.{Slots, total_bytes}

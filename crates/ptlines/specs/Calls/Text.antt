@@ -1,5 +1,4 @@
--- Lines of a byte sequence. The parameter `terminator` is the byte that ends a line: newline (10), or 0 with the option
--- `-z`.
+-- A line, as bytes without the terminator.
 use Rattle.std.specs.Prelude.{◌≢◌, ℕ, List}
 use Rattle.std.specs.List.{AllByRecursion}
 

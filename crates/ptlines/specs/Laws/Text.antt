@@ -1,5 +1,4 @@
--- Lines of a byte sequence. The parameter `terminator` is the byte that ends a line: newline (10), or 0 with the option
--- `-z`.
+-- Laws of lines: a text has its lines in one way, and its complete lines are those up to its last terminator.
 use Rattle.std.specs.Prelude.{◌≡◌, ◌≢◌, ◌⊎◌, ℕ, List, [], ◌∷◌, ◌++◌}
 use Rattle.std.specs.List.{AllByRecursion}
 use Rattle.ptlines.specs.Calls.Text.{IsLine}

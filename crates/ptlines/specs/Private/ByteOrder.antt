@@ -1,4 +1,4 @@
--- The order of byte strings.
+-- A common prefix of two byte strings; and only equal ones compare as equal.
 use Rattle.std.specs.Prelude.{◌≡◌, ◌≤◌, ℕ, List, length, take, min}
 use Rattle.std.proofs.Common.{sym, ap, ◌∙◌}
 use Rattle.std.specs.declared.cmp.Ordering.TheVariants.{Equal}

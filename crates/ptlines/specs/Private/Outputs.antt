@@ -1,4 +1,4 @@
--- The model of `Out`: a sink with a block of buffered output.
+-- Effects of the private calls of `Out`: bytes were written directly to the sink, or a write has failed.
 use Rattle.std.specs.Prelude.{◌≡◌, ℕ, true, List, [], ◌++◌}
 use Rattle.std.specs.Io.KnownBytes.{append_known}
 use Rattle.ptlines.specs.Calls.Outputs.{Output}

@@ -1,4 +1,4 @@
--- The effect of a reader's calls on the reader and on the store.
+-- The condition of `fill`, and the contracts of its parts, `move_to_slot` and `fill_piece`.
 use Rattle.std.specs.Prelude.{◌≡◌, ℕ, ◌<◌, ◌≤◌, List, [], ◌∷◌, ◌++◌, length, take, drop}
 use Rattle.std.specs.Prelude.{Result, Ok, Err, None, Some}
 use Rattle.ptlines.specs.Calls.Readers.{AdvanceErr, AdvanceOk, HasReadCause, IsSound}

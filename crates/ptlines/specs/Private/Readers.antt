@@ -1,4 +1,4 @@
--- The model of `LineReader`: a source with a block of buffered input.
+-- The invariant of `LineReader`, and the contract of `refill`.
 use Rattle.std.specs.Prelude.{◌≡◌, ℕ, ◌<◌, ◌≤◌, Bool, true, false, [], None}
 use Rattle.std.specs.Prelude.{Result, Ok, Err, length}
 use Rattle.ptlines.specs.Calls.Readers.{AdvanceErr, AdvanceOk, HasReadCause, IsSound}

@@ -1,4 +1,4 @@
--- The model of `Sink`: the bytes that it has accepted, and the effect of its calls.
+-- The effect of `put` on a sink, and a sink whose bytes are not known.
 use Rattle.std.specs.Prelude.{◌≡◌, ℕ, ◌<◌, ◌≤◌, true, List, None}
 use Rattle.std.specs.Prelude.{Result, Ok, Err, length, take}
 use Rattle.std.specs.Io.KnownBytes.{append_known}

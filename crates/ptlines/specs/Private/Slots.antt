@@ -1,4 +1,4 @@
--- The model of `Store`: numbered slots for lines.
+-- The invariants of `Store` and `Slot`: all bytes are counted, and buffers are not much longer than lines.
 use Rattle.std.specs.Prelude.{All, ℕ, ◌+◌, ◌*◌, ◌≡◌, ◌≤◌, ◌^◌, false, List, length}
 use Rattle.std.specs.Prelude.{map, max}
 use Rattle.ptlines.specs.Slots.{Slots, total_bytes}

@@ -1,4 +1,4 @@
--- The model of `Source`: the bytes that it has left, and the effect of one read.
+-- The effect of `pull` on a source, and a source whose bytes are not known.
 use Rattle.std.specs.Prelude.{◌≡◌, ℕ, ◌<◌, ◌≤◌, true, List, None, Result, Ok, Err, length, take}
 use Rattle.std.specs.Io.KnownBytes.{prepend_known, IsAtEnd}
 use Rattle.ptlines.specs.Sources.{SourceState}

@@ -1,4 +1,4 @@
--- The slots of the store that a merge uses: 0 and 1 for the first input, 2 and 3 for the second.
+-- The postcondition of `ensure_four_slots`. A merge uses slots 0 and 1 for its first input, 2 and 3 for the second.
 use Rattle.std.specs.Prelude.{◌≡◌, ◌≤◌, ◌<◌, ℕ, true, length, max}
 use Rattle.ptlines.specs.Calls.Slots.{line}
 use Rattle.ptlines.specs.Slots.{Slots, total_bytes}

@@ -1,4 +1,4 @@
--- The precondition and the postcondition of a tool that merges two inputs, such as `comm` and `join`.
+-- The precondition of `comm` and `join` in one order, whose readers have their terminator already.
 use Rattle.std.specs.Prelude.{◌≡◌, ℕ, false}
 use Rattle.ptlines.specs.Calls.Outputs.{Output}
 use Rattle.ptlines.specs.Calls.Readers.{IsSound}

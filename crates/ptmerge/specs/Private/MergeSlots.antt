@@ -1,4 +1,4 @@
--- The slots of the store that a merge uses: 0 and 1 for the first input, 2 and 3 for the second.
+-- The postcondition of `clear_four_slots`.
 use Rattle.std.specs.Prelude.{◌≡◌, ◌≤◌, ◌+◌, length, max}
 use Rattle.ptlines.specs.Calls.Slots.{line}
 use Rattle.ptlines.specs.Slots.{Slots, total_bytes}

@@ -1,5 +1,4 @@
--- The options and operands that the words of a command line give, by the utility syntax guidelines (POSIX.1-2017, XBD
--- 12.2): as a grammar, and as a parse from left to right. Also the lookup of options.
+-- The grammar of options and operands, by the utility syntax guidelines (POSIX.1-2017, XBD 12.2).
 use Rattle.std.specs.Prelude.{ℕ, List, [], ◌∷◌, ◌++◌, Bool, true, not}
 use Rattle.std.specs.Prelude.{map, codes, IsTrue}
 use Rattle.std.specs.List.{list_all}

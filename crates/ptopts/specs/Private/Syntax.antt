@@ -1,6 +1,4 @@
--- The options and operands of each tool (POSIX.1-2017, XCU, the synopsis of each utility). POSIX does not have `-z`,
--- and `-r` of `comm` and `join`. POSIX leaves unspecified which options conflict beyond the synopsis and which conflict
--- is reported first, that `-v` may be repeated, and the limit of 512 operands.
+-- The view of a syntax of the code.
 use Rattle.ptopts.specs.Syntax.{Syntax}
 use Rattle.ptopts.specs.declared.tool.Syntax as code
 

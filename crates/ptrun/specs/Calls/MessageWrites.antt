@@ -1,4 +1,4 @@
--- The effect of a message on its sink.
+-- The postcondition of writing a text to the sink of the messages.
 use Rattle.std.specs.Prelude.{◌≡◌, ℕ, ◌<◌, Bool, true, false, List, [], ◌++◌, length, map}
 use Rattle.std.specs.Io.KnownBytes.{append_known}
 use Rattle.std.specs.Borrow.{Bor}

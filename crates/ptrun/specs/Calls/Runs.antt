@@ -1,4 +1,4 @@
--- The contract of a whole run: its output, messages, exit status and memory, by its inputs and the calls that failed.
+-- The precondition of a run, on its store and its sinks.
 use Rattle.std.specs.Prelude.{◌≡◌, false}
 use Rattle.ptlines.specs.Slots.{Slots, total_bytes}
 use Rattle.ptrun.specs.Runs.{Sinks}

@@ -1,4 +1,4 @@
--- An engine (ptlines/specs/Engines) over the inputs at the positions of operands.
+-- An engine in a run, where all inputs are new; and how its call ended, by positions.
 use Rattle.std.specs.Prelude.{ℕ}
 use Rattle.ptlines.specs.Engines.{EngineSpec}
 use Rattle.ptlines.specs.Calls.Engines.{CallEnd, Complete, MemoryFault, OutOfOrder, ReadFault, WriteFault}

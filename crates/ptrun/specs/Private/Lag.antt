@@ -1,5 +1,4 @@
--- A bound on the lag of the output: however a run ends, the output that was decided two blocks of input ago is written,
--- except for at most one block after a failed write.
+-- Bytes that were pushed, and have reached the sink but for at most one block.
 use Rattle.std.specs.Prelude.{ℕ, List}
 use Rattle.ptlines.specs.Calls.Lag.{BufferLag}
 use Rattle.ptlines.specs.Calls.Outputs.{Output}

@@ -1,4 +1,4 @@
--- The texts of the messages. Each ends with newline.
+-- The exit status for arguments that are no command.
 use Rattle.std.specs.Prelude.{ℕ, Option, Some, None}
 use Rattle.ptopts.specs.Faults.{Fault}
 
