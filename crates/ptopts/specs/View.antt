@@ -1,5 +1,5 @@
--- Views, which are functions from the values of the code to those of the definitions. (`Commands` has those of words
--- and commands.)
+-- The view of a fault, which is a function from the values of the code to those of the definitions, and the contract of
+-- the function that reads a command. (`Commands` has the views of words and commands.)
 use Rattle.std.specs.Prelude.{ℕ, List, [], ◌∷◌, Option, Some, None, Result, IsSome}
 use Rattle.ptlangs.specs.Results.{ParsePost}
 use Rattle.ptopts.specs.declared.command.Command as code

@@ -1,4 +1,4 @@
--- A plan of `tr` as three tables, each with an entry for every byte.
+-- The law that the tables of a plan of `tr` do with each byte what the plan says.
 use Rattle.std.specs.Prelude.{◌≡◌, ◌<◌, ◌^◌, ℕ}
 use Rattle.ptlangs.specs.TrPlan.{Plan, byte_map, image_of, is_deleted, is_squeezed}
 use Rattle.ptlangs.specs.TrTables.{byte_map_of, deletes, image, squeezes}

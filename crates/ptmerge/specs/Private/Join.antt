@@ -1,4 +1,4 @@
--- The output of `join`, as an instance of a merge of two inputs by join fields.
+-- The output of `join` for one unpaired line, of either input.
 use Rattle.std.specs.Prelude.{ℕ, List, [], ◌∷◌}
 use Rattle.ptlangs.specs.Jobs.{Join}
 use Rattle.ptmerge.specs.Calls.Join.{join_key}
