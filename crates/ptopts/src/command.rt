@@ -1,5 +1,5 @@
-//! The command of a command line: the job of a tool, which the module of that tool gives, and its inputs. `ptext` and
-//! `ptrun` use it.
+//! The command of a command line: the job of a tool, which the module of that tool gives, and its inputs. `ptfiles`,
+//! `ptrun` and `ptrunc` use it.
 
 ghost use Rattle.std.specs.Prelude.{◌≡◌, IfOk, None, option_map};
 ghost use Rattle.ptopts.specs.Faults.{constraints_fault, operands_fault};

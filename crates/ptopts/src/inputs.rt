@@ -1,4 +1,4 @@
-//! The inputs of a command, in the order of its operands. `command` makes them, `ptext` opens them, and `ptrun` reads
+//! The inputs of a command, in the order of its operands. `command` makes them, `ptfiles` opens them, and `ptrun` reads
 //! them.
 
 ghost use Rattle.std.specs.Prelude.{IfOk, [], ◌∷◌, codes, option_map};

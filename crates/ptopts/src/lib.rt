@@ -1,4 +1,4 @@
-//! The command line: the tool that it names, its options and its operands. `ptext` parses its arguments with it, and
+//! The command line: the tool that it names, its options and its operands. `ptfiles` parses words with it, and
 //! `ptrun` runs the command.
 #![tactic(auto)]
 

@@ -1,4 +1,4 @@
-//! `Answer`, the result of a call beside the bytes that it writes. Used by every module.
+//! `Answer`, the result of a call beside the bytes that it writes. Used by `lib`, `naming` and `running`.
 
 ghost use Rattle.std.specs.Prelude.{◌≡◌};
 ghost use Rattle.ptrunc.specs.Calls.Answers.{IsRefused, StatusPost};
