@@ -7,7 +7,7 @@ use std::simd::prelude::*;
 
 // Copies `bytes[from..from + N]` to `into[at..at + N]` as one vector.
 #[inline(always)]
-fn copy_chunk<const N: usize>(bytes: &[u8], from: usize, into: &mut [u8], at: usize)
+pub(crate) fn copy_chunk<const N: usize>(bytes: &[u8], from: usize, into: &mut [u8], at: usize)
     requires { CopyChunkPre N from bytes.now at into.old }
     ensures long { length into.new ≡ length into.old }
     ensures copied { take (at + N) into.new ≡ take at into.old ++ take N (drop from bytes.now) }
