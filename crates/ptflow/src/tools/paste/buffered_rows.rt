@@ -19,8 +19,8 @@ use std::simd::prelude::*;
 
 // Copies the next line of a reader to `at` and consumes it, if it ends within the next `N` bytes: the vector that is
 // searched for the terminator is stored as it is. Returns the offset after the copy. The line is consumed before the
-// vector is stored, so that the position of the reader is not loaded again (`paste` of 2 files: 44.9 instructions a line
-// for 45.9).
+// vector is stored, so that the position of the reader is not loaded again (`paste` of 2 files: 44.9 instructions a
+// line for 45.9).
 #[inline(always)]
 fn copy_line_in<const N: usize, S: Source, R: Source>(
     terminator: u8,
@@ -239,8 +239,8 @@ fn copy_rows_by_columns<S: Source, R: Source>(
     }
 }
 
-// Copies rows like `copy_rows`, each by these segments first. Out of line (`paste` of 50 files: 44.2 instructions a line
-// for 45.1).
+// Copies rows like `copy_rows`, each by these segments first. Out of line (`paste` of 50 files: 44.2 instructions a
+// line for 45.1).
 #[inline(never)]
 fn copy_rows_by_segments<S: Source, R: Source>(
     row: RowFormat,

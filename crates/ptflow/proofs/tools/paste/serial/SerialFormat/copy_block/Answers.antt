@@ -45,6 +45,6 @@ returns-clause-copied c = λ more.
       copied_on (bytes ++ (last ∷ more)) (omega (arith, length-append bytes (last ∷ more)))
           c.copy_cells-front.ensures.copied,
       copied_on (last ∷ more) (omega arith) c.copy_cells-most.ensures.copied,
-      last_copied self.terminator self.delims.now c.copy_cells-most.result.index last more c.copy_cells-most.new.into low _
-          refl c.from.ensures,
+      last_copied self.terminator self.delims.now c.copy_cells-most.result.index last more c.copy_cells-most.new.into
+          low _ refl c.from.ensures,
     )

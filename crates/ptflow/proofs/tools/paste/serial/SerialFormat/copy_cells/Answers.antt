@@ -26,5 +26,6 @@ returns-clause-copied c =
           ∙ ap (◌++◌ (take c.args.at c.args.into.now))
           (c.replace-index.ensures.replaced ∙ (λ i. with_replacements (is.terminator i)
           (λ n. is.bytes n i) c.args.index bytes));
-      later = c.replace-index.ensures.next ∙ (λ i. (c.args.index + count_by (is_byte (is.terminator i)) bytes) % is.len i);
+      later = c.replace-index.ensures.next
+          ∙ (λ i. (c.args.index + count_by (is_byte (is.terminator i)) bytes) % is.len i);
     }
