@@ -24,7 +24,7 @@ use specs.TrElements.{after_plain, after_run, after_two, bracketed_at, char_or_r
 use specs.TrElements.{class_at, class_with_name, elements_after, equivalence_after_equals, equivalence_at}
 use specs.TrElements.{first_set_element, or_char, plain_run, range_to, repeat_after_star, repeat_at, repeat_count}
 use specs.TrElements.{single_or_range, with_rest}
-use specs.Private.TrParsing.{char_from}
+use specs.Private.TrParsing.{char_from, chars_beyond}
 use specs.Laws.TrPlan.{FirstFault, LaterFault, NoElement, NoSegment}
 use specs.TrPlan.{segment}
 use specs.declared.faults.SetFaultKind.TheVariants.{Octal}
@@ -99,7 +99,30 @@ pub char_from-escape : (bs : List ℕ) (i : ℕ) → get_or bs i 0 ≡ 92
 unfolding char_from
 char_from-escape bs i e = rw (char_from, e) refl
 
-pub ruleset char_steps = (chars_plain, chars_escape, char_from-plain, char_from-escape)
+split_first : {us : List SetChar} (u : SetChar) (more : List SetChar) → us ≡ u ∷ more → us ≡ u ∷ drop 1 us
+split_first u more e = e ∙ ap (λ us. u ∷ us) (sym (ap (drop 1) e))
+
+pub first_plain : (bs : List ℕ) (i b : ℕ) → i < length bs → get_or bs i 0 ≡ b → (b ≡ 92 → ⊥)
+    → chars (drop i bs) ≡ char_from bs i ∷ chars_beyond bs i
+unfolding chars_beyond
+first_plain bs i b low at plain =
+    rw (char_from-plain bs i b at plain) (split_first _ _ (chars_plain bs i b low at plain))
+
+pub first_escape : (bs : List ℕ) (i : ℕ) → get_or bs i 0 ≡ 92 → chars (drop i bs) ≡ char_from bs i ∷ chars_beyond bs i
+unfolding chars_beyond
+first_escape bs i at = rw (char_from-escape bs i at) (split_first _ _ (chars_escape bs i at))
+
+pub beyond_plain : (bs : List ℕ) (i b : ℕ) → i < length bs → get_or bs i 0 ≡ b → (b ≡ 92 → ⊥)
+    → chars_beyond bs i ≡ chars (drop (i + 1) bs)
+unfolding chars_beyond
+beyond_plain bs i b low at plain = ap (drop 1) (chars_plain bs i b low at plain)
+
+pub beyond_escape : (bs : List ℕ) (i : ℕ) → get_or bs i 0 ≡ 92
+    → chars_beyond bs i ≡ chars (drop (i + 1 + (after_backslash (drop (i + 1) bs)).1) bs)
+unfolding chars_beyond
+beyond_escape bs i at = ap (drop 1) (chars_escape bs i at)
+
+pub ruleset char_steps = (char_from-plain, char_from-escape, first_plain, first_escape, beyond_plain, beyond_escape)
 
 pub ruleset octal_steps = (length-octal_run, take-octal_run, octal_digits)
 

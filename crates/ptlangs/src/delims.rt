@@ -33,6 +33,13 @@ impl<T: Drop> From<AllocFailed<T>> for DelimFault {
     }
 }
 
+/// A delimiter that was read, `None` for the empty string, and the rest of the list.
+#[derive(Clone, Copy)]
+struct ParsedDelim<'a> {
+    delim: Option<u8>,
+    rest: &'a [u8],
+}
+
 /// The delimiters of a list. They are reused from the first one when a line has more columns.
 #[derive(Drop)]
 pub struct Delims<A: Allocator = Global> {
@@ -66,12 +73,12 @@ impl<A: Allocator> Delims<A> {
         let mut kept = Vec::new(alloc);
         let mut left = text;
         loop {
-            let (delim, rest) = first_delim(left)?;
-            kept.push(delim)?;
-            if rest.is_empty() {
+            let first = first_delim(left)?;
+            kept.push(first.delim)?;
+            if first.rest.is_empty() {
                 return Ok(Delims { kept });
             }
-            left = rest;
+            left = first.rest;
         }
     }
 
@@ -127,7 +134,7 @@ fn check(text: &[u8]) -> Result<(), DelimFault>
 {
     let mut left = text;
     loop {
-        let (_, rest) = first_delim(left)?;
+        let rest = first_delim(left)?.rest;
         if rest.is_empty() {
             return Ok(());
         }
@@ -135,18 +142,24 @@ fn check(text: &[u8]) -> Result<(), DelimFault>
     }
 }
 
-/// The first delimiter of a list, and the rest of the list.
-fn first_delim(text: &[u8]) -> Result<(Option<u8>, &[u8]), DelimFault>
+/// The first delimiter of a list.
+fn first_delim(text: &[u8]) -> Result<ParsedDelim, DelimFault>
     ensures first { MatchResult result
-        (λ found. delim_list text.now ≡ cons_ok found.0 (delims found.1.now))
+        (λ found. delim_list text.now ≡ cons_ok found.delim (delims found.rest.now))
         (λ fault. delim_list text.now ≡ Err fault) }
-    ensures shorter { IfOk result (λ found. length found.1.now < length text.now) }
+    ensures shorter { IfOk result (λ found. length found.rest.now < length text.now) }
 {
     match text {
         [] => Err(DelimFault::Empty),
         [b'\\'] => Err(DelimFault::Escape),
-        [b'\\', escaped, rest @ ..] => Ok((escape(*escaped)?, rest)),
-        [byte, rest @ ..] => Ok((Some(*byte), rest)),
+        [b'\\', escaped, rest @ ..] => Ok(ParsedDelim {
+            delim: escape(*escaped)?,
+            rest,
+        }),
+        [byte, rest @ ..] => Ok(ParsedDelim {
+            delim: Some(*byte),
+            rest,
+        }),
     }
 }
 

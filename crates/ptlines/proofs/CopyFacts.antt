@@ -2,7 +2,7 @@
 -- bytes.
 use Rattle.ptlines.proofs
 use proofs.Common.{◌≡◌, ℕ, ◌+◌, ◌≤◌, List, length, take, drop, ◌++◌, sym, ◌∙◌, ap, arith, length-take-le, take-take}
-use proofs.Common.{take_more_put_chunk, put_chunk, take-append-add, usual, drop-drop, length-append, ◌-◌}
+use proofs.Common.{put_chunk, take-append-add, usual, drop-drop, length-append, ◌-◌}
 use Rattle.std.proofs.lemmas.Simd.{put_chunk_is}
 use Rattle.std.proofs.lemmas.List.{append_assoc, drop_at}
 
@@ -14,13 +14,6 @@ copied_prefix at few many was is bytes within fewer copied =
     ∙ ap (λ n. take (n + few) (take at was ++ take many bytes)) (sym (length-take-le at was within))
     ∙ take-append-add (take at was) (take many bytes) few
     ∙ ap (λ b. take at was ++ b) (take-take few many bytes fewer)
-
-pub copied_vector_prefix : (few many : ℕ) (was bytes : List ℕ) → few ≤ many → many ≤ length was → many ≤ length bytes
-    → take few (put_chunk 0 was (take many bytes)) ≡ take few bytes
-copied_vector_prefix few many was bytes fewer room within =
-    sym (grind usual)
-    ∙ ap (take few) (take_more_put_chunk 0 was (take many bytes) many (grind (arith, length-take-le)) room)
-    ∙ take-take few many bytes fewer
 
 -- the first `n` bytes and the last `n`, which may overlap
 pub copied_ends : (at last n : ℕ) (was between is bytes : List ℕ) → at ≤ length was → last ≤ n → last + n ≡ length bytes

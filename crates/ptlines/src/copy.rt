@@ -7,7 +7,7 @@ use std::simd::prelude::*;
 
 // Copies `bytes[from..from + N]` to `into[at..at + N]` as one vector.
 #[inline(always)]
-fn copy_chunk<const N: usize>(bytes: &[u8], from: usize, into: &mut [u8], at: usize)
+pub(crate) fn copy_chunk<const N: usize>(bytes: &[u8], from: usize, into: &mut [u8], at: usize)
     requires { CopyChunkPre N from bytes.now at into.old }
     ensures long { length into.new ≡ length into.old }
     ensures copied { take (at + N) into.new ≡ take at into.old ++ take N (drop from bytes.now) }
@@ -50,8 +50,8 @@ pub fn copy_all(bytes: &[u8], into: &mut [u8], at: usize)
     }
 }
 
-// Copies any number of bytes. Out of line, so that few are copied without a call (`cut -c 3-,1` of a log: 3.0 for 3.2 a
-// byte).
+// Copies any number of bytes. Out of line, so that few are copied without a call (`cut -c 3-,1` of a log: 3.0
+// instructions a byte for 3.2).
 #[inline(never)]
 fn copy_long(bytes: &[u8], into: &mut [u8], at: usize)
     requires { at + length bytes.now ≤ length into.old }

@@ -5,7 +5,7 @@
 ghost use Rattle.std.specs.Prelude.{◌≡◌, ◌≤◌, ◌<◌, ◌≢◌, ◌+◌, Some, length, map};
 ghost use Rattle.std.specs.Int.Count.{count_trailing_zeros};
 ghost use Rattle.std.specs.Simd.Lanes.{mask_l, chunk};
-ghost use Rattle.ptlines.specs.Private.Bounds.{HasChunk, IsCoveredByEnds};
+ghost use Rattle.ptlines.specs.Private.Bounds.{IsCoveredByEnds};
 ghost use Rattle.memchr.specs.Find.{Nowhere, IsFirst, IsFirstByte, Passes, is_byte};
 
 use memchr::memchr;
@@ -26,11 +26,12 @@ pub(crate) struct ShortLine<'a> {
     ghost near: { size < 64 },
 }
 
-// The match mask of the `N` bytes from the index `at` on: its lowest bit says whether the first of them equals `byte`,
-// and so on. `N` is at most 64.
+/// Returns the match mask of `bytes[at..at + N]`: bit `i` is set if the byte at `at + i` equals `byte`. `N` is at most
+/// 64.
 #[inline(always)]
-fn match_mask<const N: usize>(byte: u8, bytes: &[u8], at: usize) -> u64
-    requires { HasChunk N at bytes.now }
+pub fn match_mask<const N: usize>(byte: u8, bytes: &[u8], at: usize) -> u64
+    requires lanes { N ≤ 64 }
+    requires within { at + N ≤ length bytes.now }
     ensures { result ≡ mask_l (map (is_byte byte) (chunk at N bytes.now)) }
 {
     Simd::<u8, N>::from_slice(&bytes[at..])
@@ -103,7 +104,7 @@ fn find_overlapping<const N: usize>(byte: u8, bytes: &[u8]) -> Option<usize>
     }
 }
 
-// Searches fewer than 16 bytes. Out of line (`uniq -f 3` of a log: 225 for 238 a line).
+// Searches fewer than 16 bytes. Out of line (`uniq -f 3` of a log: 216 instructions a line for 240).
 #[inline(never)]
 fn find_short(byte: u8, bytes: &[u8]) -> Option<usize>
     requires { length bytes.now < 16 }

@@ -19,7 +19,7 @@ mod store;
 
 pub use cmp::compare;
 pub use copy::{copy_all, copy_short};
-pub use find::{find_byte, find_in_chunk};
+pub use find::{find_byte, find_in_chunk, match_mask};
 pub use out::{Out, WriteFault, write_out};
 pub use parts::parts_of_lines;
 pub use reader::LineReader;

@@ -1,6 +1,7 @@
 //! The sizes of blocks of bytes. Used by the reader, the output and the tools.
 
-/// The size of a block of bytes, which a reader or an output buffers. No more are read or written at once.
+/// The size of a block of bytes, which a reader or an output buffers. A reader reads no more at once; an output writes
+/// what is buffered, and bytes that are pushed together and fill a block or more, as they are.
 pub const BLOCK: usize = 8192;
 
 /// The count of bytes after a block. So a vector of `PAD` bytes can be loaded or stored at any index of the block.

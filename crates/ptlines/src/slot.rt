@@ -2,10 +2,10 @@
 
 ghost use Rattle.std.specs.Prelude.{◌≡◌, ◌<◌, ◌≤◌, ◌+◌, ◌*◌, ◌^◌, [], ◌++◌, length, max, take, IfOk, OnOk, OnErr};
 
+use crate::copy::copy_chunk;
 use crate::find::ShortLine;
 use std::alloc::{AllocError, Allocator};
 use std::marker::Model;
-use std::simd::prelude::*;
 
 // The first `size` bytes of the buffer are the line. At least 64 bytes follow, with any values, so that a line of fewer
 // than 64 bytes can be stored as one vector of 16 or 64 bytes.
@@ -68,22 +68,11 @@ impl<A: Allocator + Copy> Slot<A> {
     {
         let (bytes, size) = (near.front.bytes, near.size);
         if size < 16 {
-            Simd::<u8, 16>::from_slice(bytes).copy_to_slice(&mut self.buffer);
+            copy_chunk::<16>(bytes, 0, &mut self.buffer, 0);
         } else {
-            Simd::<u8, 64>::from_slice(bytes).copy_to_slice(&mut self.buffer);
+            copy_chunk::<64>(bytes, 0, &mut self.buffer, 0);
         }
         self.size = size;
-    }
-
-    // Replaces the line by one of fewer than 64 bytes, for which any buffer is long enough.
-    #[inline(always)]
-    pub(crate) fn set_short(&mut self, bytes: &[u8])
-        requires { length bytes.now < 64 }
-        ensures line { self.new.line ≡ bytes.now }
-        ensures buffer { self.new.buffer_size ≡ self.old.buffer_size }
-    {
-        self.buffer[0..bytes.len()].copy_from_slice(bytes);
-        self.size = bytes.len();
     }
 
     // Appends bytes to the line. The buffer grows only if it has to. If memory cannot be allocated, nothing changes.

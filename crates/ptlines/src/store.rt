@@ -8,7 +8,8 @@ ghost use Rattle.ptlines.specs.Private.Slots.{LengthsAreBounded, AreBuffersBound
 ghost use Rattle.ptlines.specs.Slots.{total_bytes};
 ghost use Rattle.ptlines.specs.Calls.Slots.{with_line, with_new_slot, with_denied};
 
-use crate::find::ShortLine;
+use crate::copy::copy_all;
+use crate::find::{Padded64, ShortLine};
 use crate::slot::Slot;
 use std::alloc::{AllocError, Allocator, Global};
 use std::marker::Model;
@@ -179,10 +180,13 @@ impl<A: Allocator + Copy> Store<A> {
         requires { (slot < length self.old.lines) × (length bytes.now < 64) }
         ensures { self.new ≡ with_line self.old slot bytes.now }
     {
-        let was = self.slots[slot].size();
-        self.slots[slot].set_short(bytes);
-        self.byte_count = self.byte_count - was as u128 + bytes.len() as u128;
-        self.peak = self.peak.max(self.byte_count);
+        let mut front = [0; 64];
+        copy_all(bytes, &mut front, 0);
+        let near = ShortLine {
+            front: Padded64 { bytes: &front },
+            size: bytes.len(),
+        };
+        self.set_short_line(slot, near);
     }
 
     // Appends bytes to those of a slot. If memory cannot be allocated, the store is denied, and nothing else changes.

@@ -1,26 +1,13 @@
 //! Finds occurrences of a byte by match masks of 64 bytes. `cut` by fields finds delimiters and terminators by
-//! `ByteMatches`; `paste` calls `nth_index` and `find_by_mask`, and `uniq` calls `find_line_end` and `nth_bit`. `cut` by
-//! bytes and `replace` use a `match_mask` alone.
+//! `ByteMatches`; `paste` calls `nth_index` and `find_by_mask`, and `uniq` calls `find_line_end` and `nth_bit`.
 
 ghost use Rattle.std.specs.Prelude.{◌≡◌, ◌<◌, ◌≤◌, ◌+◌, ◌-◌, ℕ, Bool, List, Some, IfSome, length, map, take, drop};
 ghost use Rattle.std.specs.List.{count_by};
-ghost use Rattle.std.specs.Simd.Lanes.{mask_l, chunk};
+ghost use Rattle.std.specs.Simd.Lanes.{mask_l};
 ghost use Rattle.memchr.specs.Find.{IsFirstByte, Nowhere, Passes, is_byte};
 ghost use Rattle.ptflow.specs.Private.Vectors.FindNth.{IsFirstByte-prop, IsNth, IsNthResult};
 
-use ptlines::{find_byte, find_in_chunk};
-use std::simd::prelude::*;
-
-// The match mask of a byte in the 64 bytes at index `at`: bit `i` is set if the byte at `at + i` is equal to it.
-#[inline(always)]
-pub(crate) fn match_mask(byte: u8, bytes: &[u8], at: usize) -> u64
-    requires { at + 64 ≤ length bytes.now }
-    ensures { result ≡ mask_l (map (is_byte byte) (chunk at 64 bytes.now)) }
-{
-    u8x64::from_slice(&bytes[at..])
-        .simd_eq(u8x64::splat(byte))
-        .to_bitmask()
-}
+use ptlines::{find_byte, find_in_chunk, match_mask};
 
 // The index of the set bit after `count` other set bits.
 #[inline(always)]
@@ -63,7 +50,7 @@ pub(crate) fn nth_index(byte: u8, bytes: &[u8], to: usize, before: u64) -> Optio
     let mut at = 0;
     let mut left = before;
     while at < to && bytes.len() - at >= 64 {
-        let mask = match_mask(byte, bytes, at);
+        let mask = match_mask::<64>(byte, bytes, at);
         let count = u64::from(mask.count_ones());
         if left < count {
             let index = at + nth_bit(mask, left);
@@ -127,7 +114,7 @@ impl<'a> ByteMatches<'a> {
         let (mask, size) = if bytes.len() < 64 {
             (0, 0)
         } else {
-            (match_mask(byte, bytes, 0), 64)
+            (match_mask::<64>(byte, bytes, 0), 64)
         };
         let first_match = first_match(byte, bytes, mask, size);
         ByteMatches {

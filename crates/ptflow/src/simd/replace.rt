@@ -7,8 +7,8 @@ ghost use Rattle.std.specs.Simd.Lanes.{chunk};
 ghost use Rattle.memchr.specs.Find.{is_byte};
 ghost use Rattle.ptflow.specs.Private.Paste.Unrolled.{IsUnrolled};
 
-use crate::simd::find_nth::match_mask;
 use crate::simd::shift::{ByteMap, map_bytes};
+use ptlines::match_mask;
 use std::simd::prelude::*;
 
 /// The map that replaces the terminator by one byte.
@@ -88,7 +88,7 @@ impl Cycle {
     {
         let terminator = self.terminator;
         u8x64::from_slice(&from[at..]).copy_to_slice(&mut to[at..]);
-        let mut mask = match_mask(terminator, from, at);
+        let mut mask = match_mask::<64>(terminator, from, at);
         let count = mask.count_ones() as usize;
         for after in 0..count {
             let end = at + mask.trailing_zeros() as usize;

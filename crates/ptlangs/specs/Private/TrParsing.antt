@@ -12,6 +12,7 @@ use Rattle.ptlangs.specs.declared.faults.SetFaultKind.TheVariants.{ClassPlace}
 use Rattle.ptlangs.specs.declared.tr.bytes.Bytes.{Bytes}
 use Rattle.ptlangs.specs.declared.tr.classes.CharClass.{CharClass}
 use Rattle.ptlangs.specs.declared.tr.contents.Contents.{Contents}
+use Rattle.ptlangs.specs.declared.tr.elements.ParsedElement.{ParsedElement}
 use Rattle.ptlangs.specs.declared.tr.elements.SetElement.{SetElement}
 use Rattle.ptlangs.specs.declared.tr.images.Images.{Images}
 use Rattle.ptlangs.specs.declared.tr.segments.Member.{Member}
@@ -26,9 +27,13 @@ chars_from text at = chars (drop at text)
 unfoldable pub char_from : List ℕ → ℕ → SetChar
 char_from text at = (char_at (slice_index text at) (drop (at + 1) text)).0
 
--- an element and the index after it, as the element and the characters from that index on
-abbrev pub element_and_rest : List ℕ → SetElement × ℕ → SetElement × List SetChar
-element_and_rest text found = (found.0, chars_from text found.1)
+-- the characters after the one at an index of the text
+unfoldable pub chars_beyond : List ℕ → ℕ → List SetChar
+chars_beyond text at = drop 1 (chars_from text at)
+
+-- an element that was read, with the characters after it
+abbrev pub element_and_rest : List ℕ → ParsedElement → SetElement × List SetChar
+element_and_rest text found = (found.element, chars_from text found.next)
 
 -- ---- the bytes of an array
 

@@ -54,10 +54,10 @@ impl<'a> Bytes<'a> {
             if self.at >= self.text.len() {
                 return Ok(None);
             }
-            let (element, next) = element_at(self.text, self.at)?;
-            self.segment = Segment::new(self.role, self.has_fill, element)?;
+            let parsed = element_at(self.text, self.at)?;
+            self.segment = Segment::new(self.role, self.has_fill, parsed.element)?;
             self.has_fill = self.has_fill || self.segment.is_fill();
-            self.at = next;
+            self.at = parsed.next;
             self.index = 0;
         }
     }

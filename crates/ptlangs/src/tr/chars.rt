@@ -1,13 +1,21 @@
 //! The characters of a string of `tr`: plain bytes and escapes (POSIX.1-2017, XCU, `tr`, "EXTENDED DESCRIPTION").
 //! `elements` reads a string with it.
 ghost use Rattle.std.specs.Prelude.{◌≡◌, ◌+◌, ◌*◌, ◌^◌, ◌<◌, ◌≤◌, ◌∷◌, length, drop, take, nat_le, Some, None};
-ghost use Rattle.std.specs.Prelude.{if◌then◌else◌, All};
+ghost use Rattle.std.specs.Prelude.{if◌then◌else◌, All, IfOk};
 ghost use Rattle.std.specs.Char.{digit_value};
 ghost use Rattle.std.specs.Str.Parse.{digits_value};
 ghost use Rattle.ptlangs.specs.TrChars.{byte_of, chars, after_backslash, byte_of_escape, is_octal_digit, octal_run};
-ghost use Rattle.ptlangs.specs.Private.TrParsing.{char_from, chars_from};
+ghost use Rattle.ptlangs.specs.Private.TrParsing.{char_from, chars_beyond, chars_from};
+ghost use Rattle.ptlangs.specs.Calls.TrParsing.{ok_map};
 
 use crate::faults::SetFaultKind;
+
+/// A character that was read: the byte that it denotes, and the index after it in the bytes that were given.
+#[derive(Clone, Copy)]
+pub(crate) struct ParsedChar {
+    pub(crate) byte: u8,
+    pub(crate) next: usize,
+}
 
 /// The value of the digits in this base, or `None` if it is above `limit`.
 #[tactic(auto, using(crate::proofs::TrGrammar::number_steps))]
@@ -60,40 +68,58 @@ fn octal_len(bytes: &[u8]) -> usize
     bytes.iter().take(3).take_while(|b| is_octal(**b)).count()
 }
 
-/// The byte that a backslash before these bytes denotes, or the fault of the escape, and the number of these bytes that
-/// it takes.
+/// The character of a backslash before these bytes.
+///
+/// # Errors
+///
+/// The fault of the escape.
 #[tactic(auto, using(crate::proofs::TrGrammar::octal_steps))]
-fn escape(bytes: &[u8]) -> (Result<u8, SetFaultKind>, usize)
-    ensures denoted { result.0 ≡ byte_of (after_backslash bytes.now).0 }
-    ensures consumed { result.1 ≡ (after_backslash bytes.now).1 }
-    ensures within { result.1 ≤ length bytes.now }
+fn escape(bytes: &[u8]) -> Result<ParsedChar, SetFaultKind>
+    ensures denoted { ok_map (λ c. c.byte) result ≡ byte_of (after_backslash bytes.now).0 }
+    ensures consumed { IfOk result (λ c. c.next ≡ (after_backslash bytes.now).1) }
+    ensures within { IfOk result (λ c. c.next ≤ length bytes.now) }
 {
     let Some(&first) = bytes.first() else {
-        return (Err(SetFaultKind::Escape), 0);
+        return Err(SetFaultKind::Escape);
     };
     if !is_octal(first) {
-        return (Ok(escaped_byte(first)), 1);
+        return Ok(ParsedChar {
+            byte: escaped_byte(first),
+            next: 1,
+        });
     }
-    let count = octal_len(bytes);
-    match number(&bytes[..count], 8, 255) {
-        Some(value) => (Ok(value as u8), count),
-        None => (Err(SetFaultKind::Octal), count),
+    let next = octal_len(bytes);
+    match number(&bytes[..next], 8, 255) {
+        Some(value) => Ok(ParsedChar {
+            byte: value as u8,
+            next,
+        }),
+        None => Err(SetFaultKind::Octal),
     }
 }
 
-/// The byte that the character at `at` denotes, or the fault of its escape, and the index after the character.
+/// The character at `at`.
+///
+/// # Errors
+///
+/// The fault of its escape.
 #[tactic(auto, using(crate::proofs::TrGrammar::char_steps))]
-pub(crate) fn next_char(text: &[u8], at: usize) -> (Result<u8, SetFaultKind>, usize)
+pub(crate) fn next_char(text: &[u8], at: usize) -> Result<ParsedChar, SetFaultKind>
     requires { at < length text.now }
-    ensures denoted { result.0 ≡ byte_of (char_from text.now at) }
-    ensures reads { chars_from text.now at ≡ char_from text.now at ∷ chars_from text.now result.1 }
-    ensures onward { at < result.1 }
-    ensures within { result.1 ≤ length text.now }
+    ensures denoted { ok_map (λ c. c.byte) result ≡ byte_of (char_from text.now at) }
+    ensures first { chars_from text.now at ≡ char_from text.now at ∷ chars_beyond text.now at }
+    ensures reads { IfOk result (λ c. chars_beyond text.now at ≡ chars_from text.now c.next) }
+    ensures onward { IfOk result (λ c. at < c.next) }
+    ensures within { IfOk result (λ c. c.next ≤ length text.now) }
 {
     let byte = text[at];
+    let after = at + 1;
     if byte != b'\\' {
-        return (Ok(byte), at + 1);
+        return Ok(ParsedChar { byte, next: after });
     }
-    let (byte, consumed) = escape(&text[at + 1..]);
-    (byte, at + 1 + consumed)
+    let escaped = escape(&text[after..])?;
+    Ok(ParsedChar {
+        byte: escaped.byte,
+        next: after + escaped.next,
+    })
 }

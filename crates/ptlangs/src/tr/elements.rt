@@ -1,6 +1,6 @@
 //! Reads one element of a string of `tr` at a given index: a single character, a range, or one of the bracketed forms
 //! `[x*n]`, `[:class:]` and `[=x=]` (POSIX.1-2017, XCU, `tr`, "EXTENDED DESCRIPTION"). `bytes` reads a whole string by
-//! calls of `element_at`. A function that reads text at an index returns the index after that text.
+//! calls of `element_at`.
 ghost use Rattle.std.specs.Prelude.{◌≡◌, ◌≢◌, ◌+◌, ◌<◌, ◌≤◌, ◌∷◌, [], ℕ, List, Some, length, drop, option_map};
 ghost use Rattle.std.specs.Prelude.{IfSome, IfOk, slice_range};
 ghost use Rattle.std.specs.List.{take_while, list_all, AllPass};
@@ -33,6 +33,13 @@ pub(crate) enum SetElement {
     Equivalence(u8),
     /// `[x*n]`: the byte and the count, or `None` for an invalid count. A count of 0 is a fill.
     Repeat(u8, Option<u16>),
+}
+
+/// An element that was read, and the index after it in the text.
+#[derive(Clone, Copy)]
+pub(crate) struct ParsedElement {
+    pub(crate) element: SetElement,
+    pub(crate) next: usize,
 }
 
 /// The index after `byte`, if the text has it at `at`.
@@ -126,30 +133,32 @@ fn read_count(digits: &[u8]) -> Option<u16>
 
 /// `[x*n]` from the index after its opening bracket.
 #[tactic(auto, using(crate::proofs::TrGrammar::run_passes))]
-fn repeat(text: &[u8], at: usize) -> Option<(SetElement, usize)>
+fn repeat(text: &[u8], at: usize) -> Option<ParsedElement>
     requires { at ≤ length text.now }
     ensures reads { option_map (element_and_rest text.now) result ≡ repeat_at (chars_from text.now at) }
-    ensures onward { IfSome result (λ r. at < r.1) }
-    ensures within { IfSome result (λ r. r.1 ≤ length text.now) }
+    ensures onward { IfSome result (λ r. at < r.next) }
+    ensures within { IfSome result (λ r. r.next ≤ length text.now) }
 {
     if at == text.len() {
         return None;
     }
-    let (byte, star) = next_char(text, at);
-    let byte = byte.ok()?;
-    let digits = after_byte(text, star, b'*')?;
+    let repeated = next_char(text, at).ok()?;
+    let digits = after_byte(text, repeated.next, b'*')?;
     let end = after_digits(text, digits);
     let next = after_byte(text, end, b']')?;
     let count = read_count(&text[digits..end]);
-    Some((SetElement::Repeat(byte, count), next))
+    Some(ParsedElement {
+        element: SetElement::Repeat(repeated.byte, count),
+        next,
+    })
 }
 
 /// `[:class:]` from the index after its opening bracket.
-fn class(text: &[u8], at: usize) -> Option<(SetElement, usize)>
+fn class(text: &[u8], at: usize) -> Option<ParsedElement>
     requires { at ≤ length text.now }
     ensures reads { option_map (element_and_rest text.now) result ≡ class_at (chars_from text.now at) }
-    ensures onward { IfSome result (λ r. at < r.1) }
-    ensures within { IfSome result (λ r. r.1 ≤ length text.now) }
+    ensures onward { IfSome result (λ r. at < r.next) }
+    ensures within { IfSome result (λ r. r.next ≤ length text.now) }
 {
     let name = after_byte(text, at, b':')?;
     let end = after_letters(text, name);
@@ -158,75 +167,84 @@ fn class(text: &[u8], at: usize) -> Option<(SetElement, usize)>
     }
     let next = after_bytes(text, end, b':', b']')?;
     let class = CharClass::from_name(&text[name..end]);
-    Some((SetElement::Class(class), next))
+    Some(ParsedElement {
+        element: SetElement::Class(class),
+        next,
+    })
 }
 
 /// `[=x=]` from the index after its opening bracket.
-fn equivalence(text: &[u8], at: usize) -> Option<(SetElement, usize)>
+fn equivalence(text: &[u8], at: usize) -> Option<ParsedElement>
     requires { at ≤ length text.now }
     ensures reads { option_map (element_and_rest text.now) result
         ≡ equivalence_at (chars_from text.now at) }
-    ensures onward { IfSome result (λ r. at < r.1) }
-    ensures within { IfSome result (λ r. r.1 ≤ length text.now) }
+    ensures onward { IfSome result (λ r. at < r.next) }
+    ensures within { IfSome result (λ r. r.next ≤ length text.now) }
 {
     let start = after_byte(text, at, b'=')?;
     if start == text.len() {
         return None;
     }
-    let (byte, end) = next_char(text, start);
-    let byte = byte.ok()?;
-    let next = after_bytes(text, end, b'=', b']')?;
-    Some((SetElement::Equivalence(byte), next))
+    let char = next_char(text, start).ok()?;
+    let next = after_bytes(text, char.next, b'=', b']')?;
+    Some(ParsedElement {
+        element: SetElement::Equivalence(char.byte),
+        next,
+    })
 }
 
-/// A bracketed form at `at`, and the index after it.
-fn bracketed(text: &[u8], at: usize) -> Option<(SetElement, usize)>
+/// A bracketed form at `at`.
+fn bracketed(text: &[u8], at: usize) -> Option<ParsedElement>
     requires { at ≤ length text.now }
     ensures reads { option_map (element_and_rest text.now) result ≡ bracketed_at (chars_from text.now at) }
-    ensures onward { IfSome result (λ r. at < r.1) }
-    ensures within { IfSome result (λ r. r.1 ≤ length text.now) }
+    ensures onward { IfSome result (λ r. at < r.next) }
+    ensures within { IfSome result (λ r. r.next ≤ length text.now) }
 {
     let inside = after_byte(text, at, b'[')?;
     let other = class(text, inside).or(equivalence(text, inside));
     repeat(text, inside).or(other)
 }
 
-/// The element at `at`, and the index after it.
+/// The element at `at`.
 ///
 /// # Errors
 ///
 /// The fault of the character or the range at `at`.
-pub(crate) fn element_at(text: &[u8], at: usize) -> Result<(SetElement, usize), SetFaultKind>
+pub(crate) fn element_at(text: &[u8], at: usize) -> Result<ParsedElement, SetFaultKind>
     requires { at < length text.now }
     ensures reads { ok_map (element_and_rest text.now) result ≡ first_set_element (chars_from text.now at) }
-    ensures onward { IfOk result (λ r. at < r.1) }
-    ensures within { IfOk result (λ r. r.1 ≤ length text.now) }
+    ensures onward { IfOk result (λ r. at < r.next) }
+    ensures within { IfOk result (λ r. r.next ≤ length text.now) }
 {
     if let Some(found) = bracketed(text, at) {
         return Ok(found);
     }
-    let (first, next) = next_char(text, at);
-    let first = first?;
-    match after_byte(text, next, b'-') {
-        Some(upper) if upper < text.len() => range(text, first, upper),
-        _ => Ok((SetElement::Single(first), next)),
+    let first = next_char(text, at)?;
+    match after_byte(text, first.next, b'-') {
+        Some(upper) if upper < text.len() => range(text, first.byte, upper),
+        _ => Ok(ParsedElement {
+            element: SetElement::Single(first.byte),
+            next: first.next,
+        }),
     }
 }
 
-/// The range from `first` to the character at `at`, and the index after it.
-fn range(text: &[u8], first: u8, at: usize) -> Result<(SetElement, usize), SetFaultKind>
+/// The range from `first` to the character at `at`.
+fn range(text: &[u8], first: u8, at: usize) -> Result<ParsedElement, SetFaultKind>
     requires { at < length text.now }
     ensures reads { ok_map (element_and_rest text.now) result
         ≡ single_or_range first [] (Some (chars_from text.now at)) }
-    ensures onward { IfOk result (λ r. at < r.1) }
-    ensures within { IfOk result (λ r. r.1 ≤ length text.now) }
+    ensures onward { IfOk result (λ r. at < r.next) }
+    ensures within { IfOk result (λ r. r.next ≤ length text.now) }
 {
-    let (last, next) = next_char(text, at);
-    let last = last?;
-    if last < first {
+    let last = next_char(text, at)?;
+    if last.byte < first {
         return Err(SetFaultKind::Descending);
     }
-    Ok((SetElement::Range(first, last), next))
+    Ok(ParsedElement {
+        element: SetElement::Range(first, last.byte),
+        next: last.next,
+    })
 }
 
 /// Does nothing at run time. Its contract states that the characters and elements that are read are those of the

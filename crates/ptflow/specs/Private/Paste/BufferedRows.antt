@@ -9,6 +9,7 @@ use Rattle.ptlines.specs.Calls.Readers.{budget}
 use Rattle.ptflow.specs.PasteText.{uses_of, join_with_cycle, columns, rows}
 use Rattle.ptflow.specs.Private.Paste.RowCells.{RowShape, BegunText, CellsFilled, cells_text}
 use Rattle.ptflow.specs.Private.Paste.TakenLines.{LinesTaken}
+use Rattle.ptflow.specs.declared.tools.paste.buffered_rows.CopiedField.{CopiedField}
 
 -- Each column has a reader, which is readable and has the terminator of the rows.
 pub record BufferedRowsPre (row : RowShape) (readers : List Reader) : Type 0 where
@@ -62,8 +63,8 @@ IsFieldCopied end old new before after true = LineCopied end old new before afte
 IsFieldCopied end old new before after false = EofCopied old new before after
 
 -- The postcondition of `copy_cell`, if the field was copied after the bytes `before` of the buffer `into`.
-abbrev pub CopyCellPost : ℕ → Reader → Reader → List ℕ → List ℕ → ℕ × Bool → Type 0
-CopyCellPost end old new before into field = IsFieldCopied end old new before (take field.0 into) field.1
+abbrev pub CopyCellPost : ℕ → Reader → Reader → List ℕ → List ℕ → CopiedField → Type 0
+CopyCellPost end old new before into field = IsFieldCopied end old new before (take field.end into) field.is_line
 
 -- The postcondition of `copy_columns`. Further columns of a row took their fields from the buffers, regardless of how
 -- the columns before them had been filled, and their text was appended.

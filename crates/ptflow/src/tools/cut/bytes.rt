@@ -10,11 +10,10 @@ ghost use Rattle.ptflow.specs.Private.Cut.ShortLines.{AreLineShuffles, AreSepara
 ghost use Rattle.ptflow.specs.Cuts.{select_from};
 
 use crate::block_loop::BlockFilter;
-use crate::simd::find_nth::match_mask;
 use crate::tools::cut::shuffle::LineShuffles;
 use ptlangs::jobs::CutJob;
 use ptlangs::ranges::Interval;
-use ptlines::{Out, PADDED, PaddedBlock, Sink, WriteFault, copy_short, find_byte};
+use ptlines::{Out, PADDED, PaddedBlock, Sink, WriteFault, copy_short, find_byte, match_mask};
 use std::alloc::Allocator;
 use std::simd::prelude::*;
 
@@ -215,7 +214,7 @@ impl Selection<'_> {
         };
         let mut from = 0;
         while block.len() - from >= 80 {
-            let mask = match_mask(self.terminator, block, from);
+            let mask = match_mask::<64>(self.terminator, block, from);
             if mask != 0 {
                 line = self.cut_chunk(block, from, mask, line, into);
             }

@@ -19,7 +19,8 @@ use std::simd::prelude::*;
 
 // Copies the next line of a reader to `at` and consumes it, if it ends within the next `N` bytes: the vector that is
 // searched for the terminator is stored as it is. Returns the offset after the copy. The line is consumed before the
-// vector is stored, so that the position of the reader is not loaded again (`paste` of 2 files: 44.9 for 45.9 a line).
+// vector is stored, so that the position of the reader is not loaded again (`paste` of 2 files: 44.9 instructions a
+// line for 45.9).
 #[inline(always)]
 fn copy_line_in<const N: usize, S: Source, R: Source>(
     terminator: u8,
@@ -48,7 +49,7 @@ fn copy_line_in<const N: usize, S: Source, R: Source>(
 
 // Like `copy_line_in`, for a line of any length, with fast paths for lines of at most 63 bytes; `None` if it is not
 // complete in the buffer or does not fit. Out of line, so that the loop over columns is short (`paste` of 2 files:
-// 44.9 for 51.2 a line).
+// 44.9 instructions a line for 51.2).
 #[inline(never)]
 fn copy_line_long<S: Source, R: Source>(
     terminator: u8,
@@ -79,29 +80,39 @@ fn copy_line_long<S: Source, R: Source>(
     Some(at + count)
 }
 
+// A field that was copied: the offset after it, and whether it is a line.
+#[derive(Clone, Copy)]
+struct CopiedField {
+    end: usize,
+    is_line: bool,
+}
+
 // Copies the next line of a reader to `at` and consumes it. A reader that is at the end of its input gives an empty
-// field. Returns the offset after the field, and whether it is a line; or `None` if the line is not complete in the
-// buffer or does not fit, and then nothing is consumed.
+// field. Returns `None` if the line is not complete in the buffer or does not fit, and then nothing is consumed.
 #[inline(always)]
 fn copy_cell<S: Source, R: Source>(
     terminator: u8,
     reader: &mut LineReader<S, R>,
     into: &mut PaddedBlock,
     at: usize,
-) -> Option<(usize, bool)>
+) -> Option<CopiedField>
     ensures cell { IfSome result (CopyCellPost terminator reader.old reader.new (take at into.old) into.new) }
-    ensures size_bound { IfSome result (λ field. (at ≤ field.0) × (field.0 < BLOCK)) }
+    ensures size_bound { IfSome result (λ field. (at ≤ field.end) × (field.end < BLOCK)) }
     ensures none { IfNone result (reader.new ≡ reader.old) }
     ensures prefix_kept { take at into.new ≡ take at into.old }
     ensures was_sound { IsSound reader.old }
 {
     if let Some(end) = copy_line_in::<16, S, R>(terminator, reader, into, at) {
-        return Some((end, true));
+        return Some(CopiedField { end, is_line: true });
     }
     if reader.buffered().is_empty() && reader.at_eof() && at < BLOCK {
-        return Some((at, false));
+        return Some(CopiedField {
+            end: at,
+            is_line: false,
+        });
     }
-    Some((copy_line_long(terminator, reader, into, at)?, true))
+    let end = copy_line_long(terminator, reader, into, at)?;
+    Some(CopiedField { end, is_line: true })
 }
 
 // Copies the next columns of a begun row, each with the byte after it, up to the end of the row or to the first column
@@ -122,17 +133,17 @@ pub(crate) fn copy_columns<S: Source, R: Source>(
     let mut index = begun.count % row.delims.len();
     'cells: while begun.count < row.cells.len() {
         let reader = &mut readers[row.cells[begun.count]];
-        let Some((end, is_line)) = copy_cell(row.terminator, reader, into, begun.end) else {
+        let Some(field) = copy_cell(row.terminator, reader, into, begun.end) else {
             return begun;
         };
         begun.count += 1;
-        begun.any_line |= is_line;
+        begun.any_line |= field.is_line;
         if begun.count == row.cells.len() {
-            into[end] = row.terminator;
-            begun.end = end + 1;
+            into[field.end] = row.terminator;
+            begun.end = field.end + 1;
             return begun;
         }
-        begun.end = copy_option(row.delims[index], into, end);
+        begun.end = copy_option(row.delims[index], into, field.end);
         index = next_index(index, row.delims.len());
     }
     begun
@@ -158,20 +169,20 @@ fn copy_segments<S: Source, R: Source>(
     let mut rest = segments;
     'segments: while let [segment, tail @ ..] = rest {
         let reader = &mut readers[segment.input];
-        let Some((end, is_line)) = copy_cell(row.terminator, reader, into, begun.end) else {
+        let Some(field) = copy_cell(row.terminator, reader, into, begun.end) else {
             return begun;
         };
-        let any_line = begun.any_line | is_line;
-        if end > BLOCK - 16 {
+        let any_line = begun.any_line | field.is_line;
+        if field.end > BLOCK - 16 {
             return BegunRow {
                 count: begun.count + 1,
-                end: copy_option(row.byte_after(begun.count), into, end),
+                end: copy_option(row.byte_after(begun.count), into, field.end),
                 any_line,
             };
         }
         begun = BegunRow {
             count: begun.count + segment.count,
-            end: segment.copy_bytes(into, end),
+            end: segment.copy_bytes(into, field.end),
             any_line,
         };
         rest = tail;
@@ -228,7 +239,8 @@ fn copy_rows_by_columns<S: Source, R: Source>(
     }
 }
 
-// Copies rows like `copy_rows`, each by these segments first. Out of line (`paste` of 50 files: 44.2 for 45.1 a line).
+// Copies rows like `copy_rows`, each by these segments first. Out of line (`paste` of 50 files: 44.2 instructions a
+// line for 45.1).
 #[inline(never)]
 fn copy_rows_by_segments<S: Source, R: Source>(
     row: RowFormat,

@@ -46,21 +46,36 @@ pub(crate) struct ColumnPos {
     pub complete: bool,
 }
 
+// A copy of cells: the offset after it, and the index of the delimiter after the last of them.
+#[derive(Clone, Copy)]
+struct CopiedCells {
+    end: usize,
+    index: usize,
+}
+
+// A copy of a block: its length, and the position of the next block.
+#[derive(Clone, Copy)]
+struct CopiedBlock {
+    size: usize,
+    next: ColumnPos,
+}
+
 impl<'a> SerialFormat<'a> {
     ghost use Rattle.ptflow.specs.Private.Paste.SerialRest.{CopyCellsPre, CopyCellsPost, serial_rest};
 
     // Copies bytes to `at`, with each terminator replaced by the delimiter after its column, from the delimiter with
-    // this index on. Returns the offset after the copy, and the index of the next delimiter.
+    // this index on.
     fn copy_cells_slow(
         &self,
         mut index: usize,
         bytes: &[u8],
         into: &mut PaddedBlock,
         mut at: usize,
-    ) -> (usize, usize)
+    ) -> CopiedCells
         requires { CopyCellsPre self.now index bytes.now at }
-        ensures copied { CopyCellsPost self.now index bytes.now (take at into.old) result.1 (take result.0 into.new) }
-        ensures size_bound { result.0 ≤ at + length bytes.now }
+        ensures copied { CopyCellsPost self.now index bytes.now (take at into.old) result.index
+            (take result.end into.new) }
+        ensures size_bound { result.end ≤ at + length bytes.now }
     {
         let mut rest = bytes;
         'pieces: while let Some(count) = find_byte(self.terminator, rest) {
@@ -70,7 +85,10 @@ impl<'a> SerialFormat<'a> {
             rest = &rest[count + 1..];
         }
         copy_short(rest, 0, rest.len(), into, at);
-        (at + rest.len(), index)
+        CopiedCells {
+            end: at + rest.len(),
+            index,
+        }
     }
 
     // Like `copy_cells_slow`, but many bytes at a time if the delimiters are a cycle of bytes.
@@ -81,41 +99,44 @@ impl<'a> SerialFormat<'a> {
         bytes: &[u8],
         into: &mut PaddedBlock,
         at: usize,
-    ) -> (usize, usize)
+    ) -> CopiedCells
         requires { CopyCellsPre self.now index bytes.now at }
-        ensures copied { CopyCellsPost self.now index bytes.now (take at into.old) result.1 (take result.0 into.new) }
-        ensures size_bound { result.0 ≤ at + length bytes.now }
+        ensures copied { CopyCellsPost self.now index bytes.now (take at into.old) result.index
+            (take result.end into.new) }
+        ensures size_bound { result.end ≤ at + length bytes.now }
     {
         let Some(cycle) = &self.cycle else {
             return self.copy_cells_slow(index, bytes, into, at);
         };
         let end = at + bytes.len();
-        (end, cycle.replace(index, bytes, &mut into[at..end]))
+        let index = cycle.replace(index, bytes, &mut into[at..end]);
+        CopiedCells { end, index }
     }
 
     // Copies a block that begins at a position. If it ends with a terminator, the delimiter for it is left to the next
-    // block, as the line may be the last one. Returns the length of the copy, and the position of the next block.
-    fn copy_block(
-        &self,
-        cell: ColumnPos,
-        block: &[u8],
-        into: &mut PaddedBlock,
-    ) -> (usize, ColumnPos)
+    // block, as the line may be the last one.
+    fn copy_block(&self, cell: ColumnPos, block: &[u8], into: &mut PaddedBlock) -> CopiedBlock
         requires index { cell.index < length self.now.delims.now }
         requires some { (0 < length block.now) × (length block.now ≤ BLOCK) }
         ensures copied { (more : List ℕ) → serial_rest self.now cell (block.now ++ more)
-            ≡ take result.0 into.new ++ serial_rest self.now result.1 more }
-        ensures size_bound { result.0 ≤ BLOCK + 8 }
-        ensures index { result.1.index < length self.now.delims.now }
+            ≡ take result.size into.new ++ serial_rest self.now result.next more }
+        ensures size_bound { result.size ≤ BLOCK + 8 }
+        ensures index { result.next.index < length self.now.delims.now }
     {
         let held = [self.terminator];
         let size = usize::from(cell.complete);
-        let (at, index) = self.copy_cells(cell.index, &held[..size], into, 0);
+        let front = self.copy_cells(cell.index, &held[..size], into, 0);
         let count = block.len() - 1;
-        let (end, index) = self.copy_cells(index, &block[..count], into, at);
+        let most = self.copy_cells(front.index, &block[..count], into, front.end);
         let complete = block[count] == self.terminator;
-        into[end] = block[count];
-        (end + usize::from(!complete), ColumnPos { index, complete })
+        into[most.end] = block[count];
+        CopiedBlock {
+            size: most.end + usize::from(!complete),
+            next: ColumnPos {
+                index: most.index,
+                complete,
+            },
+        }
     }
 }
 
@@ -140,9 +161,9 @@ impl<'a> BlockFilter for SerialPaste<'a> {
     ghost IsUnchanged = { λ s t. t.format ≡ s.format };
 
     fn process_block<W: Sink>(&mut self, block: &[u8], out: &mut Out<W>) -> Result<(), WriteFault> {
-        let (end, after) = self.format.copy_block(self.cell, block, &mut self.buffer);
-        out.push(&self.buffer[..end])?;
-        self.cell = after;
+        let copied = self.format.copy_block(self.cell, block, &mut self.buffer);
+        out.push(&self.buffer[..copied.size])?;
+        self.cell = copied.next;
         Ok(())
     }
 

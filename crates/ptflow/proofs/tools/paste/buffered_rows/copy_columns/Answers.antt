@@ -44,5 +44,5 @@ returns-in_default-clause-cells g c =
 pub returns-then-begun-row-clause-cells : goal.returns-then-begun-row-clause-cells
 returns-then-begun-row-clause-cells g c =
     columns_more c.cells.invariant.copied c.requires.readable c.cells-test.true _ _ c.in-Some.ensures.was_sound _
-    (take c.in-Some.end c.copy_cell.new.into) c.in-Some.ensures.cell (take_more_set _ _ _ (omega arith))
+    (take c.in-Some.field.end c.copy_cell.new.into) c.in-Some.ensures.cell (take_more_set _ _ _ (omega arith))
     (rw (eq-eqb _ _ c.if-begun-row.true) refl)

@@ -50,9 +50,9 @@ returns-in_default-copy_cell-clause-cells g c =
     ap (set readers input) none.none ∙ set-get_or readers input c.index-readers-segment.result in
     rw (same, none.prefix_kept) c.segments.invariant.copied
 
-pub returns-then-end-clause-cells : goal.returns-then-end-clause-cells
-returns-then-end-clause-cells g c =
-    let (is, _) = first g (goal.at.returns-then-end-clause-cells g c).In-len1-up in
+pub returns-then-field-clause-cells : goal.returns-then-field-clause-cells
+returns-then-field-clause-cells g c =
+    let (is, _) = first g (goal.at.returns-then-field-clause-cells g c).In-len1-up in
     first_column c.segments.invariant.copied c.requires.readable is _ _ c.in-Some.ensures.was_sound _ _
     c.in-Some.ensures.cell c.copy_option.ensures.copied c.byte_after.ensures
 

@@ -33,7 +33,7 @@ returns-clause-copied c = λ more.
     let last = get_or block (length block - 1) 0 in
     let bytes = take (length block - 1) block in
     let parts : bytes ++ last ∷ [] ≡ block = grind (arith, take_more, take_all) in
-    let low : c.copy_cells-end.result.0 < length c.copy_cells-end.new.into =
+    let low : c.copy_cells-most.result.end < length c.copy_cells-most.new.into =
     omega (
       arith,
       length-take c.from-size.result (c.args.self.now.terminator ∷ []),
@@ -43,8 +43,8 @@ returns-clause-copied c = λ more.
       held_is _ _ _ c.from-size.ensures,
       append_assoc bytes (last ∷ []) more,
       copied_on (bytes ++ (last ∷ more)) (omega (arith, length-append bytes (last ∷ more)))
-          c.copy_cells-at.ensures.copied,
-      copied_on (last ∷ more) (omega arith) c.copy_cells-end.ensures.copied,
-      last_copied self.terminator self.delims.now c.copy_cells-end.result.1 last more c.copy_cells-end.new.into low _
-          refl c.from.ensures,
+          c.copy_cells-front.ensures.copied,
+      copied_on (last ∷ more) (omega arith) c.copy_cells-most.ensures.copied,
+      last_copied self.terminator self.delims.now c.copy_cells-most.result.index last more c.copy_cells-most.new.into
+          low _ refl c.from.ensures,
     )

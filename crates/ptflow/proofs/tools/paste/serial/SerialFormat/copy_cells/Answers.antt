@@ -21,10 +21,11 @@ returns-clause-copied c =
     let bytes = c.args.bytes.now in
     let is = format.is_cycle cycle c.in-Some.is in
     record {
-      is = put_taken _ _ _ (ap length c.replace.ensures.replaced
+      is = put_taken _ _ _ (ap length c.replace-index.ensures.replaced
           ∙ length-replaced _ _ _ _) (omega arith)
           ∙ ap (◌++◌ (take c.args.at c.args.into.now))
-          (c.replace.ensures.replaced ∙ (λ i. with_replacements (is.terminator i)
+          (c.replace-index.ensures.replaced ∙ (λ i. with_replacements (is.terminator i)
           (λ n. is.bytes n i) c.args.index bytes));
-      later = c.replace.ensures.next ∙ (λ i. (c.args.index + count_by (is_byte (is.terminator i)) bytes) % is.len i);
+      later = c.replace-index.ensures.next
+          ∙ (λ i. (c.args.index + count_by (is_byte (is.terminator i)) bytes) % is.len i);
     }
