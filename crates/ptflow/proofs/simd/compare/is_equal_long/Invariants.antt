@@ -1,12 +1,12 @@
 use Rattle.ptflow.proofs
 use proofs.Common.{◌≡◌, ◌≤◌, ◌-◌, length, take}
-use proofs.simd.compare.is_equal_by.Given as goal
+use proofs.simd.compare.is_equal_long.Given as goal
 
 abbrev pub invariant-loop-at : goal.invariant-loop-at
-invariant-loop-at g l = record {
+invariant-loop-at l = record {
   same : take l.at l.a ≡ take l.at l.b;
   within : l.at ≤ length l.a;
 }
 
 abbrev pub decreases-loop-at : goal.decreases-loop-at
-decreases-loop-at g l = length l.a - l.at
+decreases-loop-at l = length l.a - l.at
