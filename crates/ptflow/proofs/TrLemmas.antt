@@ -1,2 +1,2 @@
-pub mod Removed
+pub mod FilterSet
 pub mod TrFrom

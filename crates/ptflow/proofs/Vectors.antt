@@ -1,5 +1,6 @@
 -- Facts about the vector code in `simd`.
 pub mod Compress
+pub mod Equal
 pub mod Lanes
 pub mod FindNth
 pub mod Removal

@@ -165,7 +165,7 @@ module _ (d : ℕ) (line : List ℕ) (cursor : FieldCursor) where
               grind (arith, length-take-le, some, these, selected, prefixed_fields-append, drop-append-le, sep_drop)
 
           pub next_slice : (next : FieldCursor) → next.left.now ≡ rs → next.passed ≡ r.last → next.at ≡ at
-              → IsNextSlice d line cursor (from - min cursor.passed 1) (at - 1) next
+              → IsNextSlice d line cursor (record { start = from - min cursor.passed 1; end = at - 1 }) next
           next_slice next left_is passed_is at_is = grind (arith, output, ends)
 
 -- ---- the output of a line is not longer than the line

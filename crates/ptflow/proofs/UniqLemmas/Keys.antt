@@ -144,26 +144,26 @@ range_from bytes at to = ⊎_elim
 
 -- ---- by the mask of a window
 
-module _ (bytes : List ℕ) {ends : ℕ} (is : ends ≡ mask_l (field_ends 15 bytes)) where
-  as_numbers : ends ≡ mask_l (map is_set (ends_in 15 bytes))
-  as_numbers = is ∙ ap mask_l (sym (as_flags 15 bytes))
+module _ (bytes : List ℕ) {ends : ℕ} (is : ends ≡ mask_l (field_ends 31 bytes)) where
+  as_numbers : ends ≡ mask_l (map is_set (ends_in 31 bytes))
+  as_numbers = is ∙ ap mask_l (sym (as_flags 31 bytes))
 
-  pub ends_counted : {count : ℕ} → count ≡ count_ones ends → count ≡ count_by is_set (ends_in 15 bytes)
-  ends_counted count_is = count_is ∙ ap count_ones as_numbers ∙ ones-mask_l is_set (ends_in 15 bytes)
+  pub ends_counted : {count : ℕ} → count ≡ count_ones ends → count ≡ count_by is_set (ends_in 31 bytes)
+  ends_counted count_is = count_is ∙ ap count_ones as_numbers ∙ ones-mask_l is_set (ends_in 31 bytes)
 
   pub nth_in_window : {count left k : ℕ} → count ≡ count_ones ends → 0 < left → left ≤ count
       → ((test : ℕ → Bool) (xs : List ℕ) → length xs ≤ 64 → ends ≡ mask_l (map test xs) → left - 1 < count_by test xs
       → IsNth test 0 (left - 1) xs k)
-      → IsNth is_set 0 (left - 1) (ends_in 15 bytes) k
+      → IsNth is_set 0 (left - 1) (ends_in 31 bytes) k
   nth_in_window count_is some enough found =
-      found is_set (ends_in 15 bytes) (omega (arith, length-ends_in 15 bytes)) as_numbers
+      found is_set (ends_in 31 bytes) (omega (arith, length-ends_in 31 bytes)) as_numbers
       (omega (arith, ends_counted count_is))
 
-  pub near : {n k : ℕ} → IsNth is_set 0 n (ends_in 15 bytes) k → k < 15
-  near (within, _, _) = omega (arith, length-ends_in 15 bytes)
+  pub near : {n k : ℕ} → IsNth is_set 0 n (ends_in 31 bytes) k → k < 31
+  near (within, _, _) = omega (arith, length-ends_in 31 bytes)
 
 module _ (bytes : List ℕ) (at to : ℕ) {left : ℕ} (some : 0 < left) where
-  pub key_in_window : {k from : ℕ} → IsNth is_set 0 (left - 1) (ends_in 15 (drop at bytes)) k
+  pub key_in_window : {k from : ℕ} → IsNth is_set 0 (left - 1) (ends_in 31 (drop at bytes)) k
       → from ≡ min (at + k + 1) to
       → suffix_at left (take (to - at) (drop at bytes)) ≡ take (to - from) (drop from bytes)
   key_in_window {k} {from} h is =
@@ -171,26 +171,26 @@ module _ (bytes : List ℕ) (at to : ℕ) {left : ℕ} (some : 0 < left) where
       let size : to - at - suc k ≡ to - (at + suc k) = omega arith in
       let start : min (at + suc k) to ≡ from = omega arith in
       ap (λ i. suffix_at i (take (to - at) (drop at bytes))) n
-      ∙ nth_end 15 (to - at) (left - 1) k (drop at bytes) h
+      ∙ nth_end 31 (to - at) (left - 1) k (drop at bytes) h
       ∙ rest_of (suc k) (to - at) (drop at bytes)
       ∙ ap (take (to - at - suc k)) (drop-drop (suc k) at bytes)
       ∙ ap (λ i. take i (drop (at + suc k) bytes)) size
       ∙ sym (range_from bytes (at + suc k) to)
       ∙ ap (λ i. take (to - i) (drop i bytes)) start
 
-  pub key_after_window : count_by is_set (ends_in 15 (drop at bytes)) < left
-      → suffix_at (left - count_by is_set (ends_in 15 (drop at bytes))) (take (to - (at + 15)) (drop (at + 15) bytes))
+  pub key_after_window : count_by is_set (ends_in 31 (drop at bytes)) < left
+      → suffix_at (left - count_by is_set (ends_in 31 (drop at bytes))) (take (to - (at + 31)) (drop (at + 31) bytes))
       ≡ suffix_at left (take (to - at) (drop at bytes))
   key_after_window few =
-      let count = count_by is_set (ends_in 15 (drop at bytes)) in
+      let count = count_by is_set (ends_in 31 (drop at bytes)) in
       let n : left ≡ suc (left - 1) = omega arith in
       let next : suc (left - 1 - count) ≡ left - count = omega arith in
-      let size : to - at - 15 ≡ to - (at + 15) = omega arith in
-      let rest = rest_of 15 (to - at) (drop at bytes) ∙ ap (take (to - at - 15)) (drop-drop 15 at bytes)
-      ∙ ap (λ i. take i (drop (at + 15) bytes)) size in
+      let size : to - at - 31 ≡ to - (at + 31) = omega arith in
+      let rest = rest_of 31 (to - at) (drop at bytes) ∙ ap (take (to - at - 31)) (drop-drop 31 at bytes)
+      ∙ ap (λ i. take i (drop (at + 31) bytes)) size in
       sym (ap (λ i. suffix_at i (take (to - at) (drop at bytes))) n
-      ∙ skip_ends 15 (to - at) (left - 1) (drop at bytes) (omega arith)
-      ∙ ap (λ i. suffix_at i (drop 15 (take (to - at) (drop at bytes)))) next
+      ∙ skip_ends 31 (to - at) (left - 1) (drop at bytes) (omega arith)
+      ∙ ap (λ i. suffix_at i (drop 31 (take (to - at) (drop at bytes)))) next
       ∙ ap (suffix_at (left - count)) rest)
 
 -- ---- the mask of a window
@@ -210,22 +210,22 @@ and_ends zero (b ∷ bytes) more = grind (arith, and_zero_r)
 and_ends (suc j) (b ∷ []) more = absurd (omega arith)
 and_ends (suc j) (b ∷ c ∷ bytes) more = grind (arith, and_ends j (c ∷ bytes), and_step)
 
-module _ (bytes : List ℕ) (at : ℕ) (room : at + 16 ≤ length bytes) {blanks : ℕ}
-    (is : blanks ≡ mask_l (map is_blank (chunk at 16 bytes)))
+module _ (bytes : List ℕ) (at : ℕ) (room : at + 32 ≤ length bytes) {blanks : ℕ}
+    (is : blanks ≡ mask_l (map is_blank (chunk at 32 bytes)))
   where
-    pub blanks_fit : blanks ≤ 65535
+    pub blanks_fit : blanks ≤ 4294967295
     blanks_fit =
-        let long = length-map (chunk at 16 bytes) is_blank ∙ length-chunk at 16 bytes room in
-        let low : mask_l (map is_blank (chunk at 16 bytes)) < 2 ^ 16 = rw long at (mask_l-lt (map is_blank (chunk at 16 bytes))) in
+        let long = length-map (chunk at 32 bytes) is_blank ∙ length-chunk at 32 bytes room in
+        let low : mask_l (map is_blank (chunk at 32 bytes)) < 2 ^ 32 = rw long at (mask_l-lt (map is_blank (chunk at 32 bytes))) in
         omega arith
 
-    pub ends_mask : bit_and (65535 - blanks) (blanks / 2) ≡ mask_l (field_ends 15 (drop at bytes))
+    pub ends_mask : bit_and (4294967295 - blanks) (blanks / 2) ≡ mask_l (field_ends 31 (drop at bytes))
     ends_mask =
-        let v = chunk at 16 bytes in
-        let all : mask_l (map is_word v) + mask_l (map is_blank v) + 1 ≡ 2 ^ 16 =
-        rw (length-chunk at 16 bytes room) at (word_mask v) in
-        let words : 65535 - blanks ≡ mask_l (map is_word v) = omega arith in
-        rw (words, is) (and_ends 15 (drop at bytes) (grind usual))
+        let v = chunk at 32 bytes in
+        let all : mask_l (map is_word v) + mask_l (map is_blank v) + 1 ≡ 2 ^ 32 =
+        rw (length-chunk at 32 bytes room) at (word_mask v) in
+        let words : 4294967295 - blanks ≡ mask_l (map is_word v) = omega arith in
+        rw (words, is) (and_ends 31 (drop at bytes) (grind usual))
 
 either : (a b : Bool) → top 7 (bit_or (cond a 255 0) (cond b 255 0)) ≡ (a || b)
 either true true = refl
@@ -233,13 +233,13 @@ either true false = refl
 either false true = refl
 either false false = refl
 
-pub blanks_are : (v : List ℕ) → length v ≡ 16
-    → mask_l (map (top 7) (zip2 bit_or (zip2 (λ a b. cond (eqb a b) 255 0) v (replicate 16 32))
-    (zip2 (λ a b. cond (eqb a b) 255 0) v (replicate 16 9)))) % 2 ^ 64 ≡ mask_l (map is_blank v)
+pub blanks_are : (v : List ℕ) → length v ≡ 32
+    → mask_l (map (top 7) (zip2 bit_or (zip2 (λ a b. cond (eqb a b) 255 0) v (replicate 32 32))
+    (zip2 (λ a b. cond (eqb a b) 255 0) v (replicate 32 9)))) % 2 ^ 64 ≡ mask_l (map is_blank v)
 blanks_are v long =
     let few : length (map is_blank v) ≤ 64 = omega (arith, length-map v is_blank) in
-    let spaces = zip2_splat (λ a b. cond (eqb a b) 255 0) v 16 32 long in
-    let tabs = zip2_splat (λ a b. cond (eqb a b) 255 0) v 16 9 long in
+    let spaces = zip2_splat (λ a b. cond (eqb a b) 255 0) v 32 32 long in
+    let tabs = zip2_splat (λ a b. cond (eqb a b) 255 0) v 32 9 long in
     ap (λ ms. mask_l ms % 2 ^ 64) (ap (map (top 7)) (zip2_of_maps bit_or _ _ v spaces tabs) ∙ map-map (top 7) _ v
     ∙ (λ i. map (λ b. either (eqb b 32) (eqb b 9) i) v))
     ∙ mask_l-mod (map is_blank v) 64 few

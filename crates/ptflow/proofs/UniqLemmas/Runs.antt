@@ -15,7 +15,7 @@ use proofs.Passes.Exits.{wrote_then, split_of, ended_next}
 use specs.Private.Uniq.BlockRuns.{EndRunPre, first_of, repeated, IsSpan, RunsFailed, IsPending}
 use specs.Private.Uniq.RunsFrom.{count_prefix, run_text, count_of, has_output, current_run, run_output, runs_after}
 use specs.Private.Uniq.RunsFrom.{runs_from}
-use specs.declared.tools.uniq.block_runs.Span.{Span}
+use specs.declared.tools.uniq.block_runs.BlockRange.{BlockRange}
 use specs.declared.tools.uniq.CurrentRun.{CurrentRun}
 use specs.Uniqs.{Run, init, output_of, key, cons_run, runs, uniq_tool}
 use specs.Laws.Parts.{HasGroupedKeys, UniqByKey, UniqOfParts}
@@ -130,7 +130,7 @@ module _ {end : ℕ} {block rest : List ℕ} {front : List (List ℕ)} (lies : B
 
 -- ---- deferred output
 
-span_join : {block : List ℕ} {a b : Span} → IsSpan block a → IsSpan block b → a.to ≡ b.from
+span_join : {block : List ℕ} {a b : BlockRange} → IsSpan block a → IsSpan block b → a.to ≡ b.from
     → span_of block (record { from = a.from; to = b.to }) ≡ span_of block a ++ span_of block b
 span_join {block} {a} {b} fits next touch =
     let back = span_of block b in
@@ -138,7 +138,7 @@ span_join {block} {a} {b} fits next touch =
     grind (usual, drop_split) in
     grind usual
 
-module _ (job : Uniq) (first : List ℕ) (count : ℕ) {block : List ℕ} {line : Option Span} {l pending : Span}
+module _ (job : Uniq) (first : List ℕ) (count : ℕ) {block : List ℕ} {line : Option BlockRange} {l pending : BlockRange}
     (pre : EndRunPre job.terminator block line pending) (is : line ≡ Some l)
     (shown : has_output job.show count ≡ true) where
   pub due_is : run_text job (run_of (first_of first block line) count) ≡ count_prefix job.show count ++ span_of block l
@@ -149,9 +149,9 @@ module _ (job : Uniq) (first : List ℕ) (count : ℕ) {block : List ℕ} {line 
       (record { from = pending.from; to = l.to }) out out
   pending_joined = search (rules, span_join, due_is)
 
-module _ {bytes block : List ℕ} {pending : Span} {was is : Output} (waits : IsPending bytes block pending was is)
+module _ {bytes block : List ℕ} {pending : BlockRange} {was is : Output} (waits : IsPending bytes block pending was is)
     (more : List ℕ) {is' : Output} where
-  pending_then : {now : Span} → IsPending (span_of block pending ++ more) block now is is'
+  pending_then : {now : BlockRange} → IsPending (span_of block pending ++ more) block now is is'
       → IsPending (bytes ++ more) block now was is'
   pending_then {now} next = record {
     pushed = waits.pushed ++ next.pushed;
@@ -219,8 +219,8 @@ module _ {job : Uniq} {before after : Run} {ls : List (List ℕ)} {passed : List
 -- ---- between two lines of a block
 
 -- The output of the runs that ended was pushed, but for the deferred part.
-pub record RunsInvariant (job : Uniq) (first block rest : List ℕ) (start count : ℕ) (line : Option Span)
-    (pending : Span) (run_key : List ℕ) (was is : Output) : Type 0 where
+pub record RunsInvariant (job : Uniq) (first block rest : List ℕ) (start count : ℕ) (line : Option BlockRange)
+    (pending : BlockRange) (run_key : List ℕ) (was is : Output) : Type 0 where
   pub front : List (List ℕ)
   pub lies : BlockPrefix job.terminator block rest front
   pub passed : List Run
@@ -244,7 +244,7 @@ runs_loop_starts job first _ {start} some run_key_is was = record {
   some = some;
 }
 
-module _ {job : Uniq} {first block rest : List ℕ} {start count : ℕ} {line : Option Span} {pending : Span}
+module _ {job : Uniq} {first block rest : List ℕ} {start count : ℕ} {line : Option BlockRange} {pending : BlockRange}
     {run_key : List ℕ} {was is : Output}
     (so_far : RunsInvariant job first block rest start count line pending run_key was is) where
   pub runs_loop_few : count + length rest ≤ start + length block
@@ -280,7 +280,7 @@ module _ {job : Uniq} {first block rest : List ℕ} {start count : ℕ} {line : 
           (so_far.passed ++ current_run run)
       steps = steps_next so_far.steps (take at rest) (test is_false)
 
-      pub runs_loop_next : {is' : Output} {now : Span}
+      pub runs_loop_next : {is' : Output} {now : BlockRange}
           → IsPending (span_of block pending ++ run_text job run) block now is is'
           → {from to : ℕ} → from ≡ to - at - 1 → to ≡ length block - length (drop (at + 1) rest)
           → RunsInvariant job first block (drop (at + 1) rest) start 1 (Some (record { from = from; to = to })) now next
@@ -339,7 +339,7 @@ line_ends : (end : ℕ) (l more : List ℕ) → IsLine end l
     → IsFirstByte (is_byte end) ((l ++ end ∷ []) ++ more) (Some (length l))
 line_ends end l more whole = grind usual
 
-module _ {job : Uniq} {first block : List ℕ} {start : ℕ} {line : Option Span} {pending : Span} {run_key : List ℕ}
+module _ {job : Uniq} {first block : List ℕ} {start : ℕ} {line : Option BlockRange} {pending : BlockRange} {run_key : List ℕ}
     {was is : Output} (l : List ℕ) (whole : IsLine job.terminator l) (key_is : run_key ≡ key job l) where
   counted_once : (more : List ℕ) {count : ℕ}
       → RunsInvariant job first block ((l ++ job.terminator ∷ []) ++ more) start count line pending run_key was is
@@ -355,7 +355,7 @@ module _ {job : Uniq} {first block : List ℕ} {start : ℕ} {line : Option Span
       let once = counted_once _ (rw (append_assoc bytes (repeated n bytes) rest) at so_far) in
       grind (arith, runs_loop_again n _ once)
 
-pub runs_loop_repeats : {job : Uniq} {first block rest : List ℕ} {start count : ℕ} {line : Option Span} {pending : Span}
+pub runs_loop_repeats : {job : Uniq} {first block rest : List ℕ} {start count : ℕ} {line : Option BlockRange} {pending : BlockRange}
     {run_key : List ℕ} {was is : Output}
     → RunsInvariant job first block rest start count line pending run_key was is → {at : ℕ}
     → IsFirstByte (is_byte job.terminator) rest (Some at) → {next : List ℕ} {same : Bool}

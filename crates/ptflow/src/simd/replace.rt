@@ -40,6 +40,13 @@ pub(crate) struct Cycle {
     ghost is_unrolled: { IsUnrolled len unrolled },
 }
 
+// A position in a copy: how many bytes were copied, and the index of the next byte of the cycle.
+#[derive(Clone, Copy)]
+struct CyclePosition {
+    copied: usize,
+    next: usize,
+}
+
 impl Cycle {
     ghost use Rattle.ptflow.specs.Private.Paste.Replaced.{IsReplacedTo, cycle_byte, with_replacements};
 
@@ -112,7 +119,8 @@ impl Cycle {
             map_bytes(ReplaceTerminator { terminator, byte }, from, to);
             return 0;
         }
-        let (mut index, mut at) = self.replace_chunks(index, from, to);
+        let chunks = self.replace_chunks(index, from, to);
+        let (mut index, mut at) = (chunks.next, chunks.copied);
         while at < from.len() {
             to[at] = from[at];
             if from[at] == terminator {
@@ -124,19 +132,21 @@ impl Cycle {
         index
     }
 
-    // Like `replace`, for all chunks of 64 bytes. Returns the index of the next byte of the cycle, and how many bytes
-    // were copied.
+    // Like `replace`, for all chunks of 64 bytes.
     #[inline(always)]
-    fn replace_chunks(&self, mut index: usize, from: &[u8], to: &mut [u8]) -> (usize, usize)
+    fn replace_chunks(&self, mut index: usize, from: &[u8], to: &mut [u8]) -> CyclePosition
         requires index { index < self.now.len }
         requires same { length to.old ≡ length from.now }
-        ensures { IsReplacedTo self.now index result.0 result.1 from.now to.new }
+        ensures { IsReplacedTo self.now index result.next result.copied from.now to.new }
     {
         let mut at = 0;
         while from.len() - at >= 64 {
             index = self.replace_chunk(index, from, at, to);
             at += 64;
         }
-        (index, at)
+        CyclePosition {
+            copied: at,
+            next: index,
+        }
     }
 }

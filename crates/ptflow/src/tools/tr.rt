@@ -7,7 +7,7 @@ ghost use Rattle.ptlangs.specs.TrTables.{byte_map_of, deletes, image, squeezes};
 ghost use Rattle.ptflow.specs.Calls.Passes.{PassPre, StorelessPost, no_store};
 ghost use Rattle.ptflow.specs.TrOutput.{tr_tool};
 ghost use Rattle.ptflow.specs.Private.Tr.MapKinds.{IsMapKind, IsMapKind-prop};
-ghost use Rattle.ptflow.specs.Private.Tr.TrFrom.{IsRemoved, IsRemoved-prop, squeeze_from};
+ghost use Rattle.ptflow.specs.Private.Tr.TrFrom.{IsFilterSet, IsFilterSet-prop, squeeze_from};
 
 mod map_kind;
 
@@ -26,27 +26,27 @@ use ptlines::{BLOCK, LineReader, Out, PADDED, PaddedBlock, Sink, Source, WriteFa
 #[derive(Drop)]
 struct Translation<'a> {
     plan: &'a CharPlan,
-    deleting: Removed,
+    deleting: FilterSet,
     map_kind: MapKind,
-    squeezing: Removed,
+    squeezing: FilterSet,
     table: CompressTable,
-    ghost is_deleting: { IsRemoved deleting plan.now.deleted } by { IsRemoved-prop deleting plan.now.deleted },
+    ghost is_deleting: { IsFilterSet deleting plan.now.deleted } by { IsFilterSet-prop deleting plan.now.deleted },
     ghost is_map_kind: { IsMapKind map_kind plan.now.images } by { IsMapKind-prop map_kind plan.now.images },
-    ghost is_squeezing: { IsRemoved squeezing plan.now.squeezed } by { IsRemoved-prop squeezing plan.now.squeezed },
+    ghost is_squeezing: { IsFilterSet squeezing plan.now.squeezed } by { IsFilterSet-prop squeezing plan.now.squeezed },
 }
 
-// The bytes that a pass removes, or of which it removes repeats.
+// The set of the bytes that a pass removes, or of which it removes repeats.
 #[derive(Clone, Copy)]
-enum Removed {
-    Nothing,
+enum FilterSet {
+    Empty,
     Byte(OneByte),
-    Set(ByteSet),
+    Bytes(ByteSet),
 }
 
-impl Removed {
-    // The bytes whose flag is set.
-    fn of(flags: &[bool; 256]) -> Removed
-        ensures { IsRemoved result flags.now }
+impl FilterSet {
+    // The set of the bytes whose flag is set.
+    fn of(flags: &[bool; 256]) -> FilterSet
+        ensures { IsFilterSet result flags.now }
     {
         let mut count: usize = 0;
         let mut last = 0;
@@ -57,9 +57,9 @@ impl Removed {
             }
         }
         match count {
-            0 => Removed::Nothing,
-            1 => Removed::Byte(OneByte { byte: last as u8 }),
-            _ => Removed::Set(ByteSet::of(flags)),
+            0 => FilterSet::Empty,
+            1 => FilterSet::Byte(OneByte { byte: last as u8 }),
+            _ => FilterSet::Bytes(ByteSet::of(flags)),
         }
     }
 }
@@ -70,9 +70,9 @@ impl<'a> Translation<'a> {
     {
         Translation {
             plan,
-            deleting: Removed::of(plan.deleted()),
+            deleting: FilterSet::of(plan.deleted()),
             map_kind: MapKind::of(plan),
-            squeezing: Removed::of(plan.squeezed()),
+            squeezing: FilterSet::of(plan.squeezed()),
             table: CompressTable::new(),
         }
     }
@@ -86,9 +86,9 @@ impl<'a> Translation<'a> {
     {
         let table = &self.table;
         match self.deleting {
-            Removed::Nothing => block,
-            Removed::Byte(set) => remove(&Filter { set, table }, block, into),
-            Removed::Set(set) => remove(&Filter { set, table }, block, into),
+            FilterSet::Empty => block,
+            FilterSet::Byte(set) => remove(&Filter { set, table }, block, into),
+            FilterSet::Bytes(set) => remove(&Filter { set, table }, block, into),
         }
     }
 
@@ -115,9 +115,9 @@ impl<'a> Translation<'a> {
     {
         let table = &self.table;
         match self.squeezing {
-            Removed::Nothing => bytes,
-            Removed::Byte(set) => squeeze(&Filter { set, table }, last, bytes, into),
-            Removed::Set(set) => squeeze(&Filter { set, table }, last, bytes, into),
+            FilterSet::Empty => bytes,
+            FilterSet::Byte(set) => squeeze(&Filter { set, table }, last, bytes, into),
+            FilterSet::Bytes(set) => squeeze(&Filter { set, table }, last, bytes, into),
         }
     }
 }

@@ -5,6 +5,7 @@ use Rattle.ptlangs.specs.CutLists.{is_selected}
 use Rattle.ptflow.specs.Cuts.{select_from}
 use Rattle.ptflow.specs.Private.Cut.FieldOffsets.{IsFieldOffset, fields, prefixed_fields}
 use Rattle.ptflow.specs.declared.tools.cut.fields.FieldCursor.{FieldCursor}
+use Rattle.ptflow.specs.declared.tools.cut.fields.LineSlice.{LineSlice}
 
 -- the output that is left from the cursor on: the fields that its intervals select
 abbrev pub output_from_cursor : ℕ → List ℕ → FieldCursor → List ℕ
@@ -18,11 +19,11 @@ pub record IsFieldCursor (delimiter : ℕ) (line : List ℕ) (cursor : FieldCurs
   pub apart : AreSeparated (cursor.passed + min cursor.passed 1) cursor.left.now
 
 -- the output that is left begins with this slice
-pub record IsNextSlice (delimiter : ℕ) (line : List ℕ) (cursor : FieldCursor) (start end : ℕ) (next : FieldCursor)
+pub record IsNextSlice (delimiter : ℕ) (line : List ℕ) (cursor : FieldCursor) (slice : LineSlice) (next : FieldCursor)
     : Type 0 where
-  pub output : output_from_cursor delimiter line cursor ≡ take (end - start) (drop start line)
+  pub output : output_from_cursor delimiter line cursor ≡ take (slice.end - slice.start) (drop slice.start line)
       ++ output_from_cursor delimiter line next
-  pub order : start ≤ end
-  pub within : end ≤ length line
+  pub order : slice.start ≤ slice.end
+  pub within : slice.end ≤ length line
   pub moved : IsFieldCursor delimiter line next
   pub later : length next.left.now < length cursor.left.now

@@ -3,8 +3,8 @@ use Rattle.std.specs.Prelude.{◌≡◌, ◌<◌, ℕ, List, Bool, false, Option
 use Rattle.std.proofs.Props.{props}
 use Rattle.ptlangs.specs.TrPlan.{ByteMap}
 use Rattle.memchr.specs.Find.{is_byte}
-use Rattle.ptflow.specs.declared.tools.tr.Removed.{Removed}
-use Rattle.ptflow.specs.declared.tools.tr.Removed.TheVariants.{Nothing, Byte, Set}
+use Rattle.ptflow.specs.declared.tools.tr.FilterSet.{FilterSet}
+use Rattle.ptflow.specs.declared.tools.tr.FilterSet.TheVariants.{Empty, Byte, Bytes}
 use Rattle.ptflow.specs.TrOutput.{squeeze_after, squeeze, translation}
 use Rattle.ptflow.specs.Private.Vectors.ByteSets.{IsSetOf}
 
@@ -17,14 +17,14 @@ squeeze_from squeezed (Some last) bytes = squeeze_after squeezed last bytes
 abbrev pub tr_from : ByteMap → Option ℕ → List ℕ → List ℕ
 tr_from m last rest = squeeze_from m.squeezes last (translation m rest)
 
--- the bytes whose flag is set are those that are removed
-abbrev pub IsRemoved : Removed → List Bool → Type 0
-IsRemoved Nothing flags = (b : ℕ) → slice_index_or flags b false ≡ false
-IsRemoved (Byte one) flags = (b : ℕ) → b < 256 → is_byte one.byte b ≡ slice_index_or flags b false
-IsRemoved (Set set) flags = IsSetOf set flags
+-- the set of the bytes whose flag is set
+abbrev pub IsFilterSet : FilterSet → List Bool → Type 0
+IsFilterSet Empty flags = (b : ℕ) → slice_index_or flags b false ≡ false
+IsFilterSet (Byte one) flags = (b : ℕ) → b < 256 → is_byte one.byte b ≡ slice_index_or flags b false
+IsFilterSet (Bytes set) flags = IsSetOf set flags
 
--- two proofs of `IsRemoved` are equal, as a ghost field requires
-pub IsRemoved-prop : (removed : Removed) (flags : List Bool) → IsProp (IsRemoved removed flags)
-IsRemoved-prop Nothing flags = Prim.hlevel props
-IsRemoved-prop (Byte one) flags = Prim.hlevel props
-IsRemoved-prop (Set set) flags = Prim.hlevel props
+-- two proofs of `IsFilterSet` are equal, as a ghost field requires
+pub IsFilterSet-prop : (set : FilterSet) (flags : List Bool) → IsProp (IsFilterSet set flags)
+IsFilterSet-prop Empty flags = Prim.hlevel props
+IsFilterSet-prop (Byte one) flags = Prim.hlevel props
+IsFilterSet-prop (Bytes set) flags = Prim.hlevel props

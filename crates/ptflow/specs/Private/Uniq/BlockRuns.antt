@@ -6,7 +6,7 @@ use Rattle.ptlangs.specs.Jobs.{Uniq}
 use Rattle.ptflow.specs.Uniqs.{Run, output_of}
 use Rattle.ptflow.specs.Private.Passes.LineLoop.{LinesWritten, LinesFailed}
 use Rattle.ptflow.specs.Private.Uniq.RunsFrom.{count_of, runs_after}
-use Rattle.ptflow.specs.declared.tools.uniq.block_runs.Span.{Span}
+use Rattle.ptflow.specs.declared.tools.uniq.block_runs.BlockRange.{BlockRange}
 
 -- these lines were processed: some runs were written, and the current run is `after`
 abbrev pub RunsWritten : Uniq → Run → Run → List (List ℕ) → Output → Output → Type 0
@@ -22,33 +22,33 @@ repeated zero bytes = []
 repeated (suc n) bytes = bytes ++ repeated n bytes
 
 -- the bytes of a range
-abbrev pub span_of : List ℕ → Span → List ℕ
+abbrev pub span_of : List ℕ → BlockRange → List ℕ
 span_of block span = slice_range block span.from span.to
 
 -- the range is in the block
-pub record IsSpan (block : List ℕ) (span : Span) : Type 0 where
+pub record IsSpan (block : List ℕ) (span : BlockRange) : Type 0 where
   pub ordered : span.from ≤ span.to
   pub within : span.to ≤ length block
 
 -- the first line of a run, which is before a block or, with its terminator, in this range of it
-abbrev pub first_of : List ℕ → List ℕ → Option Span → List ℕ
+abbrev pub first_of : List ℕ → List ℕ → Option BlockRange → List ℕ
 first_of first block None = first
 first_of first block (Some line) = slice_range block line.from (line.to - 1)
 
 -- the range of a line with its terminator
-pub record IsLineSpan (end : ℕ) (block : List ℕ) (line : Span) : Type 0 where
+pub record IsLineSpan (end : ℕ) (block : List ℕ) (line : BlockRange) : Type 0 where
   pub some : line.from < line.to
   pub within : line.to ≤ length block
   pub text : span_of block line ≡ slice_range block line.from (line.to - 1) ++ end ∷ []
 
 -- The deferred output is in the block. There is none if the first line of the run is before the block.
-pub record EndRunPre (end : ℕ) (block : List ℕ) (line : Option Span) (pending : Span) : Type 0 where
+pub record EndRunPre (end : ℕ) (block : List ℕ) (line : Option BlockRange) (pending : BlockRange) : Type 0 where
   pub pending_in : IsSpan block pending
   pub line_in : IfSome line (IsLineSpan end block)
   pub none : line ≡ None → span_of block pending ≡ []
 
 -- Some of these bytes were pushed, and the others are this range of the block.
-pub record IsPending (bytes block : List ℕ) (pending : Span) (was is : Output) : Type 0 where
+pub record IsPending (bytes block : List ℕ) (pending : BlockRange) (was is : Output) : Type 0 where
   pub pushed : List ℕ
   pub wrote : PushEffect was is pushed
   pub all : pushed ++ span_of block pending ≡ bytes

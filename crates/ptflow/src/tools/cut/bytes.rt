@@ -36,6 +36,13 @@ struct Line {
     at: usize,
 }
 
+// The end of a block: the index after its output, and how many bytes of its unfinished last line were read.
+#[derive(Clone, Copy)]
+struct BlockEnd {
+    at: usize,
+    line_offset: u64,
+}
+
 impl Selection<'_> {
     // Copies the selected bytes among the first `count` bytes of a line. Returns the index after the copied bytes. Out
     // of line, to keep registers free in the copy of most lines (`cut -c 2-4`: 3.4 for 4.6 a byte).
@@ -175,15 +182,14 @@ impl Selection<'_> {
         line
     }
 
-    // Copies the output of the last bytes of a block, from the start of a line on. Returns the index after the output,
-    // and how many bytes of the unfinished last line were read.
-    fn cut_tail(&self, block: &[u8], line: Line, into: &mut PaddedBlock) -> (usize, u64)
+    // Copies the output of the last bytes of a block, from the start of a line on.
+    fn cut_tail(&self, block: &[u8], line: Line, into: &mut PaddedBlock) -> BlockEnd
         requires start { (line.at ≤ line.start) × (line.start ≤ length block.now) }
         requires room { HasRoom line.line_offset 0 (length block.now) }
         ensures cut { ExtendsCut self.now.terminator self.now.selected.now line.line_offset (drop line.start block.now)
-            (take line.at into.old) result.1 [] (take result.0 into.new) }
-        ensures near { result.0 ≤ length block.now }
-        ensures bound { result.1 ≤ line.line_offset + length block.now }
+            (take line.at into.old) result.line_offset [] (take result.at into.new) }
+        ensures near { result.at ≤ length block.now }
+        ensures bound { result.line_offset ≤ line.line_offset + length block.now }
     {
         let mut line = line;
         'lines: while let Some(count) = find_byte(self.terminator, &block[line.start..]) {
@@ -194,18 +200,18 @@ impl Selection<'_> {
             line.at = end + 1;
         }
         let count = block.len() - line.start;
-        let end = self.copy_selected(block, line, count, into);
-        (end, line.line_offset + count as u64)
+        let at = self.copy_selected(block, line, count, into);
+        let line_offset = line.line_offset + count as u64;
+        BlockEnd { at, line_offset }
     }
 
-    // Copies the output of a block. The first line begins `line_offset` bytes before it. Returns the index after the
-    // output, and how many bytes of the unfinished last line were read.
-    fn cut_block(&self, line_offset: u64, block: &[u8], into: &mut PaddedBlock) -> (usize, u64)
+    // Copies the output of a block. The first line begins `line_offset` bytes before it.
+    fn cut_block(&self, line_offset: u64, block: &[u8], into: &mut PaddedBlock) -> BlockEnd
         requires { HasRoom line_offset 0 (length block.now) }
-        ensures cut { IsCutPart self.now.terminator self.now.selected.now line_offset block.now result.1 []
-            (take result.0 into.new) }
-        ensures near { result.0 ≤ length block.now }
-        ensures bound { result.1 ≤ line_offset + length block.now }
+        ensures cut { IsCutPart self.now.terminator self.now.selected.now line_offset block.now
+            result.line_offset [] (take result.at into.new) }
+        ensures near { result.at ≤ length block.now }
+        ensures bound { result.line_offset ≤ line_offset + length block.now }
     {
         let mut line = Line {
             start: 0,
@@ -262,9 +268,9 @@ impl<'a> BlockFilter for ByteCut<'a> {
     ghost IsUnchanged = { λ s t. (t.by.selected.now ≡ s.by.selected.now) × (t.by.terminator ≡ s.by.terminator) };
 
     fn process_block<W: Sink>(&mut self, block: &[u8], out: &mut Out<W>) -> Result<(), WriteFault> {
-        let (count, line_offset) = self.by.cut_block(self.line_offset, block, &mut self.buffer);
-        out.push(&self.buffer[..count])?;
-        self.line_offset = line_offset;
+        let end = self.by.cut_block(self.line_offset, block, &mut self.buffer);
+        out.push(&self.buffer[..end.at])?;
+        self.line_offset = end.line_offset;
         Ok(())
     }
 

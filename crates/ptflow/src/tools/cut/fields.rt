@@ -36,6 +36,13 @@ fn skip_fields(delimiters: &ByteMatches, from: usize, to: usize, count: u64) -> 
     }
 }
 
+// A slice of a line: the index of its first byte, and the index after its last one.
+#[derive(Clone, Copy)]
+struct LineSlice {
+    start: usize,
+    end: usize,
+}
+
 // The rest of the output for a line: the fields that these intervals select. The field after the first `passed`
 // ones starts at index `at` of the line; if there is no such field, `at` is after its end.
 #[derive(Clone, Copy)]
@@ -60,17 +67,15 @@ impl<'a> FieldCursor<'a> {
         }
     }
 
-    // The start and the end of the next slice of the output for a line, which is the first `to` bytes: of adjacent
-    // selected fields, with the delimiter before them if they are not the first. The cursor moves after them. `None` if
-    // no field is left.
+    // The next slice of the output for a line, which is the first `to` bytes: adjacent selected fields, with the
+    // delimiter before them if they are not the first. The cursor moves after them. `None` if no field is left.
     #[inline(always)]
-    fn next_slice(&mut self, delimiters: &ByteMatches, to: usize) -> Option<(usize, usize)>
+    fn next_slice(&mut self, delimiters: &ByteMatches, to: usize) -> Option<LineSlice>
         requires within { to ≤ length delimiters.now.bytes.now }
         requires cursor { IsFieldCursor delimiters.now.byte (take to delimiters.now.bytes.now) self.old }
         ensures { MatchOption result
             (output_from_cursor delimiters.now.byte (take to delimiters.now.bytes.now) self.old ≡ [])
-            (λ (start, end). IsNextSlice delimiters.now.byte (take to delimiters.now.bytes.now) self.old start end
-            self.new) }
+            (λ slice. IsNextSlice delimiters.now.byte (take to delimiters.now.bytes.now) self.old slice self.new) }
     {
         if self.left.is_empty() || self.at > to {
             return None;
@@ -84,7 +89,8 @@ impl<'a> FieldCursor<'a> {
         self.at = skip_fields(delimiters, from, to, last - first + 1);
         self.passed = last;
         self.left = &self.left[1..];
-        Some((start, self.at - 1))
+        let end = self.at - 1;
+        Some(LineSlice { start, end })
     }
 }
 
@@ -101,8 +107,8 @@ fn write_fields<A: Allocator + Copy, W: Sink>(
 {
     let line = delimiters.bytes;
     let mut cursor = FieldCursor::new(job.list.intervals());
-    'slices: while let Some((start, end)) = cursor.next_slice(delimiters, line.len()) {
-        out.push(&line[start..end])?;
+    'slices: while let Some(slice) = cursor.next_slice(delimiters, line.len()) {
+        out.push(&line[slice.start..slice.end])?;
     }
     Ok(())
 }
@@ -179,9 +185,9 @@ fn copy_fields<A: Allocator + Copy>(
     let bytes = delimiters.bytes;
     let mut cursor = FieldCursor::new(job.list.intervals());
     let mut end = start;
-    'slices: while let Some((first, last)) = cursor.next_slice(delimiters, to) {
-        copy_short(bytes, first, last, room, end);
-        end += last - first;
+    'slices: while let Some(slice) = cursor.next_slice(delimiters, to) {
+        copy_short(bytes, slice.start, slice.end, room, end);
+        end += slice.end - slice.start;
     }
     room[end] = bytes[to];
     end + 1
@@ -203,9 +209,15 @@ fn whole_lines_len(terminator: u8, bytes: &[u8], to: usize, up_to: usize) -> usi
     }
 }
 
+// The lines that were copied to a buffer: their length in the block, and the index after their output.
+#[derive(Clone, Copy)]
+struct CopiedLines {
+    len: usize,
+    end: usize,
+}
+
 // Copies the output of the first lines to index `start` of `room`: of the first line, which ends at `to`, or, if the
-// delimiter is not in it, of all complete lines before the first delimiter. Returns the length of these lines, and the
-// index after their output.
+// delimiter is not in it, of all complete lines before the first delimiter.
 #[inline(always)]
 fn copy_lines<A: Allocator + Copy>(
     by: &FieldSelection<A>,
@@ -213,26 +225,28 @@ fn copy_lines<A: Allocator + Copy>(
     bytes: &[u8],
     room: &mut [u8],
     start: usize,
-) -> (usize, usize)
+) -> CopiedLines
     requires first { IsFirstByte (is_byte by.now.terminator) bytes.now (Some to) }
     requires room { start + length bytes.now + 16 ≤ length room.old }
     ensures long { length room.new ≡ length room.old }
-    ensures put { CopyLinesPost (cut_job by.now.job.now) by.now.terminator bytes.now result.0
-        (take start room.old) (take result.1 room.new) }
-    ensures end { (start ≤ result.1) × (result.1 ≤ start + result.0) }
+    ensures put { CopyLinesPost (cut_job by.now.job.now) by.now.terminator bytes.now result.len
+        (take start room.old) (take result.end room.new) }
+    ensures end { (start ≤ result.end) × (result.end ≤ start + result.len) }
 {
     let FieldSelection { job, terminator } = *by;
     let delimiters = ByteMatches::new(job.delim, bytes);
     let first = delimiters.first().unwrap_or(bytes.len());
     if first < to {
-        return (to + 1, copy_fields(job, &delimiters, to, room, start));
+        let end = copy_fields(job, &delimiters, to, room, start);
+        return CopiedLines { len: to + 1, end };
     }
-    let size = whole_lines_len(terminator, bytes, to, first);
+    let len = whole_lines_len(terminator, bytes, to, first);
     if job.only {
-        return (size, start);
+        return CopiedLines { len, end: start };
     }
-    copy_short(bytes, 0, size, room, start);
-    (size, start + size)
+    copy_short(bytes, 0, len, room, start);
+    let end = start + len;
+    CopiedLines { len, end }
 }
 
 impl<'a, A: Allocator + Copy> LineFilter for FieldCut<'a, A> {
@@ -286,9 +300,9 @@ impl<'a, A: Allocator + Copy> LineFilter for FieldCut<'a, A> {
         let mut end = 0;
         let mut rest = block;
         'lines: while let Some(to) = ByteMatches::new(by.terminator, rest).first() {
-            let (size, put) = copy_lines(&by, to, rest, &mut self.buffer, end);
-            rest = &rest[size..];
-            end = put;
+            let copied = copy_lines(&by, to, rest, &mut self.buffer, end);
+            rest = &rest[copied.len..];
+            end = copied.end;
         }
         out.push(&self.buffer[..end])?;
         Ok(block.len() - rest.len())

@@ -49,7 +49,7 @@ fn flush_with_count<W: Sink>(
 
 // A range of a block: the index of its first byte, and the index after its last one.
 #[derive(Clone, Copy)]
-pub(crate) struct Span {
+pub(crate) struct BlockRange {
     pub from: usize,
     pub to: usize,
 }
@@ -59,7 +59,7 @@ pub(crate) struct Span {
 #[derive(Clone, Copy)]
 pub(crate) struct BlockRun {
     pub count: u64,
-    pub line: Option<Span>,
+    pub line: Option<BlockRange>,
 }
 
 // The last run of the lines of a block, and the length of all lines.
@@ -69,12 +69,19 @@ pub(crate) struct LastRun {
     pub len: usize,
 }
 
-// Skips the lines that repeat the line at the start of `bytes`, which has `len` bytes with its terminator. Returns how
-// many there are, and the bytes after them. A line of at most 16 bytes takes one comparison; repeats of a longer line are
-// not found, nor those that start among the last 15 bytes.
-fn skip_repeats(bytes: &[u8], len: usize) -> (u64, &[u8])
+// The lines that repeat the one before them: how many there are, and the bytes after them.
+#[derive(Clone, Copy)]
+struct Repeats<'a> {
+    count: u64,
+    rest: &'a [u8],
+}
+
+// Skips the lines that repeat the line at the start of `bytes`, which has `len` bytes with its terminator. A line of
+// at most 16 bytes takes one comparison; repeats of a longer line are not found, nor those that start among the last 15
+// bytes.
+fn skip_repeats(bytes: &[u8], len: usize) -> Repeats
     requires { (0 < len) × (len ≤ length bytes.now) }
-    ensures { drop len bytes.now ≡ repeated result.0 (take len bytes.now) ++ result.1.now }
+    ensures { drop len bytes.now ≡ repeated result.count (take len bytes.now) ++ result.rest.now }
 {
     let mut count = 0;
     let mut rest = &bytes[len..];
@@ -82,7 +89,7 @@ fn skip_repeats(bytes: &[u8], len: usize) -> (u64, &[u8])
         count += 1;
         rest = &rest[len..];
     }
-    (count, rest)
+    Repeats { count, rest }
 }
 
 // Writes runs, by the options of a job.
@@ -120,9 +127,9 @@ impl RunWriter<'_> {
         run: BlockRun,
         first: &[u8],
         block: &[u8],
-        pending: Span,
+        pending: BlockRange,
         out: &mut Out<W>,
-    ) -> Result<Span, WriteFault>
+    ) -> Result<BlockRange, WriteFault>
         requires { EndRunPre (uniq_job self.now.job.now).terminator block.now run.line pending }
         ensures waits { IfOk result (λ now. IsPending (span_of block.now pending
             ++ run_text (uniq_job self.now.job.now) (run_of (first_of first.now block.now run.line) run.count))
@@ -141,7 +148,7 @@ impl RunWriter<'_> {
             return Ok(pending);
         }
         if show != Show::Counts && pending.to == line.from {
-            return Ok(Span {
+            return Ok(BlockRange {
                 from: pending.from,
                 to: line.to,
             });
@@ -174,22 +181,22 @@ impl RunWriter<'_> {
         let size = block.len();
         let mut count = carried;
         let mut line = None;
-        let mut pending = Span { from: 0, to: 0 };
+        let mut pending = BlockRange { from: 0, to: 0 };
         let mut run_key = key(job, first, first.len());
         let mut rest = block;
         'lines: while let Some(at) = find_line_end(terminator, rest) {
             let next = key(job, rest, at);
             if is_equal(run_key, next) {
-                let (repeats, left) = skip_repeats(rest, at + 1);
-                count += 1 + repeats;
-                rest = left;
+                let repeats = skip_repeats(rest, at + 1);
+                count += 1 + repeats.count;
+                rest = repeats.rest;
             } else {
                 rest = &rest[at + 1..];
                 let ended = BlockRun { count, line };
                 pending = self.end_run(ended, first, block, pending, out)?;
                 let to = size - rest.len();
                 let from = to - at - 1;
-                line = Some(Span { from, to });
+                line = Some(BlockRange { from, to });
                 run_key = next;
                 count = 1;
             }

@@ -45,27 +45,27 @@ fn skip_fields_short(fields: u64, line: &[u8]) -> &[u8]
     rest
 }
 
-// The mask of the blanks among the 16 bytes at index `at`: bit `i` is set if the byte at `at + i` is one.
+// The mask of the blanks among the 32 bytes at index `at`: bit `i` is set if the byte at `at + i` is one.
 #[inline(always)]
 fn blank_mask(bytes: &[u8], at: usize) -> u64
-    requires { at + 16 ≤ length bytes.now }
-    ensures { result ≡ mask_l (map is_blank (chunk at 16 bytes.now)) }
+    requires { at + 32 ≤ length bytes.now }
+    ensures { result ≡ mask_l (map is_blank (chunk at 32 bytes.now)) }
 {
-    let v = u8x16::from_slice(&bytes[at..]);
-    (v.simd_eq(u8x16::splat(b' ')) | v.simd_eq(u8x16::splat(b'\t'))).to_bitmask()
+    let v = u8x32::from_slice(&bytes[at..]);
+    (v.simd_eq(u8x32::splat(b' ')) | v.simd_eq(u8x32::splat(b'\t'))).to_bitmask()
 }
 
-// The mask of the field ends among the 15 bytes at index `at`: each is not a blank, but the byte after it is.
+// The mask of the field ends among the 31 bytes at index `at`: each is not a blank, but the byte after it is.
 #[inline(always)]
 fn field_ends(bytes: &[u8], at: usize) -> u64
-    requires { at + 16 ≤ length bytes.now }
-    ensures { result ≡ mask_l (field_ends 15 (drop at bytes.now)) }
+    requires { at + 32 ≤ length bytes.now }
+    ensures { result ≡ mask_l (field_ends 31 (drop at bytes.now)) }
 {
     let blanks = blank_mask(bytes, at);
-    (0xffff - blanks) & blanks >> 1
+    (0xffff_ffff - blanks) & blanks >> 1
 }
 
-// Skips `fields` fields of the line `bytes[..to]`, 15 bytes at a time. May read bytes after the line.
+// Skips `fields` fields of the line `bytes[..to]`, 31 bytes at a time. May read bytes after the line.
 fn skip_fields_cold(fields: u64, bytes: &[u8], to: usize) -> &[u8]
     requires some { 0 < fields }
     requires within { to ≤ length bytes.now }
@@ -73,7 +73,7 @@ fn skip_fields_cold(fields: u64, bytes: &[u8], to: usize) -> &[u8]
 {
     let mut at = 0;
     let mut left = fields;
-    while at < to && bytes.len() - at >= 16 {
+    while at < to && bytes.len() - at >= 32 {
         let ends = field_ends(bytes, at);
         let count = u64::from(ends.count_ones());
         if left <= count {
@@ -81,7 +81,7 @@ fn skip_fields_cold(fields: u64, bytes: &[u8], to: usize) -> &[u8]
             return &bytes[(end + 1).min(to)..to];
         }
         left -= count;
-        at += 15;
+        at += 31;
     }
     skip_fields_short(left, &bytes[at.min(to)..to])
 }

@@ -23,21 +23,22 @@ decided : (t : Bool) {P Q : Type 0} → (t ≡ true → P) → (t ≡ false → 
 decided true positive negative = positive refl
 decided false positive negative = negative refl
 
-compared : (at : ℕ) (a b xs ys : List ℕ) → xs ≡ take 16 (drop at a) → ys ≡ take 16 (drop at b)
-    → length xs ≡ 16 → length ys ≡ 16
+compared : (n at : ℕ) (a b xs ys : List ℕ) → xs ≡ take n (drop at a) → ys ≡ take n (drop at b)
+    → length xs ≡ n → length ys ≡ n
     → MatchBool (eqb (mask_l (zip2 differ xs ys)) 0) (xs ≡ ys) (a ≡ b → ⊥)
-compared at a b xs ys is also long too =
+compared n at a b xs ys is also long too =
     decided _ (λ is_zero. equal_if_no_bit xs ys (long ∙ sym too) (eqb-true _ _ is_zero))
     (λ is_not same. eqb-false _ _ is_not (ap (λ zs. mask_l (zip2 differ xs zs)) (cc) ∙ no_bit_if_equal xs))
 
 pub returns : goal.returns
-returns c =
+returns g c =
+    let n = g.row.N in
     let at = c.args.at in
-    let xs = take 16 (drop at c.args.a.now) in
-    let ys = take 16 (drop at c.args.b.now) in
-    let long : length xs ≡ 16 = length-take-le 16 _ (omega (arith, length-drop at c.args.a.now)) in
-    let also_long : length ys ≡ 16 = length-take-le 16 _ (omega (arith, length-drop at c.args.b.now)) in
+    let xs = take n (drop at c.args.a.now) in
+    let ys = take n (drop at c.args.b.now) in
+    let long : length xs ≡ n = length-take-le n _ (omega (arith, length-drop at c.args.a.now)) in
+    let also_long : length ys ≡ n = length-take-le n _ (omega (arith, length-drop at c.args.b.now)) in
     let lanes = zip2 differ xs ys in
-    let sixteen = length-zip2 differ xs ys (cc) ∙ long in
-    rw (tops_compared w8 differ xs ys, mask_l-mod lanes 64 (omega (arith, sixteen)))
-    (compared at c.args.a.now c.args.b.now xs ys refl refl long also_long)
+    let size = length-zip2 differ xs ys (cc) ∙ long in
+    rw (tops_compared w8 differ xs ys, mask_l-mod lanes 64 (omega (arith, size)))
+    (compared n at c.args.a.now c.args.b.now xs ys refl refl long also_long)

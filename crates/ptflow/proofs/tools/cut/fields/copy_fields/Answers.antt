@@ -23,16 +23,16 @@ slices-init g c =
     }
 
 slice_near : (g : given.Over) (c : In-Some g)
-    → c.slices.end + (c.in-Some.last - c.in-Some.first) ≤ c.args.start + c.args.to
+    → c.slices.end + (c.in-Some.slice.end - c.in-Some.slice.start) ≤ c.args.start + c.args.to
 slice_near g c =
     let job = cut_job c.args.job.now in
     let line = take c.args.to c.args.delimiters.now.bytes.now in
-    let first = c.in-Some.first in
+    let first = c.in-Some.slice.start in
     let next = c.in-Some.ensures in
     let loop = c.slices in
-    let part = take (c.in-Some.last - first) (drop first line) in
+    let part = take (c.in-Some.slice.end - first) (drop first line) in
     let long = length-take-le c.args.to c.args.delimiters.now.bytes.now (omega arith) in
-    let size = length-take-le (c.in-Some.last - first) (drop first line) (omega (arith, length-drop first line)) in
+    let size = length-take-le (c.in-Some.slice.end - first) (drop first line) (omega (arith, length-drop first line)) in
     let rest = output_from_cursor c.args.delimiters.now.byte line c.next_slice.new.self in
     let near = output_is_near c.args.start loop.end c.args.room.now loop.room (cut_fields job line) part rest
     (cc next.output) (omega arith) (omega arith) in
@@ -42,10 +42,10 @@ pub slices-preserved : goal.slices-preserved
 slices-preserved g c =
     let to = c.args.to in
     let bytes = c.args.delimiters.now.bytes.now in
-    let first = c.in-Some.first in
+    let first = c.in-Some.slice.start in
     let next = c.in-Some.ensures in
     let loop = c.slices in
-    let size = c.in-Some.last - first in
+    let size = c.in-Some.slice.end - first in
     let long = length-take-le to bytes (omega arith) in
     let rest = output_from_cursor c.args.delimiters.now.byte (take to bytes) c.next_slice.new.self in
     record {

@@ -12,7 +12,7 @@ returns-then-first-to-clause-put g c =
 pub returns-then-job-clause-put : goal.returns-then-job-clause-put
 returns-then-job-clause-put g c =
     let bytes = c.args.bytes.now in
-    let size = c.whole_lines_len-size in
+    let size = c.whole_lines_len-len in
     let of = c.new-delimiters.ensures in
     let free = rw (← c.unwrap_or-first.ensures)
     at (free_before _ bytes c.first.result (rw (of.byte, of.bytes) at c.first.ensures)) in
@@ -23,7 +23,7 @@ returns-then-job-clause-put g c =
 pub returns-clause-put : goal.returns-clause-put
 returns-clause-put g c =
     let bytes = c.args.bytes.now in
-    let size = c.whole_lines_len-size in
+    let size = c.whole_lines_len-len in
     let of = c.new-delimiters.ensures in
     let free = rw (← c.unwrap_or-first.ensures)
     at (free_before _ bytes c.first.result (rw (of.byte, of.bytes) at c.first.ensures)) in

@@ -22,12 +22,12 @@ slices-init g c =
 
 next : (g : given.Over) (c : In-Some g) → let line = c.args.delimiters.now.bytes.now in
     output_from_cursor c.args.delimiters.now.byte (take (length line) line) c.slices.cursor
-    ≡ take (c.in-Some.end - c.in-Some.start) (drop c.in-Some.start line)
+    ≡ take (c.in-Some.slice.end - c.in-Some.slice.start) (drop c.in-Some.slice.start line)
     ++ output_from_cursor c.args.delimiters.now.byte (take (length line) line) c.next_slice.new.self
 next g c =
     let line = c.args.delimiters.now.bytes.now in
     c.in-Some.ensures.output
-    ∙ ap (λ bytes. take (c.in-Some.end - c.in-Some.start) (drop c.in-Some.start bytes)
+    ∙ ap (λ bytes. take (c.in-Some.slice.end - c.in-Some.slice.start) (drop c.in-Some.slice.start bytes)
     ++ output_from_cursor c.args.delimiters.now.byte (take (length line) line) c.next_slice.new.self)
     (take_all (length line) line (omega arith))
 

@@ -3,5 +3,5 @@ use proofs.Common.{sym}
 use proofs.TrLemmas.TrFrom.{filter_all}
 use proofs.tools.tr.Translation.kept.Goals as goal
 
-pub returns-in-Nothing-clause-kept : goal.returns-in-Nothing-clause-kept
-returns-in-Nothing-clause-kept c = sym (filter_all _ (rw c.in-Nothing.is at c.args.self.now.is_deleting) _)
+pub returns-in-Empty-clause-kept : goal.returns-in-Empty-clause-kept
+returns-in-Empty-clause-kept c = sym (filter_all _ (rw c.in-Empty.is at c.args.self.now.is_deleting) _)

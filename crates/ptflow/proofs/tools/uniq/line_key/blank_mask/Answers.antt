@@ -4,4 +4,4 @@ use proofs.UniqLemmas.Keys.{blanks_are}
 use proofs.tools.uniq.line_key.blank_mask.Goals as goal
 
 pub returns : goal.returns
-returns c = blanks_are (chunk c.args.at 16 c.args.bytes.now) (length-chunk c.args.at 16 c.args.bytes.now c.requires)
+returns c = blanks_are (chunk c.args.at 32 c.args.bytes.now) (length-chunk c.args.at 32 c.args.bytes.now c.requires)

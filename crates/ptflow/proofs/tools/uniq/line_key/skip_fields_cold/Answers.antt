@@ -34,7 +34,7 @@ loop-at-preserved c =
       omega arith,
       omega arith,
       omega arith,
-      ap (λ n. suffix_at (left - n) (take (c.args.to - (at + 15)) (drop (at + 15) bytes))) counted
+      ap (λ n. suffix_at (left - n) (take (c.args.to - (at + 31)) (drop (at + 31) bytes))) counted
           ∙ key_after_window bytes at c.args.to (omega arith) (omega (arith, counted)) ∙ c.loop-at.invariant.3,
     )
 

@@ -29,4 +29,4 @@ returns-clause-cut c =
     let free = line_if_not_found end _ (rw take_rest at c.in_default.ensures) in
     cut_next end _ _ _ _ _ _ [] _ (take line.at c.lines.into)
     (select_from (is_selected list) (line.line_offset + 1) rest) c.lines.invariant.on.cut
-    (rw all at c.copy_selected-end-2.ensures.copied) (rw (← long) (λ more. rest_piece end _ _ _ _ free))
+    (rw all at c.copy_selected-at.ensures.copied) (rw (← long) (λ more. rest_piece end _ _ _ _ free))

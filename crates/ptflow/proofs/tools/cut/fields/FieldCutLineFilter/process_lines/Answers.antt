@@ -14,13 +14,13 @@ less_left start size rest fits near space = omega (arith, length-drop size rest)
 pub lines-preserved : goal.lines-preserved
 lines-preserved g c =
     let l = c.lines in
-    let put = rw c.args.self.now.by.ends at c.copy_lines-size.ensures.put in
+    let put = rw c.args.self.now.by.ends at c.copy_lines-copied.ensures.put in
     rw take_rest (record {
       taken = taken_more _ _ put.taken l.invariant.taken;
       on = λ more. l.invariant.on more ∙ put.on more;
-      space = less_left _ _ _ put.fits c.copy_lines-size.ensures.end.1 l.invariant.space;
+      space = less_left _ _ _ put.fits c.copy_lines-copied.ensures.end.1 l.invariant.space;
       same_by = l.invariant.same_by;
-      long = c.copy_lines-size.ensures.long ∙ l.invariant.long;
+      long = c.copy_lines-copied.ensures.long ∙ l.invariant.long;
     })
 
 pub returns-in_err-push-clause-halts : goal.returns-in_err-push-clause-halts

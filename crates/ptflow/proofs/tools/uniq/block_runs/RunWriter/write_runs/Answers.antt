@@ -9,7 +9,7 @@ use proofs.UniqLemmas.Runs.{RunsInvariant, runs_loop_starts, runs_loop_few, runs
 use proofs.UniqLemmas.Runs.{runs_loop_repeats, running_unended, passed_is, steps_written}
 use proofs.tools.uniq.block_runs.RunWriter.write_runs.Given as given
 use proofs.tools.uniq.block_runs.RunWriter.write_runs.Goals as goal
-use Rattle.ptflow.proofs.tools.uniq.block_runs.RunWriter.write_runs.Goals.{In_default, After-left-1}
+use Rattle.ptflow.proofs.tools.uniq.block_runs.RunWriter.write_runs.Goals.{In_default, After-skip_repeats-repeats}
 
 pub lines-init : goal.lines-init
 lines-init g c =
@@ -18,9 +18,9 @@ lines-init g c =
     let whole = take_all (length first) first (omega arith) in
     runs_loop_starts job first c.args.block.now (omega arith) (c.key-run_key.ensures ∙ ap (key job) whole) c.args.out.now
 
-after : (g : given.Over) (c : After-left-1 g)
+after : (g : given.Over) (c : After-skip_repeats-repeats g)
     → RunsInvariant (uniq_job c.args.self.now.job.now) c.args.first.now c.args.block.now
-    c.skip_repeats-repeats.result.1.now c.args.carried (c.lines.count + (1 + c.skip_repeats-repeats.result.0))
+    c.skip_repeats-repeats.result.rest.now c.args.carried (c.lines.count + (1 + c.skip_repeats-repeats.result.count))
     c.lines.line c.lines.pending c.lines.run_key.now c.args.out.now c.lines.out
 after g c = runs_loop_repeats c.lines.invariant (rw c.args.self.now.ends at c.in-Some.ensures) c.key-next.ensures
     c.is_equal.ensures c.if-is_equal.true _ c.skip_repeats-repeats.ensures
@@ -35,7 +35,7 @@ pub lines-smaller-then-is_equal : goal.lines-smaller-then-is_equal
 lines-smaller-then-is_equal g c = grind (arith, (ap length c.skip_repeats-repeats.ensures), length-append, length-drop)
 
 pub lines-preserved-then-is_equal : goal.lines-preserved-then-is_equal
-lines-preserved-then-is_equal g c = after g c
+lines-preserved-then-is_equal g c = after g (goal.at.lines-preserved-then-is_equal g c).After-skip_repeats-repeats
 
 pub returns-in_err-pending-clause-halts : goal.returns-in_err-pending-clause-halts
 returns-in_err-pending-clause-halts g c =

@@ -1,8 +1,8 @@
 use Rattle.ptflow.proofs
 use proofs.Common.{arith}
-use proofs.TrLemmas.Removed.{after_set, after_clear}
-use proofs.tools.tr.Removed.of.Goals as goal
-use proofs.tools.tr.Removed.of.Goals.{then-flags-byte, else-flags-byte}
+use proofs.TrLemmas.FilterSet.{after_set, after_clear}
+use proofs.tools.tr.FilterSet.of.Goals as goal
+use proofs.tools.tr.FilterSet.of.Goals.{then-flags-byte, else-flags-byte}
 
 pub loop-byte-preserved : goal.loop-byte-preserved
 loop-byte-preserved c =

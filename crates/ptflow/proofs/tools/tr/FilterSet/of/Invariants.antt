@@ -1,6 +1,6 @@
 use Rattle.ptflow.proofs
-use proofs.TrLemmas.Removed.{IsCounted}
-use proofs.tools.tr.Removed.of.Given as goal
+use proofs.TrLemmas.FilterSet.{IsCounted}
+use proofs.tools.tr.FilterSet.of.Given as goal
 
 abbrev pub invariant-loop-byte : goal.invariant-loop-byte
 invariant-loop-byte l = IsCounted l.count l.last l.byte l.flags
