@@ -5,7 +5,7 @@ pub mod Group
 pub mod Fields
 use Rattle.ptmerge.proofs
 use Rattle.ptmerge.specs
-use proofs.Common.{cond, ◌*◌, Err, flat_map-append, Cmp, MergeFault, IsReadyToContinue, AdvanceOkPost, MergePost}
+use proofs.Common.{cond, Err, flat_map-append, Cmp, MergeFault, IsReadyToContinue, AdvanceOkPost, MergePost}
 use proofs.Common.{both, lines_of, Memory, HaveEqualKeys, HasOnlyLeastKey, ◌⊎◌, AdvancePre}
 use proofs.Common.{push_nothing, inl, inr, ◌==◌, length_push, nil_from_length}
 use specs.Private.JoinGroup.{IsInItsSlot, IsCopiedToGroup, ReadGroupLineOkPost, ReadGroupLinePost, IsGroup}
