@@ -43,6 +43,31 @@ use ptlangs::jobs::JoinJob;
 use ptlines::{LineReader, Out, Sink, Source, Store, WriteFault};
 use std::alloc::Allocator;
 
+// Writes the output line of an unpaired line, if the options ask for it. Inlined, since most of its calls only ask
+// (`join`: 265 for 283 a line).
+#[inline(always)]
+fn write_unpaired_entry<B: Allocator, W: Sink>(
+    job: &JoinJob<B>,
+    side: Side,
+    key: &[u8],
+    line: &[u8],
+    terminator: u8,
+    out: &mut Out<W>,
+) -> Result<(), WriteFault>
+    requires { join_key (join_job job.now) side line.now ≡ key.now }
+    ensures { let entry = unpaired_entry (join_job job.now) side line.now in
+        WriteBytesPost out.old out.new (unlines terminator entry) result }
+{
+    let is_written = match side {
+        First => job.unpaired[0],
+        Second => job.unpaired[1],
+    };
+    if !is_written {
+        return Ok(());
+    }
+    write_alone(job, side, key, line, terminator, out)
+}
+
 // Writes the output lines of the first input's current line with each line of the group.
 #[tactic(auto, using(crate::proofs::JoinLemmas::Group::pair_steps))]
 fn write_pair_entries<K: KeyOrder, A: Allocator + Copy, B: Allocator, W: Sink>(
@@ -79,8 +104,7 @@ fn write_pair_entries<K: KeyOrder, A: Allocator + Copy, B: Allocator, W: Sink>(
     Ok(())
 }
 
-// Writes the output line of an input's current line, which is unpaired, if the options ask for it. Then advances the
-// input.
+// Writes the output line of an input's current line, which is unpaired, and advances the input.
 #[inline(always)]
 fn write_unpaired<K: KeyOrder, A: Allocator + Copy, B: Allocator, S: Source, R: Source, W: Sink>(
     merge: &mut Merge<K>,
@@ -101,15 +125,9 @@ fn write_unpaired<K: KeyOrder, A: Allocator + Copy, B: Allocator, S: Source, R: 
         merge.new.first merge.new.second reader.old reader.new store.old store.new out.new result }
     ensures order { merge.new.order ≡ merge.old.order }
 {
-    let is_written = match side {
-        First => job.unpaired[0],
-        Second => job.unpaired[1],
-    };
-    if is_written {
-        let key = merge.key(side, store);
-        let line = merge.head(side, store);
-        write_alone(job, side, key, line, reader.terminator(), out)?;
-    }
+    let key = merge.key(side, store);
+    let line = merge.head(side, store);
+    write_unpaired_entry(job, side, key, line, reader.terminator(), out)?;
     merge.write_out_and_advance(side, reader, store, out)
 }
 
