@@ -29,7 +29,7 @@ pub use Rattle.ptlines.specs.Calls.Slots.{line, with_new_slot, with_denied, with
 pub use Rattle.ptlines.specs.Laws.Text.{AreLines}
 pub use Rattle.ptlines.specs.Calls.Text.{IsLine}
 pub use Rattle.ptlines.specs.Text.{complete_lines, lines, max_length, unlines, is_blank}
-pub use specs.Private.JoinGroup.{ClearGroupPost, CopyToGroupPost, group}
+pub use specs.Private.JoinGroup.{ClearGroupPost, CopyToGroupPost, lines_of_slots}
 pub use specs.Join.{output_separator, entry, join_fields, other_fields, pair_entries}
 pub use specs.Private.JoinFields.{is_separator, entry_with_list, remaining_fields, is_single_spaced, with_prefix}
 pub use specs.MergeSpec.{FirstDisorder, Lines, distinct_keys}

@@ -7,11 +7,12 @@ use Rattle.std.proofs.lemmas
 pub use proofs.Common.{◌≡◌, ⊎_elim, ℕ, ◌+◌, ◌-◌, ◌≤◌, ◌<◌, suc, true, false, length-drop, List, [], ◌∷◌, ◌++◌, length}
 pub use proofs.Common.{map, drop, get_or, set, max, refl, ap, ◌∙◌, arith, append_assoc, length-append, length-set}
 pub use proofs.Common.{drop_more, Slots, line, total_bytes, with_line, with_denied, unlines, max_length, Join, usual}
-pub use proofs.Common.{ClearGroupPost, group, CopyToGroupPost, entry, join_fields, pair_entries, Lines, lines_with_key}
+pub use proofs.Common.{ClearGroupPost, CopyToGroupPost, entry, join_fields, pair_entries, Lines, lines_with_key}
 pub use proofs.Common.{Reader, Side, First, Second, Sorted, Key, with_side, MergeTool, ◌&&◌, Bool, Some, sym, subst}
 pub use proofs.Common.{bytes_eq, bytes_decides, append-nil, Output, PushEffect, push_trans, unlines-append}
 pub use proofs.Common.{CursorStatus, Head, Ended, Disorder, entries_by_key, MergeState, NextOkPost, other}
 pub use proofs.Common.{PrecedesInput, disorder, merged_entries, sorted_prefixes, is_up_to, line_of_with_line}
+pub use proofs.Common.{lines_of_slots}
 use proofs.JoinLemmas.Fields.{partial_starts}
 pub use proofs.MergeLemmas.{total_within, low_slot, same_bytes, AtLeast, all_keys, at_current_line, both_begun, IsAbove}
 pub use proofs.MergeLemmas.{EndsIfFails}
@@ -36,16 +37,16 @@ pub use specs.Join.{max_over_keys, max_group_bytes, max_group_lines}
 -- have one key, so it is at most the largest group.
 
 pub group_from : (store : Slots) (end slot : ℕ) → end ≤ length store.lines → slot < end
-    → group store slot end ≡ line store slot ∷ group store (slot + 1) end
+    → lines_of_slots store slot end ≡ line store slot ∷ lines_of_slots store (slot + 1) end
 group_from store end slot fits low = grind (arith, drop_more store.lines slot [])
 
 group_more : (store : Slots) (from end : ℕ) → from ≤ end → end < length store.lines
-    → group store from (end + 1) ≡ group store from end ++ line store end ∷ []
+    → lines_of_slots store from (end + 1) ≡ lines_of_slots store from end ++ line store end ∷ []
 group_more store from end least within =
     let more = take_more (drop from store.lines) (end - from) [] in grind usual
 
 pub group_one : (store : Slots) (slot : ℕ) → slot < length store.lines
-    → group store slot (slot + 1) ≡ line store slot ∷ []
+    → lines_of_slots store slot (slot + 1) ≡ line store slot ∷ []
 group_one = grind (arith, group_more)
 
 -- ---- the output
@@ -70,7 +71,8 @@ clears_more a s t slot from within c is =
     let all = total_bytes_set s.lines slot [] (omega arith) in
     let at : get_or rest (slot - 4) [] ≡ line a slot = grind (arith, back) in
     let here = total_bytes_set rest (slot - 4) [] (omega (arith, length-drop 4 s.lines)) in
-    let grows = ap total_bytes (group_more a 4 slot from within) ∙ sum_by_push length (group a 4 slot) (line a slot) in
+    let grows = ap total_bytes (group_more a 4 slot from within)
+    ∙ sum_by_push length (lines_of_slots a 4 slot) (line a slot) in
     rw is (grind (arith, line_other, length-set))
 
 -- ---- copying a line to the group
@@ -192,7 +194,7 @@ module _ {tool : MergeTool} {before store : Slots} {ls : Side → Lines} {g : Li
   pub kept_line : (slot : ℕ) → 4 ≤ slot → slot < 4 + length g → line store slot ≡ get_or g (slot - 4) []
   kept_line slot from low = search (rules, k.split, get_or-append)
 
-  pub group_is : {end : ℕ} → end ≡ 4 + length g → group store 4 end ≡ g
+  pub group_is : {end : ℕ} → end ≡ 4 + length g → lines_of_slots store 4 end ≡ g
   group_is at = grind (arith, take_at)
 
   end_within : {end : ℕ} → end ≡ 4 + length g → end ≤ length store.lines

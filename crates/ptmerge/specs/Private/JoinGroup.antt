@@ -23,8 +23,8 @@ use Rattle.ptmerge.specs.declared.merging.cursor.CursorStatus.TheVariants.{Disor
 use Rattle.ptmerge.specs.declared.merging.cursor.Sorted.{Sorted}
 
 -- The lines of the slots from `from` to before `end`.
-abbrev pub group : Slots → ℕ → ℕ → Lines
-group store from end = take (end - from) (drop from store.lines)
+abbrev pub lines_of_slots : Slots → ℕ → ℕ → Lines
+lines_of_slots store from end = take (end - from) (drop from store.lines)
 
 -- The first slot of the group. If no line was copied, that is the slot of the previous line of the second input.
 abbrev pub group_first_slot : Sorted → ℕ → ℕ
@@ -33,6 +33,10 @@ group_first_slot second end = if end == 4 then second.previous_slot else 4
 -- The slot after the last slot of the group.
 abbrev pub group_end_slot : Sorted → ℕ → ℕ
 group_end_slot second end = if end == 4 then second.previous_slot + 1 else end
+
+-- The lines of the group.
+abbrev pub group_lines : Sorted → Slots → ℕ → Lines
+group_lines second store end = lines_of_slots store (group_first_slot second end) (group_end_slot second end)
 
 -- The input is at a line that is in order.
 abbrev pub is_head : CursorStatus → Bool
@@ -60,11 +64,12 @@ pub record CopyToGroupErrPost (before after : Slots) (slot : ℕ) : Type 0 where
   pub most : length after.lines ≤ max (length before.lines) (slot + 1)
   pub peak : after.peak ≤ max before.peak (total_bytes before.lines)
 
--- The postcondition of `clear_group`: the slots from 4 to before `end` were emptied, and the others are unchanged.
+-- The postcondition of `Group::clear`: the slots from 4 to before `end` were emptied, and the others are unchanged.
 pub record ClearGroupPost (before after : Slots) (end : ℕ) : Type 0 where
   pub slots : length after.lines ≡ length before.lines
   pub others : (i : ℕ) → (i < 4) ⊎ (end ≤ i) → line after i ≡ line before i
-  pub emptied : total_bytes (drop 4 after.lines) + total_bytes (group before 4 end) ≡ total_bytes (drop 4 before.lines)
+  pub emptied : total_bytes (drop 4 after.lines) + total_bytes (lines_of_slots before 4 end)
+      ≡ total_bytes (drop 4 before.lines)
   pub less : total_bytes after.lines ≤ total_bytes before.lines
   pub peak : after.peak ≤ max before.peak (total_bytes before.lines)
   pub denied : after.denied ≡ before.denied
@@ -83,15 +88,15 @@ pub record IsCopiedToGroup (keep : Bool) (new : Sorted) (made after : Slots) (en
   pub copied : CopyToGroupPost made after new.previous_slot end
   pub several : (new.same ≡ true) ⊎ (4 < end)
 
--- The postcondition of `read_group_line` if it succeeds: the second input advanced, and its previous line was copied if
--- needed.
+-- The postcondition of `Group::read_line` if it succeeds: the second input advanced, and its previous line was copied
+-- if needed.
 pub record ReadGroupLineOkPost (keep : Bool) (key : Key) (cmp : Cmp) (old new : Sorted) (was is : Reader)
     (before after : Slots) (end next : ℕ) : Type 0 where
   pub made : Slots
   pub came : NextOkPost key cmp old new was is before made
   pub kept : IsInItsSlot keep new made after end next ⊎ IsCopiedToGroup keep new made after end next
 
--- The postcondition of `read_group_line` if the second input advanced, and its previous line could not be copied.
+-- The postcondition of `Group::read_line` if the second input advanced, and its previous line could not be copied.
 pub record CopyFaultPost (keep : Bool) (key : Key) (cmp : Cmp) (old new : Sorted) (was is : Reader)
     (before after : Slots) (end : ℕ) (fault : MergeFault) : Type 0 where
   pub keeps : keep ≡ true
@@ -100,18 +105,18 @@ pub record CopyFaultPost (keep : Bool) (key : Key) (cmp : Cmp) (old new : Sorted
   pub memory : fault ≡ Memory
   pub copy_failed : CopyToGroupErrPost made after end
 
--- The postcondition of `read_group_line` if a read failed or the store could not grow.
+-- The postcondition of `Group::read_line` if a read failed or the store could not grow.
 abbrev pub ReadGroupLineErrPost : Bool → Key → Cmp → Sorted → Sorted → Reader → Reader → Slots → Slots → ℕ → MergeFault
     → Type 0
 ReadGroupLineErrPost keep key cmp old new was is before after end fault =
     CopyFaultPost keep key cmp old new was is before after end fault ⊎ NextErrPost Second old was is before after fault
 
--- The postcondition of `read_group_line`. A failed write means that nothing was read.
-abbrev pub ReadGroupLinePost : Bool → Key → Cmp → Sorted → Sorted → Reader → Reader → Slots → Slots → Output → ℕ
-    → Result ℕ MergeFault → Type 0
-ReadGroupLinePost keep key cmp old new was is before after out end (Ok next) =
-    ReadGroupLineOkPost keep key cmp old new was is before after end next
-ReadGroupLinePost keep key cmp old new was is before after out end (Err fault) =
+-- The postcondition of `Group::read_line`. A failed write means that nothing was read.
+abbrev pub ReadGroupLinePost : Bool → Key → Cmp → Sorted → Sorted → Reader → Reader → Slots → Slots → Output → ℕ → ℕ
+    → Result Bool MergeFault → Type 0
+ReadGroupLinePost keep key cmp old new was is before after out end next (Ok has_more) =
+    (has_more ≡ new.same) × ReadGroupLineOkPost keep key cmp old new was is before after end next
+ReadGroupLinePost keep key cmp old new was is before after out end next (Err fault) =
     ((fault ≡ Write) × WriteFaultPost was is before after out)
     ⊎ ((out.write_failed ≡ false) × ReadGroupLineErrPost keep key cmp old new was is before after end fault)
 

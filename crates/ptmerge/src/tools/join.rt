@@ -1,28 +1,30 @@
 //! The engine of `join`: a merge that keeps the second input's lines of one key at a time, if it writes pairs.
 //!
+//! `block_pairs` pairs lines in the blocks of the readers, as long as each is the only one of its key in its input.
 //! `field_keys` is the order of lines by their join fields, and `key_group` copies the lines of a key. `fields` splits
 //! a line into fields, `output` writes an output line, and `separators` and `words` find separators and blanks by `masks`.
 
-ghost use Rattle.std.specs.Prelude.{◌≡◌, ℕ, List, ◌∷◌, []};
+ghost use Rattle.std.specs.Prelude.{◌≡◌, ℕ, List, ◌∷◌, [], Err, IfErr, IfOk, OnOk};
 ghost use Rattle.ptlangs.specs.Jobs.{join_job};
 ghost use Rattle.ptlines.specs.Calls.Outputs.{PushEffect};
 ghost use Rattle.ptlines.specs.Calls.Slots.{line};
 ghost use Rattle.ptlines.specs.Text.{unlines};
-ghost use Rattle.ptmerge.specs.Private.JoinGroup.{IsGroup, JoinStepPre, JoinLinePre, group_end_slot};
-ghost use Rattle.ptmerge.specs.Private.JoinGroup.{group_first_slot, group};
+ghost use Rattle.ptmerge.specs.Private.JoinGroup.{IsGroup, JoinStepPre, JoinLinePre, group_lines};
 ghost use Rattle.ptmerge.specs.Private.MergeCall.{MergeRunPre};
+ghost use Rattle.ptmerge.specs.Private.Passed.{AreReady, BlocksPost};
 ghost use Rattle.ptmerge.specs.Calls.MergeCall.{MergePost, MergePre, merge_state};
 ghost use Rattle.ptmerge.specs.Calls.MergeSteps.{AreValidCursors};
 ghost use Rattle.ptmerge.specs.declared.key_order.Side.{Side as SideType};
 ghost use Rattle.ptmerge.specs.Private.Join.{unpaired_entry};
 ghost use Rattle.ptmerge.specs.Calls.Join.{join_with, join_key, join_tool};
 ghost use Rattle.ptmerge.specs.Join.{pair_entries};
-ghost use Rattle.ptmerge.specs.Private.WriteAndAdvance.{WriteThenAdvancePost, AdvancePre};
+ghost use Rattle.ptmerge.specs.Private.WriteAndAdvance.{AdvanceOkPost, WriteThenAdvancePost, AdvancePre};
 ghost use Rattle.ptmerge.specs.Private.Write.{WriteBytesPost};
 ghost use Rattle.ptmerge.specs.Calls.Sides.{both};
 ghost use Rattle.ptmerge.specs.declared.key_order.Side.TheVariants as sides;
 ghost use Rattle.ptmerge.specs.declared.merging.cursor.CursorStatus.TheVariants as status_is;
 
+mod block_pairs;
 mod field_keys;
 mod fields;
 mod key_group;
@@ -35,10 +37,12 @@ mod words;
 use crate::faults::MergeFault;
 use crate::key_order::Side::{First, Second};
 use crate::key_order::{Descending, KeyOrder, Side};
+use crate::merging::block_lines::BlockLine;
 use crate::merging::four_slots::clear_four_slots;
 use crate::merging::{Merge, Step};
+use crate::tools::join::block_pairs::pair_blocks;
 use crate::tools::join::field_keys::FieldKeys;
-use crate::tools::join::key_group::{clear_group, group_slots, read_group_line};
+use crate::tools::join::key_group::Group;
 use crate::tools::join::output::{Pair, is_unchanged, write_alone, write_pair};
 use ptlangs::jobs::JoinJob;
 use ptlines::{LineReader, Out, Sink, Source, Store, WriteFault};
@@ -74,7 +78,7 @@ fn write_unpaired_entry<B: Allocator, W: Sink>(
 fn write_pair_entries<K: KeyOrder, A: Allocator + Copy, B: Allocator, W: Sink>(
     merge: &Merge<K>,
     job: &JoinJob<B>,
-    end: usize,
+    group: Group,
     store: &Store<A>,
     terminator: u8,
     out: &mut Out<W>,
@@ -84,10 +88,10 @@ fn write_pair_entries<K: KeyOrder, A: Allocator + Copy, B: Allocator, W: Sink>(
     requires keys { (line : List ℕ) → K.key_of merge.now.order sides.First line
         ≡ join_key (join_job job.now) sides.First line }
     requires group { let key = K.key_of merge.now.order sides.First (line store.now merge.now.first.current_slot) in
-        IsGroup (join_key (join_job job.now) sides.Second) merge.now.second store.now end key }
+        IsGroup (join_key (join_job job.now) sides.Second) merge.now.second store.now group.end key }
     ensures { let current = line store.now merge.now.first.current_slot in
         let key = K.key_of merge.now.order sides.First current in
-        let lines = group store.now (group_first_slot merge.now.second end) (group_end_slot merge.now.second end) in
+        let lines = group_lines merge.now.second store.now group.end in
         let pairs = pair_entries (join_job job.now) key (current ∷ []) lines in
         WriteBytesPost out.old out.new (unlines terminator pairs) result }
 {
@@ -97,7 +101,7 @@ fn write_pair_entries<K: KeyOrder, A: Allocator + Copy, B: Allocator, W: Sink>(
     let key = merge.key(First, store);
     let one = merge.head(First, store);
     let begins = is_unchanged(job, First, one);
-    let slots = group_slots(merge, end);
+    let slots = group.slots(merge);
     for slot in slots.start..slots.end {
         let two = store.line(slot);
         write_pair(job, Pair { key, one, two }, begins, terminator, out)?;
@@ -133,38 +137,83 @@ fn write_unpaired<K: KeyOrder, A: Allocator + Copy, B: Allocator, S: Source, R: 
 }
 
 // Writes the output lines of the first input's current line with each line of the group, and advances the first input.
+// Returns true if it is then at another line with the key.
 fn write_pairs<K: KeyOrder, A: Allocator + Copy, B: Allocator, S: Source, R: Source, W: Sink>(
     merge: &mut Merge<K>,
     job: &JoinJob<B>,
-    end: usize,
+    group: Group,
     reader: &mut LineReader<S, R>,
     store: &mut Store<A>,
     out: &mut Out<W>,
-) -> Result<(), MergeFault>
+) -> Result<bool, MergeFault>
     requires joins { let key = K.key_of merge.old.order in
         JoinLinePre (join_job job.now) key sides.First merge.old.first merge.old.second reader.old store.old out.old }
     requires group { let key = K.key_of merge.old.order sides.First (line store.old merge.old.first.current_slot) in
-        IsGroup (join_key (join_job job.now) sides.Second) merge.old.second store.old end key }
+        IsGroup (join_key (join_job job.now) sides.Second) merge.old.second store.old group.end key }
     ensures wrote { let current = line store.old merge.old.first.current_slot in
         let key = K.key_of merge.old.order sides.First current in
-        let lines = group store.old (group_first_slot merge.old.second end) (group_end_slot merge.old.second end) in
+        let lines = group_lines merge.old.second store.old group.end in
         let pairs = pair_entries (join_job job.now) key (current ∷ []) lines in
         PushEffect out.old out.new (unlines reader.old.terminator pairs) }
+    ensures has_more { IfOk result (λ has_more. has_more ≡ merge.new.first.same) }
     ensures advances { let key = K.key_of merge.old.order in
-        WriteThenAdvancePost key (K.order merge.old.order) sides.First merge.old.first merge.old.second
-        merge.new.first merge.new.second reader.old reader.new store.old store.new out.new result }
+        OnOk result (AdvanceOkPost key (K.order merge.old.order) sides.First merge.old.first merge.old.second
+        merge.new.first merge.new.second reader.old reader.new store.old store.new out.new) }
+    ensures fails { let key = K.key_of merge.old.order in
+        IfErr result (λ fault. WriteThenAdvancePost key (K.order merge.old.order) sides.First
+        merge.old.first merge.old.second merge.new.first merge.new.second reader.old reader.new store.old store.new
+        out.new (Err fault)) }
     ensures order { merge.new.order ≡ merge.old.order }
 {
-    write_pair_entries(merge, job, end, store, reader.terminator(), out)?;
-    merge.write_out_and_advance(First, reader, store, out)
+    write_pair_entries(merge, job, group, store, reader.terminator(), out)?;
+    merge.write_out_and_advance(First, reader, store, out)?;
+    Ok(merge.has_same_key(First))
 }
 
-// The phase of the loop of `join`: compare keys, read the second input's lines of one key, or write their pairs.
-#[derive(Clone, Copy)]
-enum JoinPhase {
-    BetweenGroups,
-    ReadGroup,
-    WritePairs,
+// Merges the lines of both blocks where they are, if both inputs are at lines of fewer than 64 bytes. After a key with
+// several lines of an input it does nothing: another such key would soon follow, and end it.
+#[inline(always)]
+fn merge_in_blocks<K: KeyOrder, A: Allocator + Copy, B: Allocator, S: Source, R: Source, W: Sink>(
+    merge: &mut Merge<K>,
+    job: &JoinJob<B>,
+    after_group: bool,
+    first: &mut LineReader<S, R>,
+    second: &mut LineReader<S, R>,
+    store: &mut Store<A>,
+    out: &mut Out<W>,
+) -> Result<(), MergeFault>
+    requires keys { (side : SideType) (line : List ℕ) →
+        K.key_of merge.old.order side line ≡ join_key (join_job job.now) side line }
+    requires valid_cursors { AreValidCursors (K.key_of merge.old.order) merge.old.first merge.old.second store.old }
+    requires ready { AreReady (join_job job.now).terminator (both merge.old.first merge.old.second)
+        (both first.old second.old) out.old }
+    ensures merges { let tool = join_with (join_job job.now) (K.order merge.old.order) (K.key_of merge.old.order) in
+        let was = merge_state first.old second.old out.old store.old in
+        let is = merge_state first.new second.new out.new store.new in
+        BlocksPost tool (both merge.old.first merge.old.second) (both merge.new.first merge.new.second) was is result }
+    ensures order { merge.new.order ≡ merge.old.order }
+    ensures valid_cursors { AreValidCursors (K.key_of merge.new.order) merge.new.first merge.new.second store.new }
+{
+    if after_group || !merge.has_short_heads(store) {
+        return Ok(());
+    }
+    let one = BlockLine::new(
+        merge.head(First, store),
+        merge.span(First),
+        first.buffered(),
+    );
+    let two = BlockLine::new(
+        merge.head(Second, store),
+        merge.span(Second),
+        second.buffered(),
+    );
+    let run = pair_blocks(merge.order(), job, first.terminator(), one, two, out);
+    merge.resume(First, run.first, first, store);
+    merge.resume(Second, run.second, second, store);
+    if run.failed {
+        return Err(MergeFault::Write);
+    }
+    Ok(())
 }
 
 // Runs `join` in an order of join fields. The terminator of both readers is already set.
@@ -184,36 +233,30 @@ fn join_with_order<K: KeyOrder, A: Allocator + Copy, B: Allocator, S: Source, R:
         MergePost tool was (merge_state first.new second.new out.new store.new) result }
 {
     let mut merge = Merge::start(order, first, second, store)?;
-    let mut phase = JoinPhase::BetweenGroups;
-    let mut end = 4;
+    let mut after_group = false;
     'steps: loop {
-        match phase {
-            JoinPhase::BetweenGroups => match merge.step(store) {
-                Step::First => write_unpaired(&mut merge, job, First, first, store, out)?,
-                Step::Second => write_unpaired(&mut merge, job, Second, second, store, out)?,
-                Step::Both => phase = JoinPhase::ReadGroup,
-                Step::End => {
-                    clear_four_slots(store);
-                    return Ok(());
+        merge_in_blocks(&mut merge, job, after_group, first, second, store, out)?;
+        after_group = false;
+        match merge.step(store) {
+            Step::First => write_unpaired(&mut merge, job, First, first, store, out)?,
+            Step::Second => write_unpaired(&mut merge, job, Second, second, store, out)?,
+            Step::Both => {
+                let mut group = Group::new();
+                'lines: while group.read_line(&mut merge, job.pairs, second, store, out)? {
+                    after_group = true;
                 }
-                Step::Stop(side, number) => {
-                    clear_four_slots(store);
-                    return Err(MergeFault::Disorder(side, number));
+                'pairs: while write_pairs(&mut merge, job, group, first, store, out)? {
+                    after_group = true;
                 }
-            },
-            JoinPhase::ReadGroup => {
-                end = read_group_line(&mut merge, job.pairs, end, second, store, out)?;
-                if !merge.has_same_key(Second) {
-                    phase = JoinPhase::WritePairs;
-                }
+                group.clear(store);
             }
-            JoinPhase::WritePairs => {
-                write_pairs(&mut merge, job, end, first, store, out)?;
-                if !merge.has_same_key(First) {
-                    clear_group(store, end);
-                    end = 4;
-                    phase = JoinPhase::BetweenGroups;
-                }
+            Step::End => {
+                clear_four_slots(store);
+                return Ok(());
+            }
+            Step::Stop(side, number) => {
+                clear_four_slots(store);
+                return Err(MergeFault::Disorder(side, number));
             }
         }
     }

@@ -29,56 +29,70 @@ fn field_end(separator: Option<u8>, bytes: &[u8]) -> Option<usize>
     }
 }
 
-// Splits `bytes` at the first blank, which is dropped: the bytes before it and, if there is one, those after it.
+// The bytes before a blank, and the rest of the line after it. If no blank follows the bytes, there is no rest.
+#[derive(Clone, Copy)]
+pub(crate) struct Piece<'a> {
+    pub(crate) bytes: &'a [u8],
+    pub(crate) rest: Option<&'a [u8]>,
+}
+
+// Returns the bytes before the first blank, with the rest after it.
 #[inline(always)]
 #[tactic(auto, using(crate::proofs::JoinLemmas::Fields::first_piece_steps))]
-fn first_piece(bytes: &[u8]) -> (&[u8], Option<&[u8]>)
-    ensures first { MatchOption result.1
-        (slice_split is_blank bytes.now ≡ result.0.now ∷ [])
-        (λ remainder. slice_split is_blank bytes.now ≡ result.0.now ∷ slice_split is_blank remainder.now) }
-    ensures shorter { MatchOption result.1 (result.0.now ≡ bytes.now)
-        (λ remainder. length remainder.now < length bytes.now) }
-    ensures is_piece { IsPiece None bytes.now result.0.now (option_copied result.1) }
+fn first_piece(line: &[u8]) -> Piece<'_>
+    ensures first { MatchOption result.rest
+        (slice_split is_blank line.now ≡ result.bytes.now ∷ [])
+        (λ rest. slice_split is_blank line.now ≡ result.bytes.now ∷ slice_split is_blank rest.now) }
+    ensures shorter { MatchOption result.rest (result.bytes.now ≡ line.now)
+        (λ rest. length rest.now < length line.now) }
+    ensures is_piece { IsPiece None line.now result.bytes.now (option_copied result.rest) }
 {
-    match field_end(None, bytes) {
-        None => (bytes, None),
-        Some(end) => (&bytes[..end], Some(&bytes[end + 1..])),
+    match field_end(None, line) {
+        None => Piece {
+            bytes: line,
+            rest: None,
+        },
+        Some(end) => Piece {
+            bytes: &line[..end],
+            rest: Some(&line[end + 1..]),
+        },
     }
 }
 
-// Returns the first word of the rest of a line and the rest after this word, or `None` if there are no more words.
-pub(crate) fn next_word<'a>(line: Option<&'a [u8]>) -> Option<(&'a [u8], Option<&'a [u8]>)>
+// Returns the first word of the rest of a line, with the rest after this word, or `None` if there are no more words.
+pub(crate) fn next_word<'a>(line: Option<&'a [u8]>) -> Option<Piece<'a>>
     ensures first { MatchOption result
         (remaining_fields None (option_copied line.entry) ≡ [])
-        (λ r. remaining_fields None (option_copied line.entry)
-        ≡ r.0.now ∷ remaining_fields None (option_copied r.1)) }
-    ensures is_piece { IfSome result (λ r. IsFieldIn None (option_copied line.entry) r.0.now (option_copied r.1)) }
+        (λ word. remaining_fields None (option_copied line.entry)
+        ≡ word.bytes.now ∷ remaining_fields None (option_copied word.rest)) }
+    ensures is_piece { IfSome result (λ word.
+        IsFieldIn None (option_copied line.entry) word.bytes.now (option_copied word.rest)) }
 {
     let mut left = line;
     'pieces: while let Some(bytes) = left {
-        let (word, remainder) = first_piece(bytes);
-        if !word.is_empty() {
-            return Some((word, remainder));
+        let piece = first_piece(bytes);
+        if !piece.bytes.is_empty() {
+            return Some(piece);
         }
-        left = remainder;
+        left = piece.rest;
     }
     None
 }
 
-// Returns the span of `word` in `line`, of which `remainder` is the rest after this word.
+// Returns the span of a word of a line.
 #[inline(always)]
-fn span_of_word(line: &[u8], word: &[u8], remainder: Option<&[u8]>) -> Span
-    requires { IsPiece None line.now word.now (option_copied remainder) }
-    ensures span { IsKeySpan line.now word.now result }
-    ensures end { MatchOption (option_copied remainder.entry) (result.end ≡ length line.now)
+fn span_of_word(line: &[u8], word: Piece<'_>) -> Span
+    requires { IsPiece None line.now word.bytes.now (option_copied word.rest) }
+    ensures span { IsKeySpan line.now word.entry.bytes.now result }
+    ensures end { MatchOption (option_copied word.entry.rest) (result.end ≡ length line.now)
         (λ bytes. result.end + 1 + length bytes ≡ length line.now) }
 {
-    let end = match remainder {
+    let end = match word.rest {
         Some(bytes) => line.len() - bytes.len() - 1,
         None => line.len(),
     };
     Span {
-        start: end - word.len(),
+        start: end - word.bytes.len(),
         end,
     }
 }
@@ -90,11 +104,9 @@ fn find_word_long(number: u64, line: &[u8]) -> Option<Span>
 {
     let mut left = Some(line);
     for _passed in 0..number.saturating_sub(1) {
-        let (_, remainder) = next_word(left)?;
-        left = remainder;
+        left = next_word(left)?.rest;
     }
-    let (word, remainder) = next_word(left)?;
-    Some(span_of_word(line, word, remainder))
+    Some(span_of_word(line, next_word(left)?))
 }
 
 // Returns the blanks of a short line without separators. The result for others does not matter.

@@ -1,5 +1,4 @@
-//! The group: the second input's lines of one key. If there are several, and pairs are written, `join` copies them to
-//! slots 4 and up; a single one stays in the slot into which it was read.
+//! The second input's lines of one key, with each of which `join` pairs the first input's lines of that key.
 ghost use Rattle.std.specs.Prelude.{◌≡◌, ◌≤◌, ◌<◌, ◌+◌, ◌-◌, [], false, length, IfOk, OnOk, OnErr};
 ghost use Rattle.ptlines.specs.Calls.Outputs.{PushEffect};
 ghost use Rattle.ptlines.specs.Calls.Slots.{with_denied};
@@ -46,61 +45,79 @@ fn copy_to_group<A: Allocator + Copy>(
     Ok(next)
 }
 
-// Advances the second input, and copies its previous line to the group's slots, if a group is to be kept and that line
-// is not the only one of its key. Returns the slot after the copied lines. Not inlined, so that the merge stays in
-// memory and is not moved between registers in each iteration (`join`: 266 for 283 a line).
-#[inline(never)]
-pub(crate) fn read_group_line<K: KeyOrder, A: Allocator + Copy, S: Source, R: Source, W: Sink>(
-    merge: &mut Merge<K>,
-    keep: bool,
+// The second input's lines of one key. Those that were copied are in the slots from 4 to before `end`. If none was, the
+// group is the input's previous line, which stays in the slot into which it was read.
+#[derive(Clone, Copy)]
+pub(crate) struct Group {
     end: usize,
-    reader: &mut LineReader<S, R>,
-    store: &mut Store<A>,
-    out: &mut Out<W>,
-) -> Result<usize, MergeFault>
-    requires status_is { let key = K.key_of merge.old.order in
-        AdvancePre key sides.Second merge.old.first merge.old.second reader.old store.old }
-    requires group { (4 ≤ end) × (end ≤ length store.old.lines) }
-    requires clean { out.old.write_failed ≡ false }
-    ensures written_out { PushEffect out.old out.new [] }
-    ensures reads_line { let key = K.key_of merge.old.order sides.Second in
-        ReadGroupLinePost keep key (K.order merge.old.order)
-        merge.old.second merge.new.second reader.old reader.new store.old store.new out.new end result }
-    ensures continues { OnOk result (IsReadyToContinue (K.key_of merge.old.order) sides.Second merge.old.first
-        merge.old.second merge.new.first merge.new.second reader.new store.new out.new) }
-    ensures order { merge.new.order ≡ merge.old.order }
-{
-    merge.write_out_and_advance(Side::Second, reader, store, out)?;
-    if !keep || (end == 4 && !merge.has_same_key(Side::Second)) {
-        return Ok(end);
-    }
-    match copy_to_group(store, merge.previous_slot_of(Side::Second), end) {
-        Ok(next) => Ok(next),
-        Err(_) => Err(MergeFault::Memory),
-    }
 }
 
-// Returns the slots of the group. The copied lines, if any, end before slot `end`.
-#[inline(always)]
-pub(crate) fn group_slots<K: KeyOrder>(merge: &Merge<K>, end: usize) -> Range<usize>
-    requires { merge.now.second.previous_slot < 4 }
-    ensures first { result.start ≡ group_first_slot merge.now.second end }
-    ensures last { result.end ≡ group_end_slot merge.now.second end }
-{
-    if end == 4 {
-        let only = merge.previous_slot_of(Side::Second);
-        return only..only + 1;
+impl Group {
+    // Returns a group without copied lines.
+    #[inline(always)]
+    pub(crate) fn new() -> Group
+        ensures { result.end ≡ 4 }
+    {
+        Group { end: 4 }
     }
-    4..end
-}
 
-// Empties the slots of the group.
-#[tactic(auto, using(crate::proofs::JoinLemmas::Group::clears_none))]
-pub(crate) fn clear_group<A: Allocator + Copy>(store: &mut Store<A>, end: usize)
-    requires { (4 ≤ end) × (end ≤ length store.old.lines) }
-    ensures { ClearGroupPost store.old store.new end }
-{
-    for slot in 4..end {
-        store.clear(slot);
+    // Advances the second input, and copies its previous line, if a group is to be kept and that line is not the only
+    // one of its key. Returns true if the current line has that key too. Not inlined, so that the merge stays in memory
+    // and is not moved between registers in each iteration (`join`: 254 for 278 a line).
+    #[inline(never)]
+    pub(crate) fn read_line<K: KeyOrder, A: Allocator + Copy, S: Source, R: Source, W: Sink>(
+        &mut self,
+        merge: &mut Merge<K>,
+        keep: bool,
+        reader: &mut LineReader<S, R>,
+        store: &mut Store<A>,
+        out: &mut Out<W>,
+    ) -> Result<bool, MergeFault>
+        requires status_is { let key = K.key_of merge.old.order in
+            AdvancePre key sides.Second merge.old.first merge.old.second reader.old store.old }
+        requires group { (4 ≤ self.old.end) × (self.old.end ≤ length store.old.lines) }
+        requires clean { out.old.write_failed ≡ false }
+        ensures written_out { PushEffect out.old out.new [] }
+        ensures reads_line { let key = K.key_of merge.old.order sides.Second in
+            ReadGroupLinePost keep key (K.order merge.old.order) merge.old.second merge.new.second
+            reader.old reader.new store.old store.new out.new self.old.end self.new.end result }
+        ensures continues { OnOk result (IsReadyToContinue (K.key_of merge.old.order) sides.Second merge.old.first
+            merge.old.second merge.new.first merge.new.second reader.new store.new out.new) }
+        ensures order { merge.new.order ≡ merge.old.order }
+    {
+        merge.write_out_and_advance(Side::Second, reader, store, out)?;
+        let has_more = merge.has_same_key(Side::Second);
+        if keep && (has_more || self.end > 4) {
+            match copy_to_group(store, merge.previous_slot_of(Side::Second), self.end) {
+                Ok(next) => self.end = next,
+                Err(_) => return Err(MergeFault::Memory),
+            }
+        }
+        Ok(has_more)
+    }
+
+    // Returns the slots of the lines.
+    #[inline(always)]
+    pub(crate) fn slots<K: KeyOrder>(self, merge: &Merge<K>) -> Range<usize>
+        requires { merge.now.second.previous_slot < 4 }
+        ensures first { result.start ≡ group_first_slot merge.now.second self.end }
+        ensures last { result.end ≡ group_end_slot merge.now.second self.end }
+    {
+        if self.end == 4 {
+            let only = merge.previous_slot_of(Side::Second);
+            return only..only + 1;
+        }
+        4..self.end
+    }
+
+    // Empties the slots of the copied lines.
+    #[tactic(auto, using(crate::proofs::JoinLemmas::Group::clears_none))]
+    pub(crate) fn clear<A: Allocator + Copy>(self, store: &mut Store<A>)
+        requires { (4 ≤ self.end) × (self.end ≤ length store.old.lines) }
+        ensures { ClearGroupPost store.old store.new self.end }
+    {
+        for slot in 4..self.end {
+            store.clear(slot);
+        }
     }
 }

@@ -37,9 +37,9 @@ fn write_words<W: Sink>(line: Option<&[u8]>, out: &mut Out<W>) -> Result<(), Wri
         result }
 {
     let mut left = line;
-    'words: while let Some((word, remainder)) = next_word(left) {
-        write_prefixed_field(b' ', word, out)?;
-        left = remainder;
+    'words: while let Some(word) = next_word(left) {
+        write_prefixed_field(b' ', word.bytes, out)?;
+        left = word.rest;
     }
     Ok(())
 }
@@ -51,15 +51,15 @@ fn write_other_words<W: Sink>(number: u64, line: &[u8], out: &mut Out<W>) -> Res
 {
     let mut left = Some(line);
     for _passed in 0..number.saturating_sub(1) {
-        let Some((word, remainder)) = next_word(left) else {
+        let Some(word) = next_word(left) else {
             return Ok(());
         };
-        write_prefixed_field(b' ', word, out)?;
-        left = remainder;
+        write_prefixed_field(b' ', word.bytes, out)?;
+        left = word.rest;
     }
     match next_word(left) {
         None => Ok(()),
-        Some((_, remainder)) => write_words(remainder, out),
+        Some(word) => write_words(word.rest, out),
     }
 }
 

@@ -1,15 +1,15 @@
 -- One lemma of `JoinLemmas` for each iteration, and one of `JoinLemmas` or `MergeLemmas` for each exit.
 use Rattle.ptmerge.proofs
 use Rattle.ptmerge.specs
-use proofs.Common.{refl, sym, ◌∙◌, join_job, usual}
-use proofs.JoinLemmas.{read_group_pre, read_group_fails, read_group_continues, group_closed, group_there}
-use proofs.JoinLemmas.{write_pairs_group, write_pairs_pre, pair_fails, write_pairs_next, write_pairs_continues}
-use proofs.JoinLemmas.{alone_continues, alone_fails, loop_invariant, measure_decreases, is_line_by_line, group_opens}
-use proofs.JoinLemmas.{read_group_in, joins}
+use proofs.Common.{refl, sym, ◌∙◌, arith, ℕ, ◌<◌, ◌≤◌, join_job}
+use proofs.JoinLemmas.{alone_continues, alone_fails, is_line_by_line, joins, group_opens, read_group_in, read_group_pre}
+use proofs.JoinLemmas.{read_group_continues, read_group_fails, write_pairs_next, write_pairs_pre, write_pairs_group}
+use proofs.JoinLemmas.{write_pairs_continues, pair_fails, group_there, group_closed}
 use proofs.MergeLemmas.{advance_pre, fails_by, start_fault, start_ok, open_merge, ends_well, ends_fallen, kept_order}
-use proofs.MergeLemmas.{fails, ends}
+use proofs.MergeLemmas.{fails, ends, reads_less}
+use proofs.PassedLemmas.{blocks_fail, blocks_read, reads_once}
+use proofs.PairLemmas.{joined_by_blocks}
 use specs.declared.key_order.Side.TheVariants as sides
-use specs.declared.tools.join.JoinPhase.TheVariants as phases
 use proofs.tools.join.join_with_order.Goals as goal
 
 pub returns-in_err-merge : goal.returns-in_err-merge
@@ -26,7 +26,7 @@ steps-init g c =
     kept_order e.order refl (record {
       w = w;
       keys = c.requires.keys;
-      phased = (start_ok w e.starts, refl);
+      here = start_ok w e.starts;
       between = record {
         valid_cursors = rw e.order at e.valid_cursors;
         own_reader = elim [ sides.First ↦ e.own_reader.0 | sides.Second ↦ e.own_reader.1 ];
@@ -34,165 +34,227 @@ steps-init g c =
       };
     })
 
+pub merge_in_blocks-requires-clause-keys : goal.merge_in_blocks-requires-clause-keys
+merge_in_blocks-requires-clause-keys g c = c.steps.invariant.iteration.keys
+
+pub merge_in_blocks-requires-clause-ready : goal.merge_in_blocks-requires-clause-ready
+merge_in_blocks-requires-clause-ready g c =
+    let t = c.steps.invariant.iteration in
+    record {
+      own_reader = t.between.own_reader;
+      terminator = (t.here.sides sides.First).lines_read.terminator;
+      clean = t.between.clean;
+    }
+
+pub returns-in_err-merge_in_blocks : goal.returns-in_err-merge_in_blocks
+returns-in_err-merge_in_blocks g c =
+    let i = c.steps.invariant in
+    fails i c.from_residual-in_err-merge_in_blocks.ensures.1
+    (blocks_fail i.iteration.here i.iteration.between c.in_err-merge_in_blocks.ensures.merges refl)
+
 pub write_unpaired-requires-clause-status_is : goal.write_unpaired-requires-clause-status_is
 write_unpaired-requires-clause-status_is g c =
-    advance_pre c.steps.invariant.iteration.between _ c.in-First.ensures.status_is
+    let i = joined_by_blocks g.K.KeyOrder.order g.K.KeyOrder.key_of c.steps.invariant
+    c.in_ok-merge_in_blocks.ensures.merges c.merge_in_blocks.ensures.order c.merge_in_blocks.ensures.valid_cursors in
+    advance_pre i.iteration.between _ c.in-First.ensures.status_is
 
 pub write_unpaired-requires-in-Second-clause-status_is : goal.write_unpaired-requires-in-Second-clause-status_is
 write_unpaired-requires-in-Second-clause-status_is g c =
-    advance_pre c.steps.invariant.iteration.between _ c.in-Second.ensures.status_is
+    let i = joined_by_blocks g.K.KeyOrder.order g.K.KeyOrder.key_of c.steps.invariant
+    c.in_ok-merge_in_blocks.ensures.merges c.merge_in_blocks.ensures.order c.merge_in_blocks.ensures.valid_cursors in
+    advance_pre i.iteration.between _ c.in-Second.ensures.status_is
 
 pub write_unpaired-requires-clause-joins : goal.write_unpaired-requires-clause-joins
-write_unpaired-requires-clause-joins g c = joins c.steps.invariant.iteration
+write_unpaired-requires-clause-joins g c =
+    let i = joined_by_blocks g.K.KeyOrder.order g.K.KeyOrder.key_of c.steps.invariant
+    c.in_ok-merge_in_blocks.ensures.merges c.merge_in_blocks.ensures.order c.merge_in_blocks.ensures.valid_cursors in
+    joins i.iteration
 
 pub write_unpaired-requires-in-Second-clause-joins : goal.write_unpaired-requires-in-Second-clause-joins
-write_unpaired-requires-in-Second-clause-joins g c = joins c.steps.invariant.iteration
-
-pub steps-preserved-in-Continue-branch-2 : goal.steps-preserved-in-Continue-branch-2
-steps-preserved-in-Continue-branch-2 g c =
-    let i = c.steps.invariant in
-    let p = c.write_unpaired.ensures in
-    kept_order p.order i.order (alone_continues i.iteration
-    c.in-BetweenGroups.is c.in-First.ensures p.wrote c.in_ok-write_unpaired-in-First.ensures.advances)
+write_unpaired-requires-in-Second-clause-joins g c =
+    let i = joined_by_blocks g.K.KeyOrder.order g.K.KeyOrder.key_of c.steps.invariant
+    c.in_ok-merge_in_blocks.ensures.merges c.merge_in_blocks.ensures.order c.merge_in_blocks.ensures.valid_cursors in
+    joins i.iteration
 
 pub steps-preserved-in-Continue-branch-3 : goal.steps-preserved-in-Continue-branch-3
 steps-preserved-in-Continue-branch-3 g c =
-    let i = c.steps.invariant in
+    let i = joined_by_blocks g.K.KeyOrder.order g.K.KeyOrder.key_of c.steps.invariant
+    c.in_ok-merge_in_blocks.ensures.merges c.merge_in_blocks.ensures.order c.merge_in_blocks.ensures.valid_cursors in
+    let p = c.write_unpaired.ensures in
+    kept_order p.order i.order (alone_continues i.iteration
+    c.in-First.ensures p.wrote c.in_ok-write_unpaired-in-First.ensures.advances)
+
+pub steps-preserved-in-Continue-branch-4 : goal.steps-preserved-in-Continue-branch-4
+steps-preserved-in-Continue-branch-4 g c =
+    let i = joined_by_blocks g.K.KeyOrder.order g.K.KeyOrder.key_of c.steps.invariant
+    c.in_ok-merge_in_blocks.ensures.merges c.merge_in_blocks.ensures.order c.merge_in_blocks.ensures.valid_cursors in
     let p = c.write_unpaired-in-Second.ensures in
     kept_order p.order i.order (alone_continues i.iteration
-    c.in-BetweenGroups.is c.in-Second.ensures p.wrote c.in_ok-write_unpaired-in-Second.ensures.advances)
-
-pub steps-smaller-in-Continue-branch-2 : goal.steps-smaller-in-Continue-branch-2
-steps-smaller-in-Continue-branch-2 g c =
-    let h = c.in_ok-write_unpaired-in-First.ensures.advances in
-    measure_decreases c.steps.invariant.iteration _ _ c.in-First.ensures.status_is h.came
-    h.continues
+    c.in-Second.ensures p.wrote c.in_ok-write_unpaired-in-Second.ensures.advances)
 
 pub steps-smaller-in-Continue-branch-3 : goal.steps-smaller-in-Continue-branch-3
 steps-smaller-in-Continue-branch-3 g c =
+    let i = joined_by_blocks g.K.KeyOrder.order g.K.KeyOrder.key_of c.steps.invariant
+    c.in_ok-merge_in_blocks.ensures.merges c.merge_in_blocks.ensures.order c.merge_in_blocks.ensures.valid_cursors in
+    let h = c.in_ok-write_unpaired-in-First.ensures.advances in
+    reads_once (reads_less i.iteration.between _ h.continues c.in-First.ensures.status_is h.came)
+    (blocks_read c.steps.invariant.iteration.here c.steps.invariant.iteration.between
+    c.in_ok-merge_in_blocks.ensures.merges)
+
+pub steps-smaller-in-Continue-branch-4 : goal.steps-smaller-in-Continue-branch-4
+steps-smaller-in-Continue-branch-4 g c =
+    let i = joined_by_blocks g.K.KeyOrder.order g.K.KeyOrder.key_of c.steps.invariant
+    c.in_ok-merge_in_blocks.ensures.merges c.merge_in_blocks.ensures.order c.merge_in_blocks.ensures.valid_cursors in
     let h = c.in_ok-write_unpaired-in-Second.ensures.advances in
-    measure_decreases c.steps.invariant.iteration _ _ c.in-Second.ensures.status_is h.came
-    h.continues
+    reads_once (reads_less i.iteration.between _ h.continues c.in-Second.ensures.status_is h.came)
+    (blocks_read c.steps.invariant.iteration.here c.steps.invariant.iteration.between
+    c.in_ok-merge_in_blocks.ensures.merges)
 
 pub returns-in_err-write_unpaired-in-First : goal.returns-in_err-write_unpaired-in-First
 returns-in_err-write_unpaired-in-First g c =
-    fails c.steps.invariant c.from_residual-in_err-write_unpaired-in-First.ensures.1
-    (alone_fails c.steps.invariant.iteration c.in-BetweenGroups.is c.in-First.ensures c.write_unpaired.ensures.wrote
+    let i = joined_by_blocks g.K.KeyOrder.order g.K.KeyOrder.key_of c.steps.invariant
+    c.in_ok-merge_in_blocks.ensures.merges c.merge_in_blocks.ensures.order c.merge_in_blocks.ensures.valid_cursors in
+    fails i c.from_residual-in_err-write_unpaired-in-First.ensures.1
+    (alone_fails i.iteration c.in-First.ensures c.write_unpaired.ensures.wrote
     _ _ _ c.in_err-write_unpaired-in-First.ensures.advances)
 
 pub returns-in_err-write_unpaired-in-Second : goal.returns-in_err-write_unpaired-in-Second
 returns-in_err-write_unpaired-in-Second g c =
-    fails c.steps.invariant c.from_residual-in_err-write_unpaired-in-Second.ensures.1
-    (alone_fails c.steps.invariant.iteration c.in-BetweenGroups.is c.in-Second.ensures
+    let i = joined_by_blocks g.K.KeyOrder.order g.K.KeyOrder.key_of c.steps.invariant
+    c.in_ok-merge_in_blocks.ensures.merges c.merge_in_blocks.ensures.order c.merge_in_blocks.ensures.valid_cursors in
+    fails i c.from_residual-in_err-write_unpaired-in-Second.ensures.1
+    (alone_fails i.iteration c.in-Second.ensures
     c.write_unpaired-in-Second.ensures.wrote
     _ _ _ c.in_err-write_unpaired-in-Second.ensures.advances)
 
-pub steps-preserved-in-Both : goal.steps-preserved-in-Both
-steps-preserved-in-Both g c =
-    assumption (group_opens c.steps.invariant.iteration c.in-BetweenGroups.is c.in-Both.ensures)
-
 pub returns-in-End : goal.returns-in-End
 returns-in-End g c =
-    let i = c.steps.invariant in
-    ends i (ends_well (loop_invariant i.iteration c.in-BetweenGroups.is) i.iteration.clean
+    let i = joined_by_blocks g.K.KeyOrder.order g.K.KeyOrder.key_of c.steps.invariant
+    c.in_ok-merge_in_blocks.ensures.merges c.merge_in_blocks.ensures.order c.merge_in_blocks.ensures.valid_cursors in
+    ends i (ends_well i.iteration.here i.iteration.clean
     c.clear_four_slots.ensures c.in-End.ensures)
 
 pub returns-in-Stop : goal.returns-in-Stop
 returns-in-Stop g c =
-    let i = c.steps.invariant in
-    ends i (ends_fallen (loop_invariant i.iteration c.in-BetweenGroups.is) i.iteration.clean
+    let i = joined_by_blocks g.K.KeyOrder.order g.K.KeyOrder.key_of c.steps.invariant
+    c.in_ok-merge_in_blocks.ensures.merges c.merge_in_blocks.ensures.order c.merge_in_blocks.ensures.valid_cursors in
+    ends i (ends_fallen i.iteration.here i.iteration.clean
     c.clear_four_slots-in-Stop.ensures c.in-Stop.ensures)
 
 pub clear_four_slots-requires-in-Stop : goal.clear_four_slots-requires-in-Stop
-clear_four_slots-requires-in-Stop g c = c.steps.invariant.iteration.valid_cursors.slots
+clear_four_slots-requires-in-Stop g c =
+    let i = joined_by_blocks g.K.KeyOrder.order g.K.KeyOrder.key_of c.steps.invariant
+    c.in_ok-merge_in_blocks.ensures.merges c.merge_in_blocks.ensures.order c.merge_in_blocks.ensures.valid_cursors in
+    i.iteration.valid_cursors.slots
 
-pub read_group_line-requires-clause-group : goal.read_group_line-requires-clause-group
-read_group_line-requires-clause-group g c = read_group_in c.steps.invariant.iteration c.in-ReadGroup.is
+pub lines-init : goal.lines-init
+lines-init g c =
+    let i = joined_by_blocks g.K.KeyOrder.order g.K.KeyOrder.key_of c.steps.invariant
+    c.in_ok-merge_in_blocks.ensures.merges c.merge_in_blocks.ensures.order c.merge_in_blocks.ensures.valid_cursors in
+    record {
+      kept = kept_order refl i.order (group_opens i.iteration c.in-Both.ensures c.new-group.ensures);
+      fewer = omega arith;
+    }
 
-pub read_group_line-requires-clause-status_is : goal.read_group_line-requires-clause-status_is
-read_group_line-requires-clause-status_is g c = read_group_pre c.steps.invariant.iteration c.in-ReadGroup.is
+pub read_line-requires-clause-status_is : goal.read_line-requires-clause-status_is
+read_line-requires-clause-status_is g c = read_group_pre c.lines.invariant.kept.iteration
 
-pub returns-in_err-end-in-ReadGroup : goal.returns-in_err-end-in-ReadGroup
-returns-in_err-end-in-ReadGroup g c =
-    fails c.steps.invariant c.from_residual-in_err-end-in-ReadGroup.ensures.1
-    (read_group_fails c.steps.invariant.iteration c.in-ReadGroup.is c.read_group_line.ensures.written_out
-    c.in_err-end-in-ReadGroup.ensures.reads_line)
+pub read_line-requires-clause-group : goal.read_line-requires-clause-group
+read_line-requires-clause-group g c = read_group_in c.lines.invariant.kept.iteration
 
-pub steps-preserved-then-not-has_same_key : goal.steps-preserved-then-not-has_same_key
-steps-preserved-then-not-has_same_key g c =
-    let i = c.steps.invariant in
-    let p = c.read_group_line.ensures in
-    let ok = c.in_ok-end-in-ReadGroup.ensures in
-    kept_order p.order i.order (write_pairs_next i.iteration
-    c.in-ReadGroup.is p.written_out ok.reads_line ok.continues
-    (sym c.has_same_key.ensures ∙ c.if-not-has_same_key.true))
+pub returns-in_err-read_line-in-Both : goal.returns-in_err-read_line-in-Both
+returns-in_err-read_line-in-Both g c =
+    let i = c.lines.invariant.kept in
+    fails i c.from_residual-in_err-read_line-in-Both.ensures.1
+    (read_group_fails i.iteration c.read_line.ensures.written_out c.in_err-read_line-in-Both.ensures.reads_line)
 
-pub steps-preserved-else-not-has_same_key : goal.steps-preserved-else-not-has_same_key
-steps-preserved-else-not-has_same_key g c =
-    let i = c.steps.invariant in
-    let p = c.read_group_line.ensures in
-    let ok = c.in_ok-end-in-ReadGroup.ensures in
-    kept_order p.order i.order (read_group_continues i.iteration
-    c.in-ReadGroup.is p.written_out ok.reads_line ok.continues
-    (sym c.has_same_key.ensures ∙ c.if-not-has_same_key.false))
+pub lines-smaller : goal.lines-smaller
+lines-smaller g c =
+    let t = c.lines.invariant.kept.iteration in
+    let ok = c.in_ok-read_line-in-Both.ensures in
+    reads_less t.between _ ok.continues (read_group_pre t).head ok.reads_line.1.came
 
-pub steps-smaller-else-not-has_same_key : goal.steps-smaller-else-not-has_same_key
-steps-smaller-else-not-has_same_key g c =
-    let ok = c.in_ok-end-in-ReadGroup.ensures in
-    measure_decreases c.steps.invariant.iteration _ _
-    (read_group_pre c.steps.invariant.iteration c.in-ReadGroup.is).head ok.reads_line.came ok.continues
+still_fewer : {a b c : ℕ} → a < b → b ≤ c → a ≤ c
+still_fewer less few = omega (arith, less, few)
 
-pub steps-smaller-then-not-has_same_key : goal.steps-smaller-then-not-has_same_key
-steps-smaller-then-not-has_same_key g c =
-    let ok = c.in_ok-end-in-ReadGroup.ensures in
-    measure_decreases c.steps.invariant.iteration _ phases.WritePairs
-    (read_group_pre c.steps.invariant.iteration c.in-ReadGroup.is).head ok.reads_line.came ok.continues
+pub lines-preserved : goal.lines-preserved
+lines-preserved g c =
+    let i = c.lines.invariant in
+    let t = i.kept.iteration in
+    let p = c.read_line.ensures in
+    let ok = c.in_ok-read_line-in-Both.ensures in
+    record {
+      kept = kept_order p.order i.kept.order (read_group_continues t p.written_out ok.reads_line.1 ok.continues
+          (sym ok.reads_line.0 ∙ c.if-branch.true));
+      fewer = still_fewer (reads_less t.between _ ok.continues (read_group_pre t).head ok.reads_line.1.came) i.fewer;
+    }
 
-pub steps-smaller-then-not-has_same_key-2 : goal.steps-smaller-then-not-has_same_key-2
-steps-smaller-then-not-has_same_key-2 g c =
-    let h = c.in_ok-write_pairs-in-WritePairs.ensures.advances in
-    measure_decreases c.steps.invariant.iteration _ phases.BetweenGroups
-    (write_pairs_pre c.steps.invariant.iteration c.in-WritePairs.is).status_is.head h.came
-    h.continues
-
-pub steps-smaller : goal.steps-smaller
-steps-smaller g c =
-    let h = c.in_ok-write_pairs-in-WritePairs.ensures.advances in
-    measure_decreases c.steps.invariant.iteration _ _
-    (write_pairs_pre c.steps.invariant.iteration c.in-WritePairs.is).status_is.head h.came
-    h.continues
+pub pairs-init : goal.pairs-init
+pairs-init g c =
+    let i = c.lines.invariant.kept in
+    let p = c.read_line.ensures in
+    let ok = c.in_ok-read_line-in-Both.ensures in
+    record {
+      kept = kept_order p.order i.order (write_pairs_next i.iteration p.written_out ok.reads_line.1 ok.continues
+          (sym ok.reads_line.0 ∙ c.if-branch.false));
+      fewer = omega arith;
+    }
 
 pub write_pairs-requires-clause-joins : goal.write_pairs-requires-clause-joins
-write_pairs-requires-clause-joins g c = write_pairs_pre c.steps.invariant.iteration c.in-WritePairs.is
+write_pairs-requires-clause-joins g c = write_pairs_pre c.pairs.invariant.kept.iteration
 
 pub write_pairs-requires-clause-group : goal.write_pairs-requires-clause-group
-write_pairs-requires-clause-group g c = write_pairs_group c.steps.invariant.iteration c.in-WritePairs.is
+write_pairs-requires-clause-group g c = write_pairs_group c.pairs.invariant.kept.iteration
 
-pub returns-in_err-write_pairs-in-WritePairs : goal.returns-in_err-write_pairs-in-WritePairs
-returns-in_err-write_pairs-in-WritePairs g c =
-    fails c.steps.invariant c.from_residual-in_err-write_pairs-in-WritePairs.ensures.1
-    (pair_fails c.steps.invariant.iteration c.in-WritePairs.is c.write_pairs.ensures.wrote
-    _ _ _ c.in_err-write_pairs-in-WritePairs.ensures.advances)
+pub returns-in_err-write_pairs-in-Both : goal.returns-in_err-write_pairs-in-Both
+returns-in_err-write_pairs-in-Both g c =
+    let i = c.pairs.invariant.kept in
+    fails i c.from_residual-in_err-write_pairs-in-Both.ensures.1
+    (pair_fails i.iteration c.write_pairs.ensures.wrote _ _ _ c.in_err-write_pairs-in-Both.ensures.fails)
 
-pub clear_group-requires : goal.clear_group-requires
-clear_group-requires g c = group_there c.steps.invariant.iteration c.in-WritePairs.is
-    c.write_pairs.ensures.wrote c.in_ok-write_pairs-in-WritePairs.ensures.advances
+pub pairs-smaller : goal.pairs-smaller
+pairs-smaller g c =
+    let t = c.pairs.invariant.kept.iteration in
+    let h = c.in_ok-write_pairs-in-Both.ensures.advances in
+    reads_less t.between _ h.continues (write_pairs_pre t).status_is.head h.came
 
-pub steps-preserved-then-not-has_same_key-2 : goal.steps-preserved-then-not-has_same_key-2
-steps-preserved-then-not-has_same_key-2 g c =
-    let i = c.steps.invariant in
+pub pairs-preserved : goal.pairs-preserved
+pairs-preserved g c =
+    let i = c.pairs.invariant in
+    let t = i.kept.iteration in
     let p = c.write_pairs.ensures in
-    kept_order p.order i.order (group_closed i.iteration c.in-WritePairs.is
-    p.wrote c.in_ok-write_pairs-in-WritePairs.ensures.advances c.clear_group.ensures
-    (sym c.has_same_key-in-WritePairs.ensures ∙ c.if-not-has_same_key-2.true))
+    let ok = c.in_ok-write_pairs-in-Both.ensures in
+    let h = ok.advances in
+    record {
+      kept = kept_order p.order i.kept.order (write_pairs_continues t p.wrote h
+          (sym ok.has_more ∙ c.if-branch-2.true));
+      fewer = still_fewer (reads_less t.between _ h.continues (write_pairs_pre t).status_is.head h.came) i.fewer;
+    }
+
+pub clear-requires : goal.clear-requires
+clear-requires g c = group_there c.pairs.invariant.kept.iteration c.write_pairs.ensures.wrote
+    c.in_ok-write_pairs-in-Both.ensures.advances
 
 pub steps-preserved : goal.steps-preserved
 steps-preserved g c =
-    let i = c.steps.invariant in
+    let i = c.pairs.invariant.kept in
     let p = c.write_pairs.ensures in
-    kept_order p.order i.order (write_pairs_continues i.iteration
-    c.in-WritePairs.is p.wrote c.in_ok-write_pairs-in-WritePairs.ensures.advances
-    (sym c.has_same_key-in-WritePairs.ensures ∙ c.if-not-has_same_key-2.false))
+    let ok = c.in_ok-write_pairs-in-Both.ensures in
+    kept_order p.order i.order (group_closed i.iteration p.wrote ok.advances c.clear.ensures
+    (sym ok.has_more ∙ c.if-branch-2.false))
 
-pub steps-smaller-in-Both : goal.steps-smaller-in-Both
-steps-smaller-in-Both g c = grind usual
+-- each loop of a group reads at least one line
+fewer_after : {a b c d e : ℕ} → a < b → b ≤ c → c < d → d ≤ e → a < e
+fewer_after pair pairs line lines = omega (arith, pair, pairs, line, lines)
+
+pub steps-smaller : goal.steps-smaller
+steps-smaller g c =
+    let read = c.lines.invariant.kept.iteration in
+    let line = c.in_ok-read_line-in-Both.ensures in
+    let wrote = c.pairs.invariant.kept.iteration in
+    let pair = c.in_ok-write_pairs-in-Both.ensures.advances in
+    reads_once (fewer_after (reads_less wrote.between _ pair.continues (write_pairs_pre wrote).status_is.head pair.came)
+    c.pairs.invariant.fewer
+    (reads_less read.between _ line.continues (read_group_pre read).head line.reads_line.1.came) c.lines.invariant.fewer)
+    (blocks_read c.steps.invariant.iteration.here c.steps.invariant.iteration.between
+    c.in_ok-merge_in_blocks.ensures.merges)

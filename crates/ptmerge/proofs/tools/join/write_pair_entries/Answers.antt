@@ -3,7 +3,7 @@ use Rattle.ptmerge.proofs
 use Rattle.std.proofs.Common.{◌++◌, ◌+◌, ◌<◌, ◌≤◌, ◌≡◌, ◌==◌, Bool, true, false, [], ◌∷◌, List, ℕ, ap, arith, sym, map}
 use Rattle.std.proofs.Common.{⊎_elim, if◌then◌else◌}
 use Rattle.std.proofs.Common.{Ok, subst}
-use proofs.Common.{group, join_job, pair_entries, unlines, usual}
+use proofs.Common.{lines_of_slots, join_job, pair_entries, unlines, usual}
 use Rattle.ptmerge.specs.Private.Write.{WriteBytesPost}
 use Rattle.ptlines.specs.declared.out.WriteFault.{WriteFault}
 use Rattle.ptmerge.specs.Calls.Cursor.{HasSlots}
@@ -29,12 +29,12 @@ ends_within {slot} {count} second end is slots four within =
 
 pub returns-in_err-write_pair : goal.returns-in_err-write_pair
 returns-in_err-write_pair g c =
-    let slots = c.group_slots-slots.ensures in
-    let within = ends_within c.args.merge.now.second c.args.end slots.last c.requires.valid_cursors.second
+    let slots = c.slots-slots.ensures in
+    let within = ends_within c.args.merge.now.second c.args.group.end slots.last c.requires.valid_cursors.second
     c.requires.valid_cursors.slots c.requires.group.within.1 in
     subst (λ bytes. WriteBytesPost c.args.out.now c.write_pair.new.out bytes c.from_residual.result)
     (λ i. unlines c.args.terminator (pair_entries (join_job c.args.job.now) (c.key-key.ensures i)
-    (c.head-one.ensures i ∷ []) (group c.args.store.now (slots.first i) (slots.last i))))
+    (c.head-one.ensures i ∷ []) (lines_of_slots c.args.store.now (slots.first i) (slots.last i))))
     (each_fails (λ (l : List ℕ). l ++ c.args.terminator ∷ [])
     (ap (map (pair_of (join_job c.args.job.now) c.key-key.result.now c.head-one.result.now))
     (group_from c.args.store.now _ _ within c.loop-slot-test.true))
@@ -44,7 +44,7 @@ returns-in_err-write_pair g c =
 
 pub loop-slot-preserved : goal.loop-slot-preserved
 loop-slot-preserved g c =
-    let within = ends_within c.args.merge.now.second c.args.end c.group_slots-slots.ensures.last
+    let within = ends_within c.args.merge.now.second c.args.group.end c.slots-slots.ensures.last
     c.requires.valid_cursors.second c.requires.valid_cursors.slots c.requires.group.within.1 in
     record {
       amid = each_more (λ (l : List ℕ). l ++ c.args.terminator ∷ [])
@@ -57,8 +57,8 @@ loop-slot-preserved g c =
 
 pub returns : goal.returns
 returns g c =
-    let slots = c.group_slots-slots.ensures in
+    let slots = c.slots-slots.ensures in
     subst (λ bytes. WriteBytesPost {E = WriteFault} c.args.out.now c.loop-slot.out bytes (Ok tt))
     (λ i. unlines c.args.terminator (pair_entries (join_job c.args.job.now) (c.key-key.ensures i)
-    (c.head-one.ensures i ∷ []) (group c.args.store.now (slots.first i) (slots.last i))))
+    (c.head-one.ensures i ∷ []) (lines_of_slots c.args.store.now (slots.first i) (slots.last i))))
     (grind usual)

@@ -1,6 +1,6 @@
 use Rattle.ptmerge.proofs
 use proofs.MergeLemmas.{copied_continues}
-use proofs.tools.join.key_group.read_group_line.Goals as goal
+use proofs.tools.join.key_group.Group.read_line.Goals as goal
 
 pub returns-in-Ok-clause-continues : goal.returns-in-Ok-clause-continues
 returns-in-Ok-clause-continues g c = copied_continues c.requires.group.0 c.in-Ok.ensures.ok

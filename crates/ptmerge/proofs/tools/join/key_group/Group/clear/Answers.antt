@@ -1,7 +1,7 @@
 use Rattle.ptmerge.proofs
 use Rattle.std.proofs.Common.{arith, rules}
 use proofs.JoinLemmas.Group.{clears_more, clears_none}
-use proofs.tools.join.key_group.clear_group.Goals as goal
+use proofs.tools.join.key_group.Group.clear.Goals as goal
 
 pub loop-slot-init : goal.loop-slot-init
 loop-slot-init g c = search (rules, clears_none)
