@@ -79,12 +79,23 @@ function* piecesOf(given) {
     }
 }
 
-/** The pieces of any input. */
-async function* awaitedPiecesOf(given) {
-    if (given instanceof URL) yield* fs.createReadStream(given, { highWaterMark: PIECE });
-    else if (given instanceof Blob) yield* given.stream();
-    else if (isBytes(given)) yield given;
-    else yield* given;
+async function* eachOf(given) {
+    yield* given;
+}
+
+/** The pieces of any input. Its `return` also ends a stream of which `next` waits for a piece. */
+function awaitedPiecesOf(given) {
+    if (given instanceof URL) return awaitedPiecesOf(fs.createReadStream(given, { highWaterMark: PIECE }));
+    if (given instanceof Blob) return awaitedPiecesOf(given.stream());
+    if (isBytes(given)) return eachOf([given]);
+    if (typeof given.getReader === "function") {
+        const reader = given.getReader();
+        return { next: () => reader.read(), return: () => reader.cancel() };
+    }
+    const iterator = eachOf(given);
+    if (typeof given.pipe !== "function") return iterator;
+    // (It is a Readable.)
+    return { next: () => iterator.next(), return: async () => given.destroy() };
 }
 
 // ---- in this thread
@@ -156,11 +167,21 @@ class Thread {
         this.worker = new Worker(at("worker.mjs"), { workerData, resourceLimits, execArgv: [] });
         this.worker.unref();
         this.worker.on("message", (step) => this.good(step));
-        this.worker.on("error", (error) => this.bad?.(error));
+        this.worker.on("error", (error) => this.#died(error));
+        this.worker.on("exit", () => this.#died(new Error("the thread of the command has ended")));
+    }
+
+    /** No further command gets this thread, and the one that it runs fails. */
+    #died(error) {
+        this.dead ??= error;
+        const index = threads.indexOf(this);
+        if (index >= 0) threads.splice(index, 1);
+        this.bad?.(this.dead);
     }
 
     /** The next step: that of a command that begins, or, with a number, after that many bytes of the piece. */
     next(command) {
+        if (this.dead) throw this.dead;
         // (The thread keeps the process alive only while it is waited for.)
         this.worker.ref();
         const step = new Promise((good, bad) => Object.assign(this, { good, bad }));

@@ -149,6 +149,8 @@ export class Ptext {
         /** How the streams of the run are read and written, and those whose last read gave less than its room. */
         this.streams = null;
         this.short = new Set();
+        /** The bytes of the last read or write of each stream. */
+        this.views = [];
     }
 
     /** Loads a module from its bytes. It fails with a CompileError where the memories of the module are unknown. */
@@ -186,7 +188,7 @@ export class Ptext {
             found = this.names(words);
             const readers = [open(null), null, null, ...found.read.map((name) => open(name))];
             const opened = Uint8Array.from(readers.slice(FIRST_FILE), (it) => (it ? 1 : 0));
-            const read = (number, room) => readers[number](room, () => out.flush());
+            const flush = () => out.flush(), read = (number, room) => readers[number](room, flush);
             const write = (number, bytes) => (number === OUTPUT ? out.write(bytes) : messages.push(bytes.slice()));
             status = this.#guarded({ read, write }, () => {
                 return this.exports.ptext_run_streams(...this.#lay(bytesOfWords(words)), ...this.#lay(opened));
@@ -215,6 +217,7 @@ export class Ptext {
         this.heap.begin(this.exports.memory, Number(this.exports.__heap_base.value));
         this.streams = streams ?? {};
         this.short.clear();
+        this.views = [];
         try {
             return call();
         } catch (error) {
@@ -234,13 +237,13 @@ export class Ptext {
         return {
             read: (number, at, size) => {
                 if (this.short.delete(number)) return 0n;
-                const room = this.#at(at, Number(size)), count = this.streams.read(number, room);
+                const room = this.#of(number, Number(at), Number(size)), count = this.streams.read(number, room);
                 if (!(count >= 0 && count <= room.length)) throw new RangeError("a read of more than its room");
                 if (count && count < room.length) this.short.add(number);
                 return BigInt(count);
             },
             write: (number, at, size) => {
-                if (number >= 0) this.streams.write(number, this.#at(at, Number(size)));
+                if (number >= 0) this.streams.write(number, this.#of(number, Number(at), Number(size)));
                 return size;
             },
         };
@@ -249,6 +252,13 @@ export class Ptext {
     /** The bytes at an address of the memory. */
     #at(address, size) {
         return new Uint8Array(this.exports.memory.buffer, Number(address), size);
+    }
+
+    /** The bytes of a read or write. Most are those of the last one. (A memory that grew has left its views empty.) */
+    #of(number, address, size) {
+        const last = this.views[number];
+        if (last && last.byteOffset === address && last.length === size) return last;
+        return (this.views[number] = this.#at(address, size));
     }
 
     /** Returns the address and the size of a room, as the module takes them. */
@@ -275,36 +285,39 @@ class Collected {
     }
 
     write(bytes) {
-        for (let at = 0; at < bytes.length; ) {
-            const part = bytes.subarray(at, at + PIECE - this.count);
-            this.room.set(part, this.count);
-            this.count += part.length;
-            at += part.length;
-            if (this.count === PIECE) this.flush();
+        let left = bytes;
+        while (left.length > PIECE - this.count) {
+            const free = PIECE - this.count;
+            this.room.set(left.subarray(0, free), this.count);
+            left = left.subarray(free);
+            this.count = PIECE;
+            this.flush();
         }
+        this.room.set(left, this.count);
+        this.count += left.length;
     }
 
     flush() {
         const { count } = this;
         this.count = 0;
-        if (count) this.take(this.room.subarray(0, count));
+        if (count) this.take(count === PIECE ? this.room : this.room.subarray(0, count));
     }
 }
 
 /** A function that reads pieces (strings, buffers, or views of buffers), when they are needed. */
 export function readerOf(pieces) {
     const iterator = pieces[Symbol.iterator]();
-    let left = new Uint8Array(0);
+    let piece = new Uint8Array(0), begin = 0;
     return (room) => {
-        while (!left.length) {
+        while (begin === piece.length) {
             const { done, value } = iterator.next();
             if (done) return 0;
-            left = bytesOf(value);
+            [piece, begin] = [bytesOf(value), 0];
         }
-        const part = left.subarray(0, room.length);
-        room.set(part);
-        left = left.subarray(part.length);
-        return part.length;
+        const end = Math.min(piece.length, begin + room.length), count = end - begin;
+        room.set(piece.subarray(begin, end));
+        begin = end;
+        return count;
     };
 }
 
@@ -314,9 +327,9 @@ function encode(text) {
 
 /** Whether this is a text or a buffer, all of whose bytes are there. */
 export function isBytes(given) {
+    if (typeof given === "string" || ArrayBuffer.isView(given)) return true;
     // (A buffer may be of another window, so it is known by its name.)
-    const name = Object.prototype.toString.call(given);
-    return typeof given === "string" || ArrayBuffer.isView(given) || /^.object (Shared)?ArrayBuffer.$/.test(name);
+    return /^.object (Shared)?ArrayBuffer.$/.test(Object.prototype.toString.call(given));
 }
 
 /** The bytes of a string (as UTF-8), of a buffer, or of a view of one. */

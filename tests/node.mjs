@@ -1,5 +1,6 @@
 // Tests of the package for node. usage: node tests/node.mjs FOLDER
-import { spawnSync } from "node:child_process";
+import { spawn, spawnSync } from "node:child_process";
+import { once } from "node:events";
 import fs from "node:fs";
 import os from "node:os";
 import path from "node:path";
@@ -176,6 +177,12 @@ const reader = never.getReader(), pending = reader.read();
 await new Promise((after) => setTimeout(after, 50));
 await reader.cancel();
 is("a stream that waits is left", (await pending).done, true);
+let isCancelled = false;
+const silent = new ReadableStream({ cancel: () => (isCancelled = true) }, { highWaterMark: 0 });
+const outer = stream(["uniq"], { stdin: stream(["uniq"], { stdin: silent }) }).getReader(), waits = outer.read();
+await new Promise((after) => setTimeout(after, 100));
+await outer.cancel();
+is("its input that waits is cancelled", [(await waits).done, isCancelled], [true, true]);
 
 // ---- output comes as it is there: a line of a slow input is not held back
 const order = [];
@@ -195,6 +202,44 @@ const script = `import { stream } from ${JSON.stringify(entry)};
     await left.getReader().read();`;
 const did = spawnSync("node", ["--input-type=module", "-e", script], { input: "a\na\nb\n", timeout: 60000 });
 is("a process", [did.status, text(did.stdout), text(did.stderr)], [0, "a\nb\n", ""]);
+const leaving = `import { stream } from ${JSON.stringify(entry)};
+    const reader = stream(["cut", "-b", "1"], { stdin: process.stdin }).getReader();
+    await reader.read();
+    setTimeout(() => reader.cancel(), 200);
+    await reader.read();`;
+const child = spawn("node", ["--input-type=module", "-e", leaving], { stdio: ["pipe", "inherit", "inherit"] });
+const late = setTimeout(() => child.kill(), 20000);
+child.stdin.write("ab\n");
+is("a process that leaves a stream does not wait for its standard input", await once(child, "exit"), [0, null]);
+clearTimeout(late);
+
+// ---- a thread that died, while it was kept or while it ran a command
+const dying = `import { createRequire, syncBuiltinESMExports } from "node:module";
+    const threads = createRequire("/")("node:worker_threads"), { Worker } = threads, made = [];
+    threads.Worker = class extends Worker {
+        constructor(...given) {
+            super(...given);
+            made.push(this);
+        }
+    };
+    syncBuiltinESMExports();
+    const { stream } = await import(${JSON.stringify(entry)});
+    const all = async (stdin) => {
+        let found = "";
+        for await (const it of stream(["uniq"], { stdin })) found += Buffer.from(it);
+        return found;
+    };
+    const one = await all("a\\na\\n");
+    await made[0].terminate();
+    const two = await all("b\\n");
+    const why = await all((async function* () {
+        await made[1].terminate();
+        yield "c\\n";
+    })()).catch((error) => error.message);
+    process.stdout.write(JSON.stringify([one, two, why, await all("d\\n"), made.length]));`;
+const died = spawnSync("node", ["--input-type=module", "-e", dying], { timeout: 60000 });
+is("threads that died", [text(died.stdout), text(died.stderr)],
+    ['["a\\n","b\\n","the thread of the command has ended","d\\n",3]', ""]);
 
 // ---- the package: npm's files, the licenses, and the types
 const about = JSON.parse(fs.readFileSync(`${folder}/package.json`));

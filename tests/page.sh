@@ -24,6 +24,15 @@ in_time() {
 }
 in_time 600 node tests/page.mjs "$built/node/ptext.wasm"
 in_time 600 node tests/node.mjs "$built/node"
+if has tsc; then
+    mkdir -p "$room/typed/node_modules"
+    ln -s "$built/node" "$room/typed/node_modules/ptext"
+    cp tests/user.mts "$room/typed"
+    known="--target es2022 --lib es2022,dom,dom.iterable --module node16"
+    is "the types of a program" "" "$(cd "$room/typed" && tsc --strict --noEmit $known user.mts 2>&1)"
+else
+    left_out "the types of a program by a compiler of TypeScript (there is no tsc)"
+fi
 PTEXT_NODE=$built/node
 export PTEXT_NODE
 in_time 600 python3 tools/same.py "$program" 500 --by node

@@ -117,7 +117,7 @@ def check_status(status: int, messages: bytes, out: bytes, unknown: tuple[str, .
 def run(words: Iterable[str], stdin: Input = b"", files: Mapping[str, Input] | None = None) -> bytes:
     """Runs a command, the name of the tool first, and returns its output. A file that `files` lacks cannot be opened.
 
-    An open file is read once, also if its name is there twice. Raises `Error` if the status is not 0, with the status,
+    An open file or an iterator is read once, also if it is there by several names. Raises `Error` if the status is not 0, with the status,
     the messages and the output; and `MemoryError`, of which `out` has the beginning of the output if the library raised
     it."""
     words = list_words(words)
@@ -134,9 +134,13 @@ def run_all(
     words, files = list_words(words), check_files(files)
     given, text = encode_words(words), read_all("stdin", stdin)
     read = names(words)[0] if files else []
-    known = [name for name in dict.fromkeys(read) if files.get(name) is not None]
-    contents = {name: read_all(f"files[{name!r}]", files[name]) for name in known}
-    parts = [contents.get(name) for name in read]
+    inputs = {name: files.get(name) for name in read}
+    # (What is there by several names is read once: an iterator has nothing more the second time.)
+    contents: dict[int, bytes | None] = {id(stdin): text, id(None): None}
+    for name, one in inputs.items():
+        if one is not None and id(one) not in contents:
+            contents[id(one)] = read_all(f"files[{name!r}]", one)
+    parts = [contents[id(inputs[name])] for name in read]
     present = [part for part in parts if part is not None]
     joined = present[0] if len(present) == 1 else b"".join(present)
     ends, end = (ctypes.c_size_t * len(parts))(), 0

@@ -110,12 +110,14 @@ class Stream(Iterator[bytes]):
         self._stack = contextlib.ExitStack()
         try:
             self._pieces = {INPUT: list_pieces("stdin", open_path(stdin, self._stack))}
+            taken = [stdin]
             for number, name in enumerate(read, FIRST_FILE):
                 given = files.get(name)
                 if given is None:
                     continue
-                if read.count(name) > 1 and is_read_once(given):
-                    raise ValueError(f"{name} is named twice, and what `files` has for it can be read only once")
+                if is_read_once(given) and any(given is one for one in taken):
+                    raise ValueError(f"what `files` has for {name} is an input twice, and can be read only once")
+                taken.append(given)
                 self._pieces[number] = list_pieces(f"files[{name!r}]", open_path(given, self._stack))
             opened = bytes(number in self._pieces for number in range(FIRST_FILE, FIRST_FILE + len(read)))
             options = _Options(opened, len(opened), memory or 0, None)

@@ -59,6 +59,12 @@ class Tools(unittest.TestCase):
             files = {"a": io.BytesIO(b"k 1\n"), "b": io.BytesIO(b"x\n")}
             self.assertEqual(ptext.run(words, files=files), wanted)
 
+    def test_iterator_that_has_two_names(self):
+        once = iter([b"k 1\n"])
+        self.assertEqual(ptext.run(["join", "a", "b"], files={"a": once, "b": once}), b"k 1 1\n")
+        once = io.BytesIO(b"x\n")
+        self.assertEqual(ptext.run(["paste", "-", "a"], once, {"a": once}), b"x\tx\n")
+
     def test_file_that_is_not_named_is_not_read(self):
         other = io.BytesIO(b"x\n")
         ptext.cut("-b", "1", "a", files={"a": b"k\n", "b": other})
@@ -234,8 +240,14 @@ class Streams(unittest.TestCase):
             ptext.stream(["cut", "-b", "1"], stdin=b"ab\n", out=full)
 
     def test_what_can_be_read_once_is_named_once(self):
-        with self.assertRaisesRegex(ValueError, "named twice"):
-            ptext.stream(["paste", "f", "f"], files={"f": io.BytesIO(b"a\n")})
+        once = io.BytesIO(b"a\n")
+        for words, stdin, files in [
+            (["paste", "f", "f"], b"", {"f": once}),
+            (["paste", "f", "g"], b"", {"f": once, "g": once}),
+            (["paste", "-", "f"], once, {"f": once}),
+        ]:
+            with self.assertRaisesRegex(ValueError, "an input twice"):
+                ptext.stream(words, stdin, files)
 
     def test_limit_of_memory(self):
         lines = b"k 0123456789\n" * 20_000
