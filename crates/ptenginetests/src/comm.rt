@@ -42,6 +42,57 @@ const ALTERNATING: Case = Case {
 
 const EXAMPLES: &[Example] = &[
     Example {
+        name: "a line of 63 bytes between short ones",
+        job: DEFAULT,
+        case: Case {
+            first: b"a\nbxxxxxxxxxxxxxxxxxxxxxxxxxxxxxxxxxxxxxxxxxxxxxxxxxxxxxxxxxxxxxx\nc\nd\n",
+            second: b"a\nbxxxxxxxxxxxxxxxxxxxxxxxxxxxxxxxxxxxxxxxxxxxxxxxxxxxxxxxxxxxxxx\nd\n",
+            sizes: &[1, 7, 4096],
+            ..BOTH_EMPTY
+        },
+        expected: Expected {
+            result: OK,
+            bytes: Some(
+                b"\t\ta\n\t\tbxxxxxxxxxxxxxxxxxxxxxxxxxxxxxxxxxxxxxxxxxxxxxxxxxxxxxxxxxxxxxx\nc\n\t\td\n",
+            ),
+            ..ANY
+        },
+    },
+    Example {
+        name: "a line of 64 bytes between short ones",
+        job: DEFAULT,
+        case: Case {
+            first: b"a\nbxxxxxxxxxxxxxxxxxxxxxxxxxxxxxxxxxxxxxxxxxxxxxxxxxxxxxxxxxxxxxxx\nc\nd\n",
+            second: b"a\nbxxxxxxxxxxxxxxxxxxxxxxxxxxxxxxxxxxxxxxxxxxxxxxxxxxxxxxxxxxxxxxx\nd\n",
+            sizes: &[1, 7, 4096],
+            ..BOTH_EMPTY
+        },
+        expected: Expected {
+            result: OK,
+            bytes: Some(
+                b"\t\ta\n\t\tbxxxxxxxxxxxxxxxxxxxxxxxxxxxxxxxxxxxxxxxxxxxxxxxxxxxxxxxxxxxxxxx\nc\n\t\td\n",
+            ),
+            ..ANY
+        },
+    },
+    Example {
+        name: "a line of 65 bytes between short ones",
+        job: DEFAULT,
+        case: Case {
+            first: b"a\nbxxxxxxxxxxxxxxxxxxxxxxxxxxxxxxxxxxxxxxxxxxxxxxxxxxxxxxxxxxxxxxxx\nc\nd\n",
+            second: b"a\nbxxxxxxxxxxxxxxxxxxxxxxxxxxxxxxxxxxxxxxxxxxxxxxxxxxxxxxxxxxxxxxxx\nd\n",
+            sizes: &[1, 7, 4096],
+            ..BOTH_EMPTY
+        },
+        expected: Expected {
+            result: OK,
+            bytes: Some(
+                b"\t\ta\n\t\tbxxxxxxxxxxxxxxxxxxxxxxxxxxxxxxxxxxxxxxxxxxxxxxxxxxxxxxxxxxxxxxxx\nc\n\t\td\n",
+            ),
+            ..ANY
+        },
+    },
+    Example {
         name: "common lines come first",
         job: DEFAULT,
         case: COMMON,

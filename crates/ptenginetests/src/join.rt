@@ -5,6 +5,7 @@ use crate::two_inputs::{
     ANY, BOTH_EMPTY, Case, Example, Expected, FIRST_DISORDER, FIRST_READ_FAILS, Job, OK, Options,
     SECOND_DISORDER, SECOND_READ_FAILS, check_example,
 };
+use ptmerge::{MergeFault, Side};
 
 /// The job without options.
 pub const DEFAULT: Job = Job::Join(DEFAULT_JOB);
@@ -33,6 +34,98 @@ pub const PIECES: Case = Case {
 };
 
 const PIECE_EXAMPLES: &[Example] = &[
+    Example {
+        name: "a line of 63 bytes between short ones",
+        job: BOTH_UNPAIRED,
+        case: Case {
+            first: b"a 1\nb xxxxxxxxxxxxxxxxxxxxxxxxxxxxxxxxxxxxxxxxxxxxxxxxxxxxxxxxxxxxx\nc 3\nd 4\n",
+            second: b"a u\nb v\nd w\n",
+            ..PIECES
+        },
+        expected: Expected {
+            result: OK,
+            bytes: Some(
+                b"a 1 u\nb xxxxxxxxxxxxxxxxxxxxxxxxxxxxxxxxxxxxxxxxxxxxxxxxxxxxxxxxxxxxx v\nc 3\nd 4 w\n",
+            ),
+            ..ANY
+        },
+    },
+    Example {
+        name: "a line of 64 bytes between short ones",
+        job: BOTH_UNPAIRED,
+        case: Case {
+            first: b"a 1\nb xxxxxxxxxxxxxxxxxxxxxxxxxxxxxxxxxxxxxxxxxxxxxxxxxxxxxxxxxxxxxx\nc 3\nd 4\n",
+            second: b"a u\nb v\nd w\n",
+            ..PIECES
+        },
+        expected: Expected {
+            result: OK,
+            bytes: Some(
+                b"a 1 u\nb xxxxxxxxxxxxxxxxxxxxxxxxxxxxxxxxxxxxxxxxxxxxxxxxxxxxxxxxxxxxxx v\nc 3\nd 4 w\n",
+            ),
+            ..ANY
+        },
+    },
+    Example {
+        name: "a line of 65 bytes between short ones",
+        job: BOTH_UNPAIRED,
+        case: Case {
+            first: b"a 1\nb xxxxxxxxxxxxxxxxxxxxxxxxxxxxxxxxxxxxxxxxxxxxxxxxxxxxxxxxxxxxxxx\nc 3\nd 4\n",
+            second: b"a u\nb v\nd w\n",
+            ..PIECES
+        },
+        expected: Expected {
+            result: OK,
+            bytes: Some(
+                b"a 1 u\nb xxxxxxxxxxxxxxxxxxxxxxxxxxxxxxxxxxxxxxxxxxxxxxxxxxxxxxxxxxxxxxx v\nc 3\nd 4 w\n",
+            ),
+            ..ANY
+        },
+    },
+    Example {
+        name: "a key with several lines after keys with one",
+        job: BOTH_UNPAIRED,
+        case: Case {
+            first: b"a 1\nb 2\nc 3\nd 4\nf 5\n",
+            second: b"a u\nc v\nc w\nc x\nd y\ne z\n",
+            sizes: &[1, 4, 8, 12, 16, 4096],
+            ..BOTH_EMPTY
+        },
+        expected: Expected {
+            result: OK,
+            bytes: Some(b"a 1 u\nb 2\nc 3 v\nc 3 w\nc 3 x\nd 4 y\ne z\nf 5\n"),
+            ..ANY
+        },
+    },
+    Example {
+        name: "several lines with the last key, at the end of a block",
+        job: DEFAULT,
+        case: Case {
+            first: b"a 1\nb 2\nb 3\n",
+            second: b"a x\nb y\nb z\n",
+            sizes: &[1, 4, 8, 12, 4096],
+            ..BOTH_EMPTY
+        },
+        expected: Expected {
+            result: OK,
+            bytes: Some(b"a 1 x\nb 2 y\nb 2 z\nb 3 y\nb 3 z\n"),
+            ..ANY
+        },
+    },
+    Example {
+        name: "a line out of order after pairs",
+        job: DEFAULT,
+        case: Case {
+            first: b"a 1\nb 2\nc 3\nd 4\n",
+            second: b"a x\nb y\na z\nd w\n",
+            ..PIECES
+        },
+        expected: Expected {
+            result: Some(Err(MergeFault::Disorder(Side::Second, 3))),
+            bytes: Some(b"a 1 x\nb 2 y\n"),
+            ..ANY
+        },
+    },
     Example {
         name: "pairs by the first input's line",
         job: DEFAULT,

@@ -1,33 +1,33 @@
--- The lines that `comm` merges in the blocks of its readers, without a copy in the store.
+-- The lines that are merged in the blocks of their readers, without a copy in the store.
 use Rattle.ptmerge.proofs
 use Rattle.ptmerge.specs
-use proofs.Common.{◌≡◌, ◌⊎◌, inl, inr, ℕ, ◌+◌, ◌<◌, ◌≤◌, List, [], ◌∷◌, ◌++◌, refl, sym, ◌∙◌, ap, arith, Comm, Output, length}
-use proofs.Common.{PushEffect, Some, None, Option, true, false, drop, length-append, append_assoc, append-nil}
-use proofs.Common.{unlines, IsLine, Side, First, Second, Lines, MergeTool, other, with_side, Cmp, Key, both, length_push}
-use proofs.Common.{Reader, Sorted, Head, budget, length-drop, ◌^◌}
-use Rattle.std.specs.Prelude.{take}
+use proofs.Common.{◌≡◌, inl, inr, ⊎_elim, ℕ, ◌+◌, ◌<◌, ◌≤◌, ◌^◌, List, [], ◌∷◌, ◌++◌, refl, sym, ◌∙◌, ap, arith}
+use proofs.Common.{Comm, Output, length, PushEffect, Some, None, Option, true, false, drop, length-append, append_assoc}
+use proofs.Common.{append-nil, unlines, IsLine, Side, First, Second, Lines, MergeTool, other, with_side, Cmp, Key, both}
+use proofs.Common.{length_push, Reader, Sorted, Head, budget, length-drop, Slots, line, usual, push_nothing, is_eq, is_gt, Less}
+use proofs.Common.{Bool, entries_by_key, entries_of_key, lines_with_key, unlines-append, push_trans}
+use Rattle.std.specs.Prelude.{MatchBool, take}
+use Rattle.std.specs.declared.cmp.Ordering.{Ordering}
 use Rattle.ptlines.specs.Calls.Readers.{IsSound}
+use specs.Calls.KeySpan.{IsValidCursor}
 use specs.Calls.MergeSteps.{IsReaderOf}
 use specs.Private.Passed.{CanResume}
 use specs.declared.merging.cursor.Reached.{Reached}
 use specs.declared.tools.comm.block_lines.Column.{Column}
-use proofs.Common.{usual, push_nothing, is_gt}
 use proofs.MergeLemmas.{MergeInvariant, IsKeyOrder, Bound, AtLeast, AtMost, Above, Written, alone, output_of, all_keys}
-use proofs.MergeLemmas.{write_least_run, line_is_least_run, IsLeastKeyRun, IsLater, same_bound, bounds_change, Each-weaker}
-use proofs.MergeLemmas.{at_most_trans, greater_flips, is_greater, lines_with_key-above, MayCome, side_case}
-use proofs.MergeLemmas.{from_key, self_at_most, EachKey-append}
-use proofs.Common.{Bool, entries_by_key, unlines-append, push_trans}
-use proofs.MergeLemmas.{put_same, put_other, unlines_push, EachKey, IsSortedFrom, entries_of_key, lines_with_key}
+use proofs.MergeLemmas.{write_least_run, IsLeastKeyRun, IsLineByLine, Each-weaker, at_most_trans, greater_flips}
+use proofs.MergeLemmas.{less_flips, is_greater, lines_with_key-above, side_case, from_key, self_at_most, EachKey-append}
+use proofs.MergeLemmas.{put_same, put_other, unlines_push, EachKey, IsSortedFrom}
 use proofs.CommLemmas.{entries_alone, entries_of_pair, entries_both, hidden_of, tabs_of, is_line_by_line}
 use Rattle.ptlines.proofs.TextLaws.{AreLines_push}
 use Rattle.ptlines.proofs.LineSearch.{line_before_terminator}
 use Rattle.memchr.specs.Find.{IsFirstByte, is_byte}
 use specs.Calls.Comm.{comm_with}
 use specs.Comm.{tab_if_shown}
-use specs.Private.BlockLines.{AreMerged, AreLeast, ArePassed, IsNextLine, IsInBlock, HasFailed, IsReached, IsRunEnd}
-use specs.Private.BlockLines.{BlockRunPost, IsColumn, lines_in}
-use specs.declared.tools.comm.block_lines.BlockRun.{BlockRun}
-use specs.declared.tools.comm.block_lines.BlockLine.{BlockLine}
+use specs.Private.BlockLines.{AreMerged, ArePassed, BlockRunPost, CanMerge, HasFailed, IsColumn, IsInBlock, IsNextLine}
+use specs.Private.BlockLines.{IsReached, IsRunEnd, IsStep, MayFollowHeads, lines_in}
+use specs.declared.merging.block_lines.BlockRun.{BlockRun}
+use specs.declared.merging.block_lines.BlockLine.{BlockLine}
 
 -- ---- the next line of a block
 
@@ -49,58 +49,81 @@ module _ (cmp : Cmp) (key : Key) where
   sorted_push last [] x y (here, _) a = (here, (a, tt))
   sorted_push last (z ∷ xs) x y (here, more) a = (here, sorted_push (Some (key z)) xs x y more a)
 
-  -- the current line was written, and the next one is in the block; or nothing happened
-  abbrev Moves : ℕ → BlockLine → BlockLine → Lines → Type 0
-  Moves end now next f = ((f ≡ now.head.now ∷ []) × IsNextLine end cmp now next) ⊎ ((f ≡ []) × (next ≡ now))
+  passed_one : {end : ℕ} {old now next : BlockLine} {q : Lines} → ArePassed end cmp key old now q
+      → IsNextLine end cmp key now next → ArePassed end cmp key old next (q ++ now.head.now ∷ [])
+  passed_one {end} {old} {now} {next} (inl u) n = inr (record {
+    middle = [];
+    lines = rw (u.none, u.same) refl;
+    bytes = rw u.same at n.bytes;
+    whole = (tt, n.whole);
+    short = n.short;
+    ordered = (rw u.same at n.ordered, tt);
+    passed = omega (arith, n.passed, u.passed);
+  })
+  passed_one {end} {old} {now} {next} (inr m) n = inr (record {
+    middle = m.middle ++ now.head.now ∷ [];
+    lines = rw m.lines refl;
+    bytes = m.bytes ∙ rw (n.bytes, unlines_push end m.middle now.head.now) (simp append_assoc);
+    whole = (AreLines_push end m.middle now.head.now m.whole.0 m.whole.1, n.whole);
+    short = n.short;
+    ordered = sorted_push _ m.middle now.head.now next.head.now m.ordered n.ordered;
+    passed = omega (arith, n.passed, m.passed, length_push m.middle now.head.now);
+  })
 
-  module _ (whole : (x : List ℕ) → key x ≡ x) where
-    keys_ordered : {end : ℕ} {now next : BlockLine} → IsNextLine end cmp now next
-        → AtMost cmp (key now.head.now) (key next.head.now)
-    keys_ordered {now = now} {next} n = rw (whole now.head.now, whole next.head.now) n.ordered
+  in_block_next : {end : ℕ} {now next : BlockLine} → IsNextLine end cmp key now next → IsInBlock now → IsInBlock next
+  in_block_next {end} {now} {next} n fits =
+      omega (arith, n.passed, ap length n.bytes, length-append next.head.now (end ∷ next.rest.now), fits)
 
-    passed_more : {end : ℕ} {old now next : BlockLine} {q f : Lines} → ArePassed end cmp key old now q
-        → Moves end now next f → ArePassed end cmp key old next (q ++ f)
-    passed_more {q = q} a (inr (none, same)) = rw (none, same, append-nil q) a
-    passed_more {end} {old} {now} {next} (inl u) (inl (is, n)) = inr (record {
-      middle = [];
-      lines = rw (u.none, is, u.same) refl;
-      bytes = rw u.same at n.bytes;
-      whole = (tt, n.whole);
-      short = n.short;
-      ordered = (rw u.same at (keys_ordered n), tt);
-      passed = omega (arith, n.passed, u.passed);
-    })
-    passed_more {end} {old} {now} {next} (inr m) (inl (is, n)) = inr (record {
-      middle = m.middle ++ now.head.now ∷ [];
-      lines = rw (m.lines, is) refl;
-      bytes = m.bytes ∙ rw (n.bytes, unlines_push end m.middle now.head.now) (simp append_assoc);
-      whole = (AreLines_push end m.middle now.head.now m.whole.0 m.whole.1, n.whole);
-      short = n.short;
-      ordered = sorted_push _ m.middle now.head.now next.head.now m.ordered (keys_ordered n);
-      passed = omega (arith, n.passed, m.passed, length_push m.middle now.head.now);
-    })
-
-in_block_next : {end : ℕ} {cmp : Cmp} {now next : BlockLine} → IsNextLine end cmp now next → IsInBlock now
-    → IsInBlock next
-in_block_next {end} {cmp} {now} {next} n fits =
-    omega (arith, n.passed, ap length n.bytes, length-append next.head.now (end ∷ next.rest.now), fits)
+-- the current line of an input, before others are passed
+pub can_merge : {key : Key} {own : BlockLine} {cursor : Sorted} {store : Slots} {reader : Reader} → own.passed ≡ 0
+    → own.head.now ≡ line store cursor.current_slot → own.rest.now ≡ reader.buffered → own.span ≡ cursor.key
+    → IsSound reader → IsValidCursor key cursor store → cursor.status ≡ Head → CanMerge key own
+can_merge none head rest span sound valid status_is = record {
+  passed = none;
+  in_block = omega (arith, none, ap length rest, sound.buffered);
+  span = rw (head, span) (valid.head status_is);
+}
 
 -- ---- a step
 
-module _ (job : Comm) (cmp : Cmp) (key : Side → Key) (whole : (side : Side) (x : List ℕ) → key side x ≡ x)
-    (o : IsKeyOrder cmp) where
-  abbrev tool : MergeTool
-  tool = comm_with job cmp key
+module _ {tool : MergeTool} {now next : Side → BlockLine} {mid is : Output} (s : IsStep tool now next mid is) where
+  pub passed_more : {old : Side → BlockLine} {q : Side → Lines}
+      → ((side : Side) → ArePassed tool.terminator tool.cmp (tool.key side) (old side) (now side) (q side))
+      → (side : Side) → ArePassed tool.terminator tool.cmp (tool.key side) (old side) (next side) (q side ++ s.f side)
+  passed_more {q = q} a side =
+      ⊎_elim (λ h. rw h.0 (passed_one tool.cmp (tool.key side) (a side) h.2))
+      (λ h. rw (h.0, h.2, append-nil (q side)) (a side)) (s.passes side)
 
-  -- no key that may follow is below the current one
-  abbrev pub bounds : (Side → BlockLine) → Side → Bound
-  bounds now side = AtLeast (key side (now side).head.now)
+-- the lines passed in a merge of blocks
+pub record RunLines (tool : MergeTool) (old now : Side → BlockLine) : Type 0 where
+  pub q : Side → Lines
+  pub passed : (side : Side) → ArePassed tool.terminator tool.cmp (tool.key side) (old side) (now side) (q side)
 
-  later_of : {own : Key} {a b : List ℕ} → AtMost cmp a b → IsLater cmp own (AtLeast a) (AtLeast b)
-  later_of {own} {a} {b} h = record {
-    may_follow = λ r c. Each-weaker _ _ (λ y more. at_most_trans cmp o a b y h more) _ c;
-    under = λ j u. at_most_trans cmp o j a b u h;
-  }
+module _ {tool : MergeTool} {old now : Side → BlockLine} {was is : Output} where
+  abbrev pub lines_merged : AreMerged tool old now was is → RunLines tool old now
+  lines_merged m = record { q = m.q; passed = m.passed }
+
+  abbrev pub lines_failed : HasFailed tool old now was is → RunLines tool old now
+  lines_failed f = record { q = λ side. f.merged.q side ++ f.step.f side; passed = passed_more f.step f.merged.passed }
+
+pub lines_of : {tool : MergeTool} {old : Side → BlockLine} {run : BlockRun} {was is : Output}
+    → (p : BlockRunPost tool old run was is) → RunLines tool old p.now
+lines_of {tool} {old} {run} {was} {is} p = by run.failed p.ends
+  where
+    by : (failed : Bool) → MatchBool failed (HasFailed tool old p.now was is) (AreMerged tool old p.now was is)
+        → RunLines tool old p.now
+    by true f = lines_failed f
+    by false m = lines_merged m
+
+-- no key that may follow is below the current one
+abbrev pub at_heads : MergeTool → (Side → BlockLine) → Side → Bound
+at_heads tool now side = AtLeast (tool.key side (now side).head.now)
+
+less_of : (r : Ordering) → is_gt r ≡ false → is_eq r ≡ false → r ≡ Less
+less_of = grind arith
+
+module _ (tool : MergeTool) (o : IsKeyOrder tool.cmp) where
+  open tool use {cmp, key, terminator}
 
   at_most_of : (a k : List ℕ) → is_gt (cmp a k) ≡ true → AtMost cmp k a
   at_most_of a k gt = ap is_gt (greater_flips cmp o a k (is_greater _ gt))
@@ -108,178 +131,170 @@ module _ (job : Comm) (cmp : Cmp) (key : Side → Key) (whole : (side : Side) (x
   above_of : (a k y : List ℕ) → is_gt (cmp a k) ≡ true → AtMost cmp a y → Above cmp k y
   above_of a k y gt h = grind (arith, at_most_trans cmp o a y k h)
 
-  module _ (now : Side → BlockLine) {k : List ℕ} {f : Side → Lines} (least : AreLeast tool now k f) where
-    abbrev head : Side → List ℕ
-    head side = (now side).head.now
+  none_follows : (side : Side) (r : Lines) (a k : List ℕ) → is_gt (cmp a k) ≡ true → EachKey (AtMost cmp a) (key side) r
+      → lines_with_key (key side) r k ≡ []
+  none_follows side r a k gt c =
+      lines_with_key-above tool o (key side) k r (Each-weaker _ _ (λ y h. above_of a k y gt h) _ c)
 
-    run_of : (side : Side) → IsLeastKeyRun cmp (key side) (bounds now side) (bounds now side) k (f side)
-    run_of side = by (least side)
-      where
-        by : ((f side ≡ head side ∷ []) × (key side (head side) ≡ k))
-            ⊎ ((f side ≡ []) × (is_gt (cmp (key side (head side)) k) ≡ true))
-            → IsLeastKeyRun cmp (key side) (bounds now side) (bounds now side) k (f side)
-        by (inl (is, same)) = rw is (line_is_least_run o refl same)
-        by (inr (none, gt)) = rw none (record {
-          own = tt;
-          may_follow = λ r c. c;
-          own_under = at_most_of _ k gt;
-          under = λ j u. u;
-          later = later_of (at_most_of _ k gt);
-        })
+  line_run : (side : Side) (a b : List ℕ) {x k : List ℕ} → key side x ≡ a → a ≡ k → AtMost cmp a b
+      → IsLeastKeyRun cmp (key side) (AtLeast a) (AtLeast b) k (x ∷ [])
+  line_run side a b {x} {k} is same h = record {
+    own = (is ∙ same, tt);
+    may_follow = λ r c. (
+      rw is (self_at_most cmp o a),
+      Each-weaker _ _ (λ y more. at_most_trans cmp o a b y h more) _ c,
+    );
+    own_under = rw (sym same) (self_at_most cmp o a);
+    under = λ j u. at_most_trans cmp o j a b u h;
+    later = rw (sym same) (record {
+      may_follow = λ r c. Each-weaker _ _ (λ y more. at_most_trans cmp o a b y h more) _ c;
+      under = λ j u. at_most_trans cmp o j a b u h;
+    });
+  }
 
-    none_follows : (side : Side) (r : Lines) → is_gt (cmp (key side (head side)) k) ≡ true
-        → EachKey (AtMost cmp (key side (head side))) (key side) r → lines_with_key (key side) r k ≡ []
-    none_follows side r gt c =
-        lines_with_key-above tool o (key side) k r (Each-weaker _ _ (λ y h. above_of _ k y gt h) _ c)
+  no_run : (side : Side) (a k : List ℕ) → is_gt (cmp a k) ≡ true
+      → IsLeastKeyRun cmp (key side) (AtLeast a) (AtLeast a) k []
+  no_run side a k gt = record {
+    own = tt;
+    may_follow = λ r c. c;
+    own_under = at_most_of a k gt;
+    under = λ j u. u;
+    later = record {
+      may_follow = λ r c. Each-weaker _ _ (λ y more. at_most_trans cmp o k a y (at_most_of a k gt) more) _ c;
+      under = λ j u. at_most_trans cmp o j k a u (at_most_of a k gt);
+    };
+  }
 
-    law : (r : Side → Lines) → MayCome tool (bounds now) r
-        → tool.entries k (f First ++ lines_with_key (key First) (r First) k)
-        (f Second ++ lines_with_key (key Second) (r Second) k)
-        ≡ tool.entries k (f First) (f Second) ++ entries_of_key tool r k
-    law r c = by (least First) (least Second)
-      where
-        by : ((f First ≡ head First ∷ []) × (key First (head First) ≡ k))
-            ⊎ ((f First ≡ []) × (is_gt (cmp (key First (head First)) k) ≡ true))
-            → ((f Second ≡ head Second ∷ []) × (key Second (head Second) ≡ k))
-            ⊎ ((f Second ≡ []) × (is_gt (cmp (key Second (head Second)) k) ≡ true))
-            → tool.entries k (f First ++ lines_with_key (key First) (r First) k)
-            (f Second ++ lines_with_key (key Second) (r Second) k)
-            ≡ tool.entries k (f First) (f Second) ++ entries_of_key tool r k
-        by (inl (is1, _)) (inl (is2, _)) = rw (is1, is2)
-            (entries_both job k (length (lines_with_key (key First) (r First) k)) (length (lines_with_key (key Second) (r Second) k)))
-        by (inl (is1, _)) (inr (is2, gt)) =
-            rw (is1, is2, none_follows Second (r Second) gt (c Second)) ((is_line_by_line job cmp key).first k (head First) (lines_with_key (key First) (r First) k))
-        by (inr (is1, gt)) (inl (is2, _)) =
-            rw (is1, is2, none_follows First (r First) gt (c First)) ((is_line_by_line job cmp key).second k (head Second) (lines_with_key (key Second) (r Second) k))
-        by (inr (is1, gt1)) (inr (is2, gt2)) =
-            rw (
-              is1,
-              is2,
-              none_follows First (r First) gt1 (c First),
-              none_follows Second (r Second) gt2 (c Second),
-              (is_line_by_line job cmp key).none k,
-            ) refl
+  module _ (none : (k : List ℕ) → tool.entries k [] [] ≡ []) {now next : Side → BlockLine} {mid is : Output}
+      (s : IsStep tool now next mid is) where
+    run_of : (side : Side) → IsLeastKeyRun cmp (key side) (at_heads tool now side) (at_heads tool next side) s.k (s.f side)
+    run_of side =
+        ⊎_elim (λ h. rw h.0 (line_run side _ _ refl h.1 h.2.ordered)) (λ h. rw (h.0, h.2) (no_run side _ _ h.1)) (s.passes side)
 
-    pub least_written : {q : Side → Lines} {was mid is : Output} → mid.write_failed ≡ false
-        → MergeInvariant tool (bounds now) q was mid → PushEffect mid is (output_of tool f)
-        → Written tool (bounds now) (λ side. q side ++ f side) was is
-    least_written {q} clean m wrote =
-        write_least_run o k (λ side. q side ++ f side) f run_of (λ side. refl) ((is_line_by_line job cmp key).none k)
-        law clean m wrote
+    pub step_written : {q : Side → Lines} {was : Output} → mid.write_failed ≡ false
+        → MergeInvariant tool (at_heads tool now) q was mid
+        → Written tool (at_heads tool next) (λ side. q side ++ s.f side) was is
+    step_written {q} clean m =
+        write_least_run o s.k (λ side. q side ++ s.f side) s.f run_of (λ side. refl) (none s.k) s.first clean m s.wrote
 
-  pub merged_invariant : {old now : Side → BlockLine} {was mid : Output} → (m : AreMerged tool old now was mid)
-      → MergeInvariant tool (bounds now) m.q was mid
-  merged_invariant m = record { splits = m.first; under = m.under; wrote = m.wrote }
+    pub step_on : {old : Side → BlockLine} {was : Output} → AreMerged tool old now was mid → is.write_failed ≡ false
+        → AreMerged tool old next was is
+    step_on m clean =
+        let (mi, _) = step_written m.clean (record { splits = m.first; under = m.under; wrote = m.wrote }) in
+        record {
+          q = λ side. m.q side ++ s.f side;
+          passed = passed_more s m.passed;
+          first = mi.splits;
+          under = mi.under;
+          wrote = mi.wrote;
+          clean = clean;
+          in_block = λ side. ⊎_elim (λ h. in_block_next cmp (key side) h.2 (m.in_block side))
+              (λ h. rw h.2 (m.in_block side)) (s.passes side);
+          span = λ side. ⊎_elim (λ h. h.2.span) (λ h. rw h.2 (m.span side)) (s.passes side);
+        }
 
-  pub merge_starts : {old : Side → BlockLine} {was : Output} → ((side : Side) → (old side).passed ≡ 0)
-      → ((side : Side) → IsInBlock (old side)) → was.write_failed ≡ false → AreMerged tool old old was was
-  merge_starts {was = was} none fits clean = record {
+  pub merge_starts : {old : Side → BlockLine} {was : Output} → ((side : Side) → CanMerge (key side) (old side))
+      → was.write_failed ≡ false → AreMerged tool old old was was
+  merge_starts {was = was} can clean = record {
     q = λ side. [];
-    passed = λ side. inl (record { none = refl; same = refl; passed = none side });
+    passed = λ side. inl (record { none = refl; same = refl; passed = (can side).passed });
     first = λ w r c. refl;
     under = λ of side. tt;
     wrote = push_nothing was;
     clean = clean;
-    in_block = fits;
-    idle = λ idle. refl;
+    in_block = λ side. (can side).in_block;
+    span = λ side. (can side).span;
   }
 
-  merge_goes_on : {old now : Side → BlockLine} (next : Side → BlockLine) {was mid is : Output} {k : List ℕ} {f : Side → Lines}
-      → AreMerged tool old now was mid → AreLeast tool now k f → PushEffect mid is (output_of tool f)
-      → is.write_failed ≡ false → ((side : Side) → Moves cmp (key side) job.terminator (now side) (next side) (f side))
-      → (of : Side) → IsNextLine job.terminator cmp (now of) (next of) → AreMerged tool old next was is
-  merge_goes_on {old} {now} next {was} {is = is} {f = f} m least wrote clean moves of n =
-      let later : (side : Side) → IsLater cmp (key side) (bounds now side) (bounds next side) =
-      λ side. by side (moves side) in
-      let mi = bounds_change later (least_written now least m.clean (merged_invariant m) wrote).0 in
-      record {
-        q = λ side. m.q side ++ f side;
-        passed = λ side. passed_more cmp (key side) (whole side) (m.passed side) (moves side);
-        first = mi.splits;
-        under = mi.under;
-        wrote = mi.wrote;
-        clean = clean;
-        in_block = λ side. fits side (moves side);
-        idle = λ none. absurd (omega (arith, none of, n.passed));
-      }
-    where
-      by : (side : Side) → Moves cmp (key side) job.terminator (now side) (next side) (f side)
-          → IsLater cmp (key side) (bounds now side) (bounds next side)
-      by side (inl (_, n)) = later_of (keys_ordered cmp (key side) (whole side) n)
-      by side (inr (_, same)) = rw same same_bound
-
-      fits : (side : Side) → Moves cmp (key side) job.terminator (now side) (next side) (f side) → IsInBlock (next side)
-      fits side (inl (_, n)) = in_block_next n (m.in_block side)
-      fits side (inr (_, same)) = rw same (m.in_block side)
+  pub run_failed : {old now next : Side → BlockLine} {run : BlockRun} {was mid is : Output} → IsRunEnd true next run
+      → AreMerged tool old now was mid → IsStep tool now next mid is → is.write_failed ≡ true
+      → BlockRunPost tool old run was is
+  run_failed {now = now} {next} {mid = mid} e m s failed = record {
+    now = next;
+    end = record { is = refl; reached = e.reached };
+    ends = rw e.is (record { before = now; mid = mid; merged = m; step = s; failed = failed });
+  }
 
   -- one input has the least key
-  module _ (s : Side) (now : Side → BlockLine) (gt : is_gt (cmp (now (other s)).head.now (now s).head.now) ≡ true)
-      {mid is : Output} {column : Column} (at : IsColumn column (hidden_of job s) (tabs_of job s))
-      (pushed : PushEffect mid is (unlines job.terminator (lines_in column (now s).head.now))) where
-    least_alone : AreLeast tool now (key s (now s).head.now) (alone s (now s).head.now)
-    least_alone = side_case _ s (inl (put_same s _ _, refl))
-        (inr (put_other s _ _, rw (whole (other s) (now (other s)).head.now, whole s (now s).head.now) gt))
+  module _ (by_line : IsLineByLine tool) where
+    alone_splits : (s : Side) (k x : List ℕ) (g : Side → Lines) → g (other s) ≡ []
+        → tool.entries k (alone s x First ++ g First) (alone s x Second ++ g Second)
+        ≡ tool.entries k (alone s x First) (alone s x Second) ++ tool.entries k (g First) (g Second)
+    alone_splits First k x g none = rw none (by_line.first k x (g First))
+    alone_splits Second k x g none = rw none (by_line.second k x (g Second))
 
-    wrote_it : PushEffect mid is (output_of tool (alone s (now s).head.now))
-    wrote_it = rw (entries_alone job cmp key s _ (whole s _), ← at.hidden_is, ← at.tabs_are) pushed
-
-    pub alone_goes_on : {old : Side → BlockLine} {next : BlockLine} {was : Output} → AreMerged tool old now was mid
-        → IsNextLine job.terminator cmp (now s) next → is.write_failed ≡ false
-        → AreMerged tool old (with_side s next now) was is
-    alone_goes_on {next = next} m n clean =
-        let moved : IsNextLine job.terminator cmp (now s) (with_side s next now s) = rw (put_same s next now) n in
-        merge_goes_on (with_side s next now) m least_alone wrote_it clean
-        (side_case _ s (inl (put_same s _ _, moved)) (inr (put_other s _ _, put_other s next now))) s moved
-
-    pub alone_failed : is.write_failed ≡ true → HasFailed tool now mid is
-    alone_failed failed = record {
-      k = _;
+    pub alone_step : (s : Side) {now : Side → BlockLine} {next : BlockLine} {mid is : Output}
+        → is_gt (cmp (key (other s) (now (other s)).head.now) (key s (now s).head.now)) ≡ true
+        → IsNextLine terminator cmp (key s) (now s) next
+        → PushEffect mid is (output_of tool (alone s (now s).head.now)) → IsStep tool now (with_side s next now) mid is
+    alone_step s {now} {next} gt n wrote = record {
+      k = key s (now s).head.now;
       f = alone s (now s).head.now;
-      least = least_alone;
-      of = s;
-      written = put_same s _ _;
-      wrote = wrote_it;
-      failed = failed;
+      passes = side_case _ s (inl (put_same s _ _, refl, rw (put_same s next now) n))
+          (inr (put_other s _ _, gt, put_other s next now));
+      first = λ r c. alone_splits s _ _ (λ side. lines_with_key (key side) (r side) (key s (now s).head.now))
+          (none_follows (other s) _ _ _ gt (rw (put_other s next now) at (c (other s))));
+      wrote = wrote;
     }
 
   -- both inputs have the least key
-  module _ (now : Side → BlockLine) (same : (now First).head.now ≡ (now Second).head.now) {mid is : Output}
-      {column : Column} (at : IsColumn column job.hide3 (tab_if_shown job.hide1 ++ tab_if_shown job.hide2))
-      (pushed : PushEffect mid is (unlines job.terminator (lines_in column (now First).head.now))) where
-    abbrev pair : Side → Lines
-    pair = both ((now First).head.now ∷ []) ((now Second).head.now ∷ [])
+  pub pair_step : {now next : Side → BlockLine} {mid is : Output} → let k = key First (now First).head.now in
+      let one = (now First).head.now ∷ [] in let two = (now Second).head.now ∷ [] in
+      key Second (now Second).head.now ≡ k
+      → ((side : Side) → IsNextLine terminator cmp (key side) (now side) (next side))
+      → ((r : Side → Lines) → MayFollowHeads tool next r
+      → tool.entries k (one ++ lines_with_key (key First) (r First) k) (two ++ lines_with_key (key Second) (r Second) k)
+      ≡ tool.entries k one two ++ entries_of_key tool r k)
+      → PushEffect mid is (output_of tool (both one two)) → IsStep tool now next mid is
+  pair_step {now} same n first wrote = record {
+    k = key First (now First).head.now;
+    f = both ((now First).head.now ∷ []) ((now Second).head.now ∷ []);
+    passes = elim [ First ↦ inl (refl, refl, n First) | Second ↦ inl (refl, same, n Second) ];
+    first = first;
+    wrote = wrote;
+  }
 
-    same_key : key Second (now Second).head.now ≡ key First (now First).head.now
-    same_key = whole Second _ ∙ sym same ∙ sym (whole First _)
+  -- the keys that follow are greater
+  pub pair_splits : ((k : List ℕ) → tool.entries k [] [] ≡ []) → {now next : Side → BlockLine} (k : List ℕ) (one two : Lines)
+      → ((side : Side) → key side (now side).head.now ≡ k)
+      → ((side : Side) → IsNextLine terminator cmp (key side) (now side) (next side))
+      → ((side : Side) → (next side).same ≡ false) → (r : Side → Lines) → MayFollowHeads tool next r
+      → tool.entries k (one ++ lines_with_key (key First) (r First) k) (two ++ lines_with_key (key Second) (r Second) k)
+      ≡ tool.entries k one two ++ entries_of_key tool r k
+  pair_splits none {now} {next} k one two has n new r c =
+      let gone : (side : Side) → lines_with_key (key side) (r side) k ≡ [] =
+      λ side. none_follows side (r side) (key side (next side).head.now) k
+      (ap is_gt (rw (has side) at (less_flips cmp o (key side (now side).head.now) (key side (next side).head.now)
+      (less_of _ (n side).ordered (sym (n side).same ∙ new side))))) (c side) in
+      (λ i. tool.entries k (one ++ gone First i) (two ++ gone Second i))
+      ∙ (λ i. tool.entries k (append-nil one i) (append-nil two i))
+      ∙ sym (append-nil (tool.entries k one two))
+      ∙ ap (λ e. tool.entries k one two ++ e) (sym ((λ i. tool.entries k (gone First i) (gone Second i)) ∙ none k))
 
-    least_pair : AreLeast tool now (key First (now First).head.now) pair
-    least_pair = elim [ First ↦ inl (refl, refl) | Second ↦ inl (refl, same_key) ]
+-- ---- the steps of `comm`
 
-    wrote_pair : PushEffect mid is (output_of tool pair)
-    wrote_pair = rw (entries_of_pair job cmp key o _ _ (whole First _) same_key, ← at.hidden_is, ← at.tabs_are) pushed
+module _ (job : Comm) (cmp : Cmp) (key : Side → Key) (whole : (side : Side) (x : List ℕ) → key side x ≡ x)
+    (o : IsKeyOrder cmp) where
+  pub comm_alone : (s : Side) {now : Side → BlockLine} {next : BlockLine} {mid is : Output} {column : Column}
+      → is_gt (cmp (now (other s)).head.now (now s).head.now) ≡ true → IsColumn column (hidden_of job s) (tabs_of job s)
+      → PushEffect mid is (unlines job.terminator (lines_in column (now s).head.now))
+      → IsNextLine job.terminator cmp (key s) (now s) next
+      → IsStep (comm_with job cmp key) now (with_side s next now) mid is
+  comm_alone s {now} gt at pushed n =
+      alone_step (comm_with job cmp key) o (is_line_by_line job cmp key) s (rw (whole (other s) (now (other s)).head.now, whole s (now s).head.now) gt) n
+      (rw (entries_alone job cmp key s _ (whole s _), ← at.hidden_is, ← at.tabs_are) pushed)
 
-    pub pair_goes_on : {old : Side → BlockLine} (next : Side → BlockLine) {was : Output} → AreMerged tool old now was mid
-        → ((side : Side) → IsNextLine job.terminator cmp (now side) (next side)) → is.write_failed ≡ false
-        → AreMerged tool old next was is
-    pair_goes_on next m n clean = merge_goes_on next m least_pair wrote_pair clean
-        (elim [ First ↦ inl (refl, n First) | Second ↦ inl (refl, n Second) ]) First (n First)
-
-    pub pair_failed : is.write_failed ≡ true → HasFailed tool now mid is
-    pair_failed failed = record {
-      k = _;
-      f = pair;
-      least = least_pair;
-      of = First;
-      written = refl;
-      wrote = wrote_pair;
-      failed = failed;
-    }
-
-pub run_failed : {tool : MergeTool} {old now : Side → BlockLine} {run : BlockRun} {was mid is : Output}
-    → IsRunEnd true now run → AreMerged tool old now was mid → HasFailed tool now mid is
-    → BlockRunPost tool old run was is
-run_failed {now = now} {mid = mid} e m f =
-    record { now = now; end = record { is = refl; reached = e.reached }; mid = mid; merged = m; ends = rw e.is f }
+  pub comm_pair : {now next : Side → BlockLine} {mid is : Output} {column : Column}
+      → (now First).head.now ≡ (now Second).head.now
+      → IsColumn column job.hide3 (tab_if_shown job.hide1 ++ tab_if_shown job.hide2)
+      → PushEffect mid is (unlines job.terminator (lines_in column (now First).head.now))
+      → ((side : Side) → IsNextLine job.terminator cmp (key side) (now side) (next side))
+      → IsStep (comm_with job cmp key) now next mid is
+  comm_pair {now} same at pushed n =
+      let same_key : key Second (now Second).head.now ≡ key First (now First).head.now =
+      whole Second _ ∙ sym same ∙ sym (whole First _) in
+      pair_step (comm_with job cmp key) o same_key n (λ r c. entries_both job _ _ _)
+      (rw (entries_of_pair job cmp key o _ _ (whole First _) same_key, ← at.hidden_is, ← at.tabs_are) pushed)
 
 -- ---- after the lines that were processed before
 
@@ -311,12 +326,9 @@ module _ (cmp : Cmp) (o : IsKeyOrder cmp) (key : Key) where
 module _ (tool : MergeTool) (o : IsKeyOrder tool.cmp) where
   open tool use {cmp, key}
 
-  abbrev pub at_heads : (Side → BlockLine) → Side → Bound
-  at_heads now side = AtLeast (key side (now side).head.now)
-
   pub merged_on : {old now : Side → BlockLine} {p : Side → Lines} {start was mid : Output}
-      → MergeInvariant tool (at_heads old) p start was → was.write_failed ≡ false → (a : AreMerged tool old now was mid)
-      → MergeInvariant tool (at_heads now) (λ side. p side ++ a.q side) start mid
+      → MergeInvariant tool (at_heads tool old) p start was → was.write_failed ≡ false → (a : AreMerged tool old now was mid)
+      → MergeInvariant tool (at_heads tool now) (λ side. p side ++ a.q side) start mid
   merged_on {old} {now} {p} m clean a =
       let n : (side : Side) → NoneBelow cmp (key side) (old side) (now side) (a.q side) =
       λ side. none_below_first cmp o (key side) (a.passed side) in

@@ -3,6 +3,7 @@ pub mod BlockLemmas
 pub mod CommLemmas
 pub mod Parts
 pub mod PassedLemmas
+pub mod PairLemmas
 pub mod OutputLaws
 pub mod JoinLemmas
 pub mod MergeLemmas

@@ -1,7 +1,7 @@
 -- An input of a merge after lines that were passed in its block.
 use Rattle.ptmerge.proofs
 use proofs.Common.{◌≡◌, ℕ, ◌-◌, false, List, [], ◌∷◌, ◌++◌, refl, sym, ◌∙◌, ap, subst, arith, length, drop, append_assoc, Some}
-use proofs.Common.{unlines, unlines-append, IsLine, AreLines, Lines, Cmp, Key, Reader, inl, length-append, length_push}
+use proofs.Common.{unlines, unlines-append, IsLine, AreLines, Lines, Cmp, Key, Reader, length-append, length_push}
 use proofs.Common.{usual, advance_ok_trans}
 use proofs.MergeLemmas.{IsSortedUpTo, IsSortedFrom, LinesRead, is_disordered, unlines_push}
 use proofs.Common.{◌<◌, Side, MergeTool, Sorted, Slots, Head, line, inr, line_of_with_line, length-set}
@@ -10,20 +10,20 @@ use proofs.MergeLemmas.{after_from, self_at_most, low_slot, GroupStore, Extends,
 use proofs.Common.{◌≤◌, HasSlots, with_line, with_side, max_length}
 use Rattle.ptlines.specs.Calls.Readers.{IsSound}
 use Rattle.ptmerge.specs.Calls.MergeSteps.{AreValidCursors}
-use Rattle.ptmerge.specs.Private.BlockLines.{ArePassed, IsMoved, IsUnmoved, IsReached, HasFailed}
+use Rattle.ptmerge.specs.Private.BlockLines.{AreMerged, ArePassed, IsMoved, IsUnmoved, IsReached, HasFailed}
 use Rattle.ptmerge.specs.Private.Passed.{IsPassed, IsResumed, AreBlocksMerged, BlocksPost}
 use Rattle.ptmerge.specs.declared.merging.cursor.Reached.{Reached}
 use Rattle.ptmerge.specs.Calls.Comm.{comm_with}
 use Rattle.std.specs.List.{slice_range}
 use proofs.Common.{budget, length-drop, other, MergeState, merge_state, both, Comm, First, Second, Result, Err, MergeFault, MergePost}
 use proofs.Common.{Write, true, ⊎_elim, append-nil, Output, Ok, Bool, cond}
-use Rattle.ptmerge.specs.Calls.Sides.{whole_line}
 use proofs.MergeLemmas.{CursorsInvariant, IsOpenMerge, side_case, put_other, slots_apart, line_other, max_length-append}
-use proofs.MergeLemmas.{MergeInvariant, bounds_change, same_bound, reads_ahead, ReadFactsOf, passing_now, read_facts_current}
-use proofs.MergeLemmas.{iteration_fails, state_by_side, Kept, kept_order}
-use proofs.BlockLemmas.{at_heads, merged_on, least_written}
+use proofs.MergeLemmas.{MergeInvariant, bounds_change, same_bound, reads_ahead, read_facts_current}
+use proofs.MergeLemmas.{state_by_side, Kept, kept_order, LoopInvariant, BetweenSteps, LagInvariant, AllWritten}
+use proofs.MergeLemmas.{exit_is_merge_post, fits_emptied, both_begun}
+use proofs.BlockLemmas.{at_heads, merged_on, step_written, RunLines, lines_merged, lines_failed, lines_of}
 use proofs.CommLemmas.{IterationInvariant}
-use Rattle.ptmerge.specs.declared.tools.comm.block_lines.BlockLine.{BlockLine}
+use Rattle.ptmerge.specs.declared.merging.block_lines.BlockLine.{BlockLine}
 use Rattle.std.specs.Prelude.{take}
 use Rattle.ptlines.proofs.LineSearch.{advance_ok_take}
 use Rattle.ptlines.proofs.TextLaws.{AreLines_push}
@@ -225,116 +225,102 @@ module _ {tool : MergeTool} {old : MergeState} {w : IsOpenMerge tool old} {reade
     keeps = n.keeps;
   }
 
--- ---- the merge of two blocks, for `comm`
+-- ---- the merge of two blocks
 
-module _ {job : Comm} {cmp : Cmp} {key : Side → Key} {old was : MergeState} {one two : Sorted}
-    (t : IterationInvariant job cmp key old was one two) where
-  open t use {w, whole_line_keys, loop_invariant, loop_invariant.{ls, p, b, sides, merge_invariant, cursors as before}, between}
+-- a write failed, and the lines that it wrote are processed
+failed_at : {tool : MergeTool} {old : MergeState} {w : IsOpenMerge tool old} {reader : Side → Reader}
+    {cursor : Side → Sorted} {store : Slots} {ls p : Side → Lines} {b : Side → Bound}
+    → CursorsInvariant w reader cursor store ls p b → {out : Output} {done : Lines}
+    → LagInvariant tool b p old.out out done → out.write_failed ≡ true
+    → MergePost tool old (state_by_side reader out store) (Err Write)
+failed_at {w = w} {reader} {store = store} a {out} lag failed =
+    exit_is_merge_post w (state_by_side reader out store) (read_facts_current a) lag
+    (fits_emptied a.keeps store (omega arith) refl) (both_begun (λ side. (a.sides side).begun))
+    (λ side fail. cc ((a.sides side).lines_read.advance_ok.failed, w.unfailed side)) (Err Write) (grind (arith, failed))
 
-  abbrev tool : MergeTool
-  tool = comm_with job cmp key
+module _ {tool : MergeTool} {old was : MergeState} {one two : Sorted} {w : IsOpenMerge tool old}
+    (loop : LoopInvariant w was (both one two)) (between : BetweenSteps tool.key was one two) where
+  open tool use {cmp, key, terminator}
+  open loop use {ls, p, b, sides, merge_invariant, cursors as before}
 
   module _ {first second : Reader} {out : Output} {after : Slots} {one2 two2 : Sorted}
       {result : Result (Unit {0}) MergeFault} (m : AreBlocksMerged tool (both one two) (both one2 two2) was
       (merge_state first second out after) result) where
-    open m use {run, post, post.{now, merged}}
+    open m use {run, post, post.{now}}
 
-    abbrev q : Side → Lines
-    q = merged.q
+    module _ (run_lines : RunLines tool m.old now) where
+      open run_lines use {q, passed}
 
-    step1 : HasPassed tool old First two one2 (was.reader First) first was.store m.mid ls (p First ++ q First)
-        (now First).head.now
-    step1 = has_passed before First (m.head First) (m.head_is First) (m.rest_is First) (merged.passed First)
-        (post.end.reached First) m.resumed1
+      step1 : HasPassed tool old First two one2 (was.reader First) first was.store m.mid ls (p First ++ q First)
+          (now First).head.now
+      step1 = has_passed before First (m.head First) (m.head_is First) (m.rest_is First) (passed First)
+          (post.end.reached First) m.resumed1
 
-    half : CursorsInvariant w (with_side First first was.reader) (with_side First one2 (both one two)) m.mid
-        (with_side First step1.now_ls ls) (with_side First (p First ++ q First) p)
-        (with_side First (AtLeast (key First (now First).head.now)) b)
-    half = cursors_on before First (m.head First) (m.head_is First) (m.rest_is First) (merged.passed First)
-        (post.end.reached First) m.resumed1 step1
+      half : CursorsInvariant w (with_side First first was.reader) (with_side First one2 (both one two)) m.mid
+          (with_side First step1.now_ls ls) (with_side First (p First ++ q First) p)
+          (with_side First (AtLeast (key First (now First).head.now)) b)
+      half = cursors_on before First (m.head First) (m.head_is First) (m.rest_is First) (passed First)
+          (post.end.reached First) m.resumed1 step1
 
-    head2 : (m.old Second).head.now ≡ line m.mid two.current_slot
-    head2 = m.head_is Second ∙ sym step1.current
+      head2 : (m.old Second).head.now ≡ line m.mid two.current_slot
+      head2 = m.head_is Second ∙ sym step1.current
 
-    step2 : HasPassed tool old Second one2 two2 (was.reader Second) second m.mid after (with_side First step1.now_ls ls)
-        (p Second ++ q Second) (now Second).head.now
-    step2 = has_passed half Second (m.head Second) head2 (m.rest_is Second) (merged.passed Second)
-        (post.end.reached Second) m.resumed2
+      step2 : HasPassed tool old Second one2 two2 (was.reader Second) second m.mid after
+          (with_side First step1.now_ls ls) (p Second ++ q Second) (now Second).head.now
+      step2 = has_passed half Second (m.head Second) head2 (m.rest_is Second) (passed Second)
+          (post.end.reached Second) m.resumed2
 
-    abbrev now_ls : Side → Lines
-    now_ls = both step1.now_ls step2.now_ls
+      abbrev now_ls : Side → Lines
+      now_ls = both step1.now_ls step2.now_ls
 
-    abbrev done : Side → Lines
-    done side = p side ++ q side
+      abbrev done : Side → Lines
+      done side = p side ++ q side
 
-    whole : CursorsInvariant w (both first second) (both one2 two2) after now_ls done (at_heads tool w.o now)
-    whole =
-        let c = cursors_on half Second (m.head Second) head2 (m.rest_is Second) (merged.passed Second)
-        (post.end.reached Second) m.resumed2 step2 in
-        record { sides = elim [ First ↦ c.sides First | Second ↦ c.sides Second ]; keeps = c.keeps }
+      whole : CursorsInvariant w (both first second) (both one2 two2) after now_ls done (at_heads tool now)
+      whole =
+          let c = cursors_on half Second (m.head Second) head2 (m.rest_is Second) (passed Second)
+          (post.end.reached Second) m.resumed2 step2 in
+          record { sides = elim [ First ↦ c.sides First | Second ↦ c.sides Second ]; keeps = c.keeps }
 
-    merged_all : MergeInvariant tool (at_heads tool w.o now) done old.out post.mid
-    merged_all = merged_on tool w.o (bounds_change
-        (λ side. rw ((at_current_line (sides side) (m.head side)).bound, m.head_is side) same_bound) merge_invariant)
-        between.clean merged
-
-    status_is : (side : Side) → (both one2 two2 side).status ≡ Head
-    status_is = elim [ First ↦ step1.status_is | Second ↦ step2.status_is ]
-
-    line_is : (side : Side) → line after (both one2 two2 side).current_slot ≡ (now side).head.now
-    line_is = elim [ First ↦ step2.current ∙ step1.line_is | Second ↦ step2.line_is ]
-
-    all_read : (side : Side) {f : Lines} → f ≡ (now side).head.now ∷ [] → done side ++ f ≡ now_ls side
-    all_read side is_head =
-        rw (is_head, ← line_is side) (sym (at_current_line (whole.sides side) (status_is side)).all)
+      reads_by : reads_ahead (both first second) one2 two2 ≤ reads_ahead was.reader one two
+      reads_by = rw (step1.status_is, step2.status_is, m.head First, m.head Second)
+          (omega (arith, step1.reads, step2.reads))
 
     pub merged_reads : reads_ahead (both first second) one2 two2 ≤ reads_ahead was.reader one two
-    merged_reads = rw (step1.status_is, step2.status_is, m.head First, m.head Second)
-        (omega (arith, step1.reads, step2.reads))
+    merged_reads = reads_by (lines_of post)
+
+    merged_all : {at : Side → BlockLine} {mid : Output} → (a : AreMerged tool m.old at was.out mid)
+        → MergeInvariant tool (at_heads tool at) (λ side. p side ++ a.q side) old.out mid
+    merged_all = merged_on tool w.o (bounds_change
+        (λ side. rw ((at_current_line (sides side) (m.head side)).bound, m.head_is side) same_bound) merge_invariant)
+        between.clean
 
     pub merged_goes_on : run.failed ≡ false → AreValidCursors key one2 two2 after
-        → IterationInvariant job cmp key old (merge_state first second out after) one2 two2
+        → LoopInvariant w (merge_state first second out after) (both one2 two2)
+        × BetweenSteps key (merge_state first second out after) one2 two2
     merged_goes_on none valid =
-        let same : out ≡ post.mid = rw none at post.ends in
-        record {
-          w = w;
-          whole_line_keys = whole_line_keys;
-          loop_invariant = record {
-            ls = now_ls;
-            p = done;
-            b = at_heads tool w.o now;
-            cursors = whole;
-            merge_invariant = subst (λ o. MergeInvariant tool (at_heads tool w.o now) done old.out o) (sym same) merged_all;
-          };
-          between = record {
+        let a : AreMerged tool m.old now was.out out = rw none at post.ends in (
+          record {
+            ls = _;
+            p = _;
+            b = _;
+            cursors = whole (lines_merged a);
+            merge_invariant = merged_all a;
+          },
+          record {
             valid_cursors = valid;
             own_reader = elim [ First ↦ m.resumed1.own_reader | Second ↦ m.resumed2.own_reader ];
-            clean = rw same merged.clean;
-          };
-        }
+            clean = a.clean;
+          },
+        )
 
     pub merged_fails : run.failed ≡ true → MergePost tool old (merge_state first second out after) (Err Write)
     merged_fails some =
-        let f : HasFailed tool now post.mid out = rw some at post.ends in
-        let (_, lag) = least_written job cmp key whole_line_keys w.o now f.least merged.clean merged_all f.wrote in
-        let rest : ReadFactsOf tool old (both first second) now_ls (λ side. done (other f.of) ++ f.f (other f.of))
-        (at_heads tool w.o now) (other f.of) (both first second (other f.of)) [] =
-        ⊎_elim
-        (λ h. rw (all_read (other f.of) h.0) (passing_now whole (other f.of) (status_is (other f.of))))
-        (λ h. rw (h.0, append-nil (done (other f.of))) (read_facts_current whole (other f.of)))
-        (f.least (other f.of)) in
-        subst (λ r. MergePost tool old (state_by_side r out after) (Err Write))
-        (λ i side. put_back f.of (both first second) side i)
-        (iteration_fails whole f.of (status_is f.of) lag (all_read f.of f.written) rest _ _ _
-        (inl (refl, record { write_failed = f.failed; unread = refl; store = refl })))
-
-in_key_order : (job : Comm) {cmp : Cmp} {key : Side → Key} → ((side : Side) (x : List ℕ) → key side x ≡ x)
-    → {cursor next : Side → Sorted} {was is : MergeState} {result : Result (Unit {0}) MergeFault}
-    → AreBlocksMerged (comm_with job cmp whole_line) cursor next was is result
-    → AreBlocksMerged (comm_with job cmp key) cursor next was is result
-in_key_order job {cmp} same {cursor} {next} {was} {is} {result} =
-    subst (λ (k : Side → Key). AreBlocksMerged (comm_with job cmp k) cursor next was is result)
-    (λ i side x. sym (same side x) i)
+        let f : HasFailed tool m.old now was.out out = rw some at post.ends in
+        let (_, lag) = step_written tool w.o w.alone.none f.step f.merged.clean (merged_all f.merged) in
+        failed_at (whole (lines_failed f))
+        (subst (λ (l : Side → Lines). AllWritten tool (at_heads tool now) l old.out out)
+        (λ i side. append_assoc (p side) (f.merged.q side) (f.step.f side) i) lag) f.failed
 
 abbrev end_of : Bool → Result (Unit {0}) MergeFault
 end_of failed = cond failed (Err Write) (Ok tt)
@@ -345,44 +331,50 @@ ended_well = grind arith
 ended_badly : (failed : Bool) (fault : MergeFault) → Err fault ≡ end_of failed → (failed ≡ true) × (fault ≡ Write)
 ended_badly = grind arith
 
-module _ {job : Comm} {cmp : Cmp} {key : Side → Key} {old was : MergeState} {one two : Sorted}
-    (t : IterationInvariant job cmp key old was one two) {first second : Reader} {out : Output} {after : Slots}
-    {one2 two2 : Sorted} {result : Result (Unit {0}) MergeFault} (post : BlocksPost (comm_with job cmp whole_line)
-    (both one two) (both one2 two2) was (merge_state first second out after) result) where
-  pub blocks_on : {u : Unit {0}} → result ≡ Ok u → AreValidCursors key one2 two2 after
-      → IterationInvariant job cmp key old (merge_state first second out after) one2 two2
+module _ {tool : MergeTool} {old was : MergeState} {one two : Sorted} {w : IsOpenMerge tool old}
+    (loop : LoopInvariant w was (both one two)) (between : BetweenSteps tool.key was one two) {first second : Reader}
+    {out : Output} {after : Slots} {one2 two2 : Sorted} {result : Result (Unit {0}) MergeFault}
+    (post : BlocksPost tool (both one two) (both one2 two2) was (merge_state first second out after) result) where
+  pub blocks_on : {u : Unit {0}} → result ≡ Ok u → AreValidCursors tool.key one2 two2 after
+      → LoopInvariant w (merge_state first second out after) (both one2 two2)
+      × BetweenSteps tool.key (merge_state first second out after) one2 two2
   blocks_on {u} well valid =
       ⊎_elim
       (λ e. rw (ap (λ (c : Side → Sorted). c First) e.0, ap (λ (c : Side → Sorted). c Second) e.0)
-      (subst (λ state. IterationInvariant job cmp key old state one two) (sym e.1) t))
-      (λ m. (let n = in_key_order job t.whole_line_keys m in
-      merged_goes_on t n (ended_well n.run.failed u (sym well ∙ n.result_is)) valid)) post
+      (subst (λ state. LoopInvariant w state (both one two) × BetweenSteps tool.key state one two) (sym e.1) (loop, between)))
+      (λ m. merged_goes_on loop between m (ended_well m.run.failed u (sym well ∙ m.result_is)) valid) post
 
   pub blocks_read : reads_ahead (both first second) one2 two2 ≤ reads_ahead was.reader one two
   blocks_read =
       ⊎_elim
       (λ e. rw (ap (λ (c : Side → Sorted). c First) e.0, ap (λ (c : Side → Sorted). c Second) e.0, ap (λ (state : MergeState). state.reader) e.1) (omega arith))
-      (λ m. merged_reads t (in_key_order job t.whole_line_keys m)) post
+      (λ m. merged_reads loop between m) post
 
   pub blocks_fail : {fault : MergeFault} → result ≡ Err fault
-      → MergePost (comm_with job cmp key) old (merge_state first second out after) (Err fault)
+      → MergePost tool old (merge_state first second out after) (Err fault)
   blocks_fail {fault} badly =
       ⊎_elim
       (λ e. (let never : Ok tt ≡ Err fault = sym e.2 ∙ badly in cc))
-      (λ m. (let n = in_key_order job t.whole_line_keys m in
-      let (some, write) = ended_badly n.run.failed fault (sym badly ∙ n.result_is) in
-      rw write (merged_fails t n some))) post
+      (λ m. (let (some, write) = ended_badly m.run.failed fault (sym badly ∙ m.result_is) in
+      rw write (merged_fails loop between m some))) post
 
--- the invariant of the loop, in whatever order
+-- the invariant of the loop of `comm`, in whatever order
 pub kept_by_blocks : {O : Type 0} (cmp : O → Cmp) (key : O → Side → Key) {job : Comm} {old was : MergeState}
     {one two : Sorted} {a b start : O} → Kept (λ o. comm_with job (cmp o) (key o))
     (λ o. IterationInvariant job (cmp o) (key o) old was one two) a start → {first second : Reader} {out : Output}
-    {after : Slots} {one2 two2 : Sorted} {u : Unit {0}} → BlocksPost (comm_with job (cmp a) whole_line) (both one two)
+    {after : Slots} {one2 two2 : Sorted} {u : Unit {0}} → BlocksPost (comm_with job (cmp a) (key a)) (both one two)
     (both one2 two2) was (merge_state first second out after) (Ok u) → b ≡ a → AreValidCursors (key b) one2 two2 after
     → Kept (λ o. comm_with job (cmp o) (key o))
     (λ o. IterationInvariant job (cmp o) (key o) old (merge_state first second out after) one2 two2) b start
 kept_by_blocks cmp key k post same valid =
-    kept_order same k.order (blocks_on k.iteration post refl (rw same at valid))
+    let t = k.iteration in
+    let (loop, between) = blocks_on t.loop_invariant t.between post refl (rw same at valid) in
+    kept_order same k.order (record {
+      w = t.w;
+      whole_line_keys = t.whole_line_keys;
+      loop_invariant = loop;
+      between = between;
+    })
 
 -- the remaining work of the loop decreases
 pub reads_once : {a b c : ℕ} → a < b → b ≤ c → a < c

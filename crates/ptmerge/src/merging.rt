@@ -1,6 +1,7 @@
 //! The merge of two inputs, on which `comm` and `join` are built: it selects the current line with the least key.
 //!
-//! `cursor` is one input of the merge, with its order check; `four_slots` manages the store slots that both inputs use.
+//! `cursor` is one input of the merge, with its order check; `block_lines` are lines that are merged in the blocks of the
+//! readers; `four_slots` manages the store slots that both inputs use.
 
 ghost use Rattle.std.specs.Prelude.{◌≡◌, None, true, false, [], OnOk, IfOk, IfErr};
 ghost use Rattle.std.specs.Ordering.{is_gt};
@@ -16,12 +17,13 @@ ghost use Rattle.ptmerge.specs.Calls.MergeSteps.{previous_key};
 ghost use Rattle.ptmerge.specs.Private.Passed.{CanResume, IsResumed};
 ghost use Rattle.ptmerge.specs.declared.key_order.Side.{Side as SideType};
 
+pub(crate) mod block_lines;
 pub(crate) mod cursor;
 pub(crate) mod four_slots;
 
 use crate::faults::MergeFault;
 use crate::key_order::Side::{First, Second};
-use crate::key_order::{KeyOrder, Side};
+use crate::key_order::{KeyOrder, Side, Span};
 use crate::merging::cursor::CursorStatus::{Disorder, Ended, Head};
 use crate::merging::cursor::{Reached, Sorted};
 use crate::merging::four_slots::ensure_four_slots;
@@ -234,6 +236,14 @@ impl<K: KeyOrder> Merge<K> {
             Side::First => &self.first,
             Side::Second => &self.second,
         }
+    }
+
+    // Returns the span of the key of an input's current line.
+    #[inline(always)]
+    pub(crate) fn span(&self, side: Side) -> Span
+        ensures { result ≡ (both self.now.first self.now.second side).key }
+    {
+        self.cursor(side).key
     }
 
     // Returns the key of an input's current line.

@@ -1,22 +1,24 @@
--- The merge of the lines of two blocks, as `comm` does it. `head` is the current line of an input, and `rest` the bytes
+-- The merge of the lines of two blocks. `head` is the current line of an input, and `rest` the bytes
 -- of its block after this line.
 use Rattle.std.specs.Prelude.{◌≡◌, ◌⊎◌, ℕ, suc, ◌+◌, ◌<◌, ◌≤◌, List, [], ◌∷◌, ◌++◌, length, map}
 use Rattle.std.specs.Prelude.{Bool, true, false, Option, Some, None, MatchBool}
-use Rattle.std.specs.Ordering.{is_gt}
+use Rattle.std.specs.Ordering.{is_eq, is_gt}
 use Rattle.ptlines.specs.Calls.Outputs.{Output, PushEffect}
 use Rattle.ptlines.specs.Calls.Text.{IsLine}
 use Rattle.ptlines.specs.Laws.Text.{AreLines}
 use Rattle.ptlines.specs.Text.{unlines}
 use Rattle.ptlines.specs.ByteOrder.{Cmp}
 use Rattle.ptlines.specs.declared.sizes.TheConstants.{BLOCK}
-use Rattle.ptmerge.specs.Calls.MergeSpec.{MergeTool, entries_by_key}
+use Rattle.ptmerge.specs.Calls.KeySpan.{IsKeySpan}
+use Rattle.ptmerge.specs.Calls.MergeSpec.{MergeTool, entries_by_key, entries_of_key}
 use Rattle.ptmerge.specs.Calls.Sides.{both}
 use Rattle.ptmerge.specs.Comm.{column_entries}
-use Rattle.ptmerge.specs.MergeSpec.{Lines}
+use Rattle.ptmerge.specs.MergeSpec.{Lines, lines_with_key}
 use Rattle.ptmerge.specs.Orders.{Key}
 use Rattle.ptmerge.specs.declared.key_order.Side.{Side}
-use Rattle.ptmerge.specs.declared.tools.comm.block_lines.BlockLine.{BlockLine}
-use Rattle.ptmerge.specs.declared.tools.comm.block_lines.BlockRun.{BlockRun}
+use Rattle.ptmerge.specs.declared.key_order.Side.TheVariants.{First, Second}
+use Rattle.ptmerge.specs.declared.merging.block_lines.BlockLine.{BlockLine}
+use Rattle.ptmerge.specs.declared.merging.block_lines.BlockRun.{BlockRun}
 use Rattle.ptmerge.specs.declared.tools.comm.block_lines.Column.{Column}
 use Rattle.ptmerge.specs.declared.merging.cursor.Reached.{Reached}
 
@@ -62,12 +64,24 @@ lines_in column x = column_entries column.hidden column.tabs.now 1 x
 abbrev pub IsInBlock : BlockLine → Type 0
 IsInBlock line = line.passed + length line.rest.now ≤ BLOCK
 
+-- The span selects the key of the line.
+abbrev pub HasKeySpan : Key → BlockLine → Type 0
+HasKeySpan key line = IsKeySpan line.head.now (key line.head.now) line.span
+
+-- No line was passed yet.
+pub record CanMerge (key : Key) (line : BlockLine) : Type 0 where
+  pub passed : line.passed ≡ 0
+  pub in_block : IsInBlock line
+  pub span : HasKeySpan key line
+
 -- The next line of an input is in its block and in order.
-pub record IsNextLine (end : ℕ) (cmp : Cmp) (line next : BlockLine) : Type 0 where
+pub record IsNextLine (end : ℕ) (cmp : Cmp) (key : Key) (line next : BlockLine) : Type 0 where
   pub bytes : line.rest.now ≡ next.head.now ++ (end ∷ next.rest.now)
   pub whole : IsLine end next.head.now
   pub short : length next.head.now < 64
-  pub ordered : AtMost cmp line.head.now next.head.now
+  pub ordered : AtMost cmp (key line.head.now) (key next.head.now)
+  pub same : next.same ≡ is_eq (cmp (key line.head.now) (key next.head.now))
+  pub span : HasKeySpan key next
   pub passed : next.passed ≡ line.passed + 1
 
 -- No line was passed.
@@ -98,12 +112,16 @@ pub record IsReached (line : BlockLine) (reached : Reached) : Type 0 where
 
 -- ---- the lines of both
 
+-- Each of these lines has a key that is at least that of the input's current line.
+abbrev pub MayFollowHeads : MergeTool → (Side → BlockLine) → (Side → Lines) → Type 0
+MayFollowHeads tool now r =
+    (side : Side) → EachKey (AtMost tool.cmp (tool.key side (now side).head.now)) (tool.key side) (r side)
+
 -- The lines passed come first, whatever follows of keys that are not below the current ones, and were written.
 pub record AreMerged (tool : MergeTool) (old now : Side → BlockLine) (was is : Output) : Type 0 where
   pub q : Side → Lines
   pub passed : (side : Side) → ArePassed tool.terminator tool.cmp (tool.key side) (old side) (now side) (q side)
-  pub first : (wanted : List ℕ → Bool) (r : Side → Lines)
-      → ((side : Side) → EachKey (AtMost tool.cmp (tool.key side (now side).head.now)) (tool.key side) (r side))
+  pub first : (wanted : List ℕ → Bool) (r : Side → Lines) → MayFollowHeads tool now r
       → entries_by_key tool wanted (λ side. q side ++ r side)
       ≡ entries_by_key tool wanted q ++ entries_by_key tool wanted r
   pub under : (of side : Side)
@@ -111,22 +129,32 @@ pub record AreMerged (tool : MergeTool) (old now : Side → BlockLine) (was is :
   pub wrote : PushEffect was is (unlines tool.terminator (entries_by_key tool (λ k. true) q))
   pub clean : is.write_failed ≡ false
   pub in_block : (side : Side) → IsInBlock (now side)
-  pub idle : ((side : Side) → (now side).passed ≡ 0) → is ≡ was
+  pub span : (side : Side) → HasKeySpan (tool.key side) (now side)
 
--- The lines `f` are the current lines with the least key `k`.
-abbrev pub AreLeast : MergeTool → (Side → BlockLine) → List ℕ → (Side → Lines) → Type 0
-AreLeast tool now k f = (side : Side) → let head = (now side).head.now in
-    ((f side ≡ head ∷ []) × (tool.key side head ≡ k)) ⊎ ((f side ≡ []) × (is_gt (tool.cmp (tool.key side head) k) ≡ true))
+-- The current line, which has the key `k`, is passed. Or it stays, with a greater key.
+abbrev pub IsPassedOrAbove : MergeTool → Side → List ℕ → BlockLine → BlockLine → Lines → Type 0
+IsPassedOrAbove tool side k now next f =
+    ((f ≡ now.head.now ∷ []) × (tool.key side now.head.now ≡ k) × IsNextLine tool.terminator tool.cmp (tool.key side) now next)
+    ⊎ ((f ≡ []) × (is_gt (tool.cmp (tool.key side now.head.now) k) ≡ true) × (next ≡ now))
 
--- The write of the current lines with the least key failed. One of these is that of the input `of`, which has a further
--- line in its block.
-pub record HasFailed (tool : MergeTool) (now : Side → BlockLine) (mid is : Output) : Type 0 where
+-- The current lines with the least key `k` are passed, and were written. They are the lines `f`, and come before
+-- further ones with this key.
+pub record IsStep (tool : MergeTool) (now next : Side → BlockLine) (was is : Output) : Type 0 where
   pub k : List ℕ
   pub f : Side → Lines
-  pub least : AreLeast tool now k f
-  pub of : Side
-  pub written : f of ≡ (now of).head.now ∷ []
-  pub wrote : PushEffect mid is (unlines tool.terminator (entries_by_key tool (λ k. true) f))
+  pub passes : (side : Side) → IsPassedOrAbove tool side k (now side) (next side) (f side)
+  pub first : (r : Side → Lines) → MayFollowHeads tool next r
+      → tool.entries k (f First ++ lines_with_key (tool.key First) (r First) k)
+      (f Second ++ lines_with_key (tool.key Second) (r Second) k)
+      ≡ tool.entries k (f First) (f Second) ++ entries_of_key tool r k
+  pub wrote : PushEffect was is (unlines tool.terminator (entries_by_key tool (λ k. true) f))
+
+-- The lines are merged, and the write of the last ones failed.
+pub record HasFailed (tool : MergeTool) (old now : Side → BlockLine) (was is : Output) : Type 0 where
+  pub before : Side → BlockLine
+  pub mid : Output
+  pub merged : AreMerged tool old before was mid
+  pub step : IsStep tool before now mid is
   pub failed : is.write_failed ≡ true
 
 -- Where both inputs are at the end of the merge.
@@ -138,6 +166,4 @@ pub record IsRunEnd (failed : Bool) (now : Side → BlockLine) (run : BlockRun) 
 pub record BlockRunPost (tool : MergeTool) (old : Side → BlockLine) (run : BlockRun) (was is : Output) : Type 0 where
   pub now : Side → BlockLine
   pub end : IsRunEnd run.failed now run
-  pub mid : Output
-  pub merged : AreMerged tool old now was mid
-  pub ends : MatchBool run.failed (HasFailed tool now mid is) (is ≡ mid)
+  pub ends : MatchBool run.failed (HasFailed tool old now was is) (AreMerged tool old now was is)

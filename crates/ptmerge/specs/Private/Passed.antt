@@ -16,8 +16,8 @@ use Rattle.ptmerge.specs.declared.key_order.Side.{Side}
 use Rattle.ptmerge.specs.declared.key_order.Side.TheVariants.{First, Second}
 use Rattle.ptmerge.specs.declared.merging.cursor.CursorStatus.TheVariants.{Head}
 use Rattle.ptmerge.specs.declared.merging.cursor.Sorted.{Sorted}
-use Rattle.ptmerge.specs.declared.tools.comm.block_lines.BlockLine.{BlockLine}
-use Rattle.ptmerge.specs.declared.tools.comm.block_lines.BlockRun.{BlockRun}
+use Rattle.ptmerge.specs.declared.merging.block_lines.BlockLine.{BlockLine}
+use Rattle.ptmerge.specs.declared.merging.block_lines.BlockRun.{BlockRun}
 use Rattle.ptmerge.specs.declared.merging.cursor.Reached.{Reached}
 
 -- The current line is now `line`, which is `count` lines after the one before.

@@ -121,7 +121,8 @@ impl Sorted {
     }
 
     // Consumes the lines that were merged in the block of the reader. The line reached, if it is in the block, is copied
-    // to the slot of the current line.
+    // to the slot of the current line. `same` and the slot of the previous line are those of the line before these, so
+    // no call may rely on them until `next` sets both.
     #[inline(always)]
     pub fn resume<K: KeyOrder, A: Allocator + Copy, S: Source, R: Source>(
         &mut self,

@@ -9,7 +9,7 @@ ghost use Rattle.ptmerge.specs.Calls.Comm.{comm_with, comm_tool};
 ghost use Rattle.ptmerge.specs.Private.MergeCall.{MergeRunPre};
 ghost use Rattle.ptmerge.specs.Calls.MergeCall.{MergePost, MergePre, merge_state};
 ghost use Rattle.ptmerge.specs.Private.WriteAndAdvance.{WriteThenAdvancePost, AdvancePre};
-ghost use Rattle.ptmerge.specs.Calls.Sides.{both, whole_line};
+ghost use Rattle.ptmerge.specs.Calls.Sides.{both};
 ghost use Rattle.ptmerge.specs.Calls.MergeSteps.{AreValidCursors};
 ghost use Rattle.ptmerge.specs.Private.BlockLines.{lines_in};
 ghost use Rattle.ptmerge.specs.Private.Passed.{AreReady, BlocksPost};
@@ -20,9 +20,10 @@ mod block_lines;
 use crate::faults::MergeFault;
 use crate::key_order::Side::{First, Second};
 use crate::key_order::{Descending, KeyOrder, Side, WholeLine};
+use crate::merging::block_lines::BlockLine;
 use crate::merging::four_slots::clear_four_slots;
 use crate::merging::{Merge, Step};
-use crate::tools::comm::block_lines::{BlockLine, Column, merge_blocks};
+use crate::tools::comm::block_lines::{Column, merge_blocks};
 use ptlangs::jobs::CommJob;
 use ptlines::{LineReader, Out, Sink, Source, Store};
 use std::alloc::Allocator;
@@ -61,10 +62,11 @@ fn merge_in_blocks<K: KeyOrder, A: Allocator + Copy, S: Source, R: Source, W: Si
     store: &mut Store<A>,
     out: &mut Out<W>,
 ) -> Result<(), MergeFault>
+    requires whole_line_keys { (side : SideType) (line : List ℕ) → K.key_of merge.old.order side line ≡ line }
     requires valid_cursors { AreValidCursors (K.key_of merge.old.order) merge.old.first merge.old.second store.old }
     requires ready { AreReady (comm_job job.now).terminator (both merge.old.first merge.old.second)
         (both first.old second.old) out.old }
-    ensures merges { let tool = comm_with (comm_job job.now) (K.order merge.old.order) whole_line in
+    ensures merges { let tool = comm_with (comm_job job.now) (K.order merge.old.order) (K.key_of merge.old.order) in
         let was = merge_state first.old second.old out.old store.old in
         let is = merge_state first.new second.new out.new store.new in
         BlocksPost tool (both merge.old.first merge.old.second) (both merge.new.first merge.new.second) was is result }
@@ -74,8 +76,16 @@ fn merge_in_blocks<K: KeyOrder, A: Allocator + Copy, S: Source, R: Source, W: Si
     if !merge.has_short_heads(store) {
         return Ok(());
     }
-    let one = BlockLine::new(merge.head(First, store), first.buffered());
-    let two = BlockLine::new(merge.head(Second, store), second.buffered());
+    let one = BlockLine::new(
+        merge.head(First, store),
+        merge.span(First),
+        first.buffered(),
+    );
+    let two = BlockLine::new(
+        merge.head(Second, store),
+        merge.span(Second),
+        second.buffered(),
+    );
     let run = merge_blocks(merge.order(), job, first.terminator(), one, two, out);
     merge.resume(First, run.first, first, store);
     merge.resume(Second, run.second, second, store);

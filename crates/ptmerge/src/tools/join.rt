@@ -1,5 +1,6 @@
 //! The engine of `join`: a merge that keeps the second input's lines of one key at a time, if it writes pairs.
 //!
+//! `block_pairs` pairs lines in the blocks of the readers, as long as each is the only one of its key in its input.
 //! `field_keys` is the order of lines by their join fields, and `key_group` copies the lines of a key. `fields` splits
 //! a line into fields, `output` writes an output line, and `separators` and `words` find separators and blanks by `masks`.
 
@@ -10,6 +11,7 @@ ghost use Rattle.ptlines.specs.Calls.Slots.{line};
 ghost use Rattle.ptlines.specs.Text.{unlines};
 ghost use Rattle.ptmerge.specs.Private.JoinGroup.{IsGroup, JoinStepPre, JoinLinePre, group_lines};
 ghost use Rattle.ptmerge.specs.Private.MergeCall.{MergeRunPre};
+ghost use Rattle.ptmerge.specs.Private.Passed.{AreReady, BlocksPost};
 ghost use Rattle.ptmerge.specs.Calls.MergeCall.{MergePost, MergePre, merge_state};
 ghost use Rattle.ptmerge.specs.Calls.MergeSteps.{AreValidCursors};
 ghost use Rattle.ptmerge.specs.declared.key_order.Side.{Side as SideType};
@@ -22,6 +24,7 @@ ghost use Rattle.ptmerge.specs.Calls.Sides.{both};
 ghost use Rattle.ptmerge.specs.declared.key_order.Side.TheVariants as sides;
 ghost use Rattle.ptmerge.specs.declared.merging.cursor.CursorStatus.TheVariants as status_is;
 
+mod block_pairs;
 mod field_keys;
 mod fields;
 mod key_group;
@@ -34,8 +37,10 @@ mod words;
 use crate::faults::MergeFault;
 use crate::key_order::Side::{First, Second};
 use crate::key_order::{Descending, KeyOrder, Side};
+use crate::merging::block_lines::BlockLine;
 use crate::merging::four_slots::clear_four_slots;
 use crate::merging::{Merge, Step};
+use crate::tools::join::block_pairs::pair_blocks;
 use crate::tools::join::field_keys::FieldKeys;
 use crate::tools::join::key_group::Group;
 use crate::tools::join::output::{Pair, is_unchanged, write_alone, write_pair};
@@ -43,8 +48,7 @@ use ptlangs::jobs::JoinJob;
 use ptlines::{LineReader, Out, Sink, Source, Store, WriteFault};
 use std::alloc::Allocator;
 
-// Writes the output line of an unpaired line, if the options ask for it. Inlined, since most of its calls only ask
-// (`join`: 265 for 283 a line).
+// Writes the output line of an unpaired line, if the options ask for it. Inlined, since most of its calls only ask.
 #[inline(always)]
 fn write_unpaired_entry<B: Allocator, W: Sink>(
     job: &JoinJob<B>,
@@ -165,6 +169,52 @@ fn write_pairs<K: KeyOrder, A: Allocator + Copy, B: Allocator, S: Source, R: Sou
     Ok(merge.has_same_key(First))
 }
 
+// Merges the lines of both blocks where they are, if both inputs are at lines of fewer than 64 bytes. After a key with
+// several lines of an input it does nothing: another such key would soon follow, and end it.
+#[inline(always)]
+fn merge_in_blocks<K: KeyOrder, A: Allocator + Copy, B: Allocator, S: Source, R: Source, W: Sink>(
+    merge: &mut Merge<K>,
+    job: &JoinJob<B>,
+    after_group: bool,
+    first: &mut LineReader<S, R>,
+    second: &mut LineReader<S, R>,
+    store: &mut Store<A>,
+    out: &mut Out<W>,
+) -> Result<(), MergeFault>
+    requires keys { (side : SideType) (line : List ℕ) →
+        K.key_of merge.old.order side line ≡ join_key (join_job job.now) side line }
+    requires valid_cursors { AreValidCursors (K.key_of merge.old.order) merge.old.first merge.old.second store.old }
+    requires ready { AreReady (join_job job.now).terminator (both merge.old.first merge.old.second)
+        (both first.old second.old) out.old }
+    ensures merges { let tool = join_with (join_job job.now) (K.order merge.old.order) (K.key_of merge.old.order) in
+        let was = merge_state first.old second.old out.old store.old in
+        let is = merge_state first.new second.new out.new store.new in
+        BlocksPost tool (both merge.old.first merge.old.second) (both merge.new.first merge.new.second) was is result }
+    ensures order { merge.new.order ≡ merge.old.order }
+    ensures valid_cursors { AreValidCursors (K.key_of merge.new.order) merge.new.first merge.new.second store.new }
+{
+    if after_group || !merge.has_short_heads(store) {
+        return Ok(());
+    }
+    let one = BlockLine::new(
+        merge.head(First, store),
+        merge.span(First),
+        first.buffered(),
+    );
+    let two = BlockLine::new(
+        merge.head(Second, store),
+        merge.span(Second),
+        second.buffered(),
+    );
+    let run = pair_blocks(merge.order(), job, first.terminator(), one, two, out);
+    merge.resume(First, run.first, first, store);
+    merge.resume(Second, run.second, second, store);
+    if run.failed {
+        return Err(MergeFault::Write);
+    }
+    Ok(())
+}
+
 // Runs `join` in an order of join fields. The terminator of both readers is already set.
 fn join_with_order<K: KeyOrder, A: Allocator + Copy, B: Allocator, S: Source, R: Source, W: Sink>(
     order: K,
@@ -182,14 +232,21 @@ fn join_with_order<K: KeyOrder, A: Allocator + Copy, B: Allocator, S: Source, R:
         MergePost tool was (merge_state first.new second.new out.new store.new) result }
 {
     let mut merge = Merge::start(order, first, second, store)?;
+    let mut after_group = false;
     'steps: loop {
+        merge_in_blocks(&mut merge, job, after_group, first, second, store, out)?;
+        after_group = false;
         match merge.step(store) {
             Step::First => write_unpaired(&mut merge, job, First, first, store, out)?,
             Step::Second => write_unpaired(&mut merge, job, Second, second, store, out)?,
             Step::Both => {
                 let mut group = Group::new();
-                'lines: while group.read_line(&mut merge, job.pairs, second, store, out)? {}
-                'pairs: while write_pairs(&mut merge, job, group, first, store, out)? {}
+                'lines: while group.read_line(&mut merge, job.pairs, second, store, out)? {
+                    after_group = true;
+                }
+                'pairs: while write_pairs(&mut merge, job, group, first, store, out)? {
+                    after_group = true;
+                }
                 group.clear(store);
             }
             Step::End => {

@@ -1,44 +1,28 @@
 //! The lines of `comm` that end in the blocks of both readers: they are merged where they are, without a copy in the
 //! store.
 
-ghost use Rattle.std.specs.Prelude.{◌≡◌, ◌≤◌, ◌++◌, IfSome, false, length};
+ghost use Rattle.std.specs.Prelude.{◌≡◌, ◌++◌, ℕ, List, false};
 ghost use Rattle.ptlangs.specs.Jobs.{comm_job};
 ghost use Rattle.ptlines.specs.Calls.Outputs.{PushPost};
 ghost use Rattle.ptlines.specs.Text.{unlines};
 ghost use Rattle.ptmerge.specs.Calls.Comm.{comm_with};
-ghost use Rattle.ptmerge.specs.Calls.Sides.{both, whole_line};
+ghost use Rattle.ptmerge.specs.Calls.Sides.{both};
 ghost use Rattle.ptmerge.specs.Comm.{tab_if_shown};
-ghost use Rattle.ptmerge.specs.Private.BlockLines.{IsNextLine, BlockRunPost, IsInBlock, IsReached, IsRunEnd, IsColumn};
-ghost use Rattle.ptmerge.specs.Private.BlockLines.{lines_in};
+ghost use Rattle.ptmerge.specs.Private.BlockLines.{BlockRunPost, CanMerge, IsColumn, lines_in};
+ghost use Rattle.ptmerge.specs.declared.key_order.Side.{Side as SideType};
 
 use crate::key_order::KeyOrder;
-use crate::merging::cursor::Reached;
+use crate::key_order::Side::{First, Second};
+use crate::merging::block_lines::{BlockLine, BlockRun, end_run};
 use ptlangs::jobs::CommJob;
-use ptlines::{Out, Sink, WriteFault, find_byte};
+use ptlines::{Out, Sink, WriteFault};
 use std::cmp::Ordering;
-
-// The current line of an input, and the bytes in its block after this line. `passed` lines came before it, since the
-// merge of the blocks began.
-#[derive(Clone, Copy)]
-pub(crate) struct BlockLine<'a> {
-    pub head: &'a [u8],
-    pub rest: &'a [u8],
-    pub passed: usize,
-}
 
 // A column of the output: whether it is hidden, and the tabs before its lines.
 #[derive(Clone, Copy)]
 pub(crate) struct Column {
     pub hidden: bool,
     pub tabs: &'static [u8],
-}
-
-// Where a merge of two blocks ended. `failed` is true if a write has failed.
-#[derive(Clone, Copy)]
-pub(crate) struct BlockRun {
-    pub first: Reached,
-    pub second: Reached,
-    pub failed: bool,
 }
 
 impl Column {
@@ -72,64 +56,6 @@ impl Column {
     }
 }
 
-impl<'a> BlockLine<'a> {
-    // Returns the current line of an input, before others are passed.
-    #[inline(always)]
-    pub(crate) fn new(head: &'a [u8], rest: &'a [u8]) -> BlockLine<'a>
-        ensures { (result.head.now ≡ head.now) × (result.rest.now ≡ rest.now) × (result.passed ≡ 0) }
-    {
-        BlockLine {
-            head,
-            rest,
-            passed: 0,
-        }
-    }
-
-    // Returns the next line, if its terminator is among the next 64 bytes and it is in order. Longer lines take the
-    // other way, since a search for their end would be in vain too often.
-    #[inline(always)]
-    fn next<K: KeyOrder>(self, order: &K, terminator: u8) -> Option<BlockLine<'a>>
-        requires { IsInBlock self }
-        ensures { IfSome result (λ next. IsNextLine terminator (K.order order.now) self.entry next) }
-    {
-        let near = &self.rest[..self.rest.len().min(64)];
-        let size = find_byte(terminator, near)?;
-        let head = &self.rest[..size];
-        if order.cmp(self.head, head).is_gt() {
-            return None;
-        }
-        Some(BlockLine {
-            head,
-            rest: &self.rest[size + 1..],
-            passed: self.passed + 1,
-        })
-    }
-
-    // Returns where the input is.
-    #[inline(always)]
-    pub(crate) fn reached(self) -> Reached
-        ensures { IsReached self.entry result }
-    {
-        Reached {
-            passed: self.passed,
-            size: self.head.len(),
-            left: self.rest.len(),
-        }
-    }
-}
-
-// Returns where a merge of blocks ended.
-#[inline(always)]
-fn end_run(first: BlockLine, second: BlockLine, failed: bool) -> BlockRun
-    ensures { IsRunEnd failed (both first.entry second.entry) result }
-{
-    BlockRun {
-        first: first.reached(),
-        second: second.reached(),
-        failed,
-    }
-}
-
 // Merges two blocks, up to the first line that is not near the line before it or is out of order.
 #[inline(never)]
 pub(crate) fn merge_blocks<K: KeyOrder, W: Sink>(
@@ -141,10 +67,10 @@ pub(crate) fn merge_blocks<K: KeyOrder, W: Sink>(
     out: &mut Out<W>,
 ) -> BlockRun
     requires ends { terminator ≡ (comm_job job.now).terminator }
-    requires begins { (first.passed ≡ 0) × (second.passed ≡ 0) }
-    requires in_blocks { IsInBlock first × IsInBlock second }
+    requires whole_line_keys { (side : SideType) (line : List ℕ) → K.key_of order.now side line ≡ line }
+    requires begins { (side : SideType) → CanMerge (K.key_of order.now side) (both first second side) }
     requires clean { out.old.write_failed ≡ false }
-    ensures { let tool = comm_with (comm_job job.now) (K.order order.now) whole_line in
+    ensures { let tool = comm_with (comm_job job.now) (K.order order.now) (K.key_of order.now) in
         BlockRunPost tool (both first.entry second.entry) result out.old out.new }
 {
     let [hide1, hide2, hide3] = job.hide;
@@ -155,33 +81,33 @@ pub(crate) fn merge_blocks<K: KeyOrder, W: Sink>(
     'lines: loop {
         match order.cmp(one.head, two.head) {
             Ordering::Less => {
-                let Some(next) = one.next(order, terminator) else {
+                let Some(next) = one.next(order, First, terminator) else {
                     return end_run(one, two, false);
                 };
                 match alone1.write(one.head, terminator, out) {
                     Ok(()) => one = next,
-                    Err(_) => return end_run(one, two, true),
+                    Err(_) => return end_run(next, two, true),
                 }
             }
             Ordering::Greater => {
-                let Some(next) = two.next(order, terminator) else {
+                let Some(next) = two.next(order, Second, terminator) else {
                     return end_run(one, two, false);
                 };
                 match alone2.write(two.head, terminator, out) {
                     Ok(()) => two = next,
-                    Err(_) => return end_run(one, two, true),
+                    Err(_) => return end_run(one, next, true),
                 }
             }
             Ordering::Equal => {
-                let Some(next1) = one.next(order, terminator) else {
+                let Some(next1) = one.next(order, First, terminator) else {
                     return end_run(one, two, false);
                 };
-                let Some(next2) = two.next(order, terminator) else {
+                let Some(next2) = two.next(order, Second, terminator) else {
                     return end_run(one, two, false);
                 };
                 match common.write(one.head, terminator, out) {
                     Ok(()) => {}
-                    Err(_) => return end_run(one, two, true),
+                    Err(_) => return end_run(next1, next2, true),
                 }
                 one = next1;
                 two = next2;

@@ -39,11 +39,14 @@ merge_in_blocks-requires-clause-ready g c =
       clean = t.between.clean;
     }
 
+pub merge_in_blocks-requires-clause-whole_line_keys : goal.merge_in_blocks-requires-clause-whole_line_keys
+merge_in_blocks-requires-clause-whole_line_keys g c = c.steps.invariant.iteration.whole_line_keys
+
 pub returns-in_err-merge_in_blocks : goal.returns-in_err-merge_in_blocks
 returns-in_err-merge_in_blocks g c =
     let i = c.steps.invariant in
     fails i c.from_residual-in_err-merge_in_blocks.ensures.1
-    (blocks_fail i.iteration c.in_err-merge_in_blocks.ensures.merges refl)
+    (blocks_fail i.iteration.loop_invariant i.iteration.between c.in_err-merge_in_blocks.ensures.merges refl)
 
 pub write_head-requires-clause-status_is : goal.write_head-requires-clause-status_is
 write_head-requires-clause-status_is g c =
@@ -102,7 +105,7 @@ steps-smaller-in-Continue-branch-3 g c =
     c.in_ok-merge_in_blocks.ensures.merges c.merge_in_blocks.ensures.order c.merge_in_blocks.ensures.valid_cursors in
     let h = c.in_ok-write_head-in-First.ensures.advances in
     reads_once (reads_less i.iteration.between First h.continues c.in-First.ensures.status_is h.came)
-    (blocks_read c.steps.invariant.iteration c.in_ok-merge_in_blocks.ensures.merges)
+    (blocks_read c.steps.invariant.iteration.loop_invariant c.steps.invariant.iteration.between c.in_ok-merge_in_blocks.ensures.merges)
 
 pub steps-smaller-in-Continue-branch-4 : goal.steps-smaller-in-Continue-branch-4
 steps-smaller-in-Continue-branch-4 g c =
@@ -110,7 +113,7 @@ steps-smaller-in-Continue-branch-4 g c =
     c.in_ok-merge_in_blocks.ensures.merges c.merge_in_blocks.ensures.order c.merge_in_blocks.ensures.valid_cursors in
     let h = c.in_ok-write_head-in-Second.ensures.advances in
     reads_once (reads_less i.iteration.between Second h.continues c.in-Second.ensures.status_is h.came)
-    (blocks_read c.steps.invariant.iteration c.in_ok-merge_in_blocks.ensures.merges)
+    (blocks_read c.steps.invariant.iteration.loop_invariant c.steps.invariant.iteration.between c.in_ok-merge_in_blocks.ensures.merges)
 
 pub steps-smaller : goal.steps-smaller
 steps-smaller g c =
@@ -121,7 +124,7 @@ steps-smaller g c =
     reads_twice (reads_less (between_next i.iteration.between First h.continues) Second k.continues
     (rw h.continues.others c.in-Both.ensures.second) k.came)
     (reads_less i.iteration.between First h.continues c.in-Both.ensures.first h.came)
-    (blocks_read c.steps.invariant.iteration c.in_ok-merge_in_blocks.ensures.merges)
+    (blocks_read c.steps.invariant.iteration.loop_invariant c.steps.invariant.iteration.between c.in_ok-merge_in_blocks.ensures.merges)
 
 pub returns-in_err-write_head-in-First : goal.returns-in_err-write_head-in-First
 returns-in_err-write_head-in-First g c =

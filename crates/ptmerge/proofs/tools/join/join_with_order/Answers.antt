@@ -7,6 +7,8 @@ use proofs.JoinLemmas.{read_group_continues, read_group_fails, write_pairs_next,
 use proofs.JoinLemmas.{write_pairs_continues, pair_fails, group_there, group_closed}
 use proofs.MergeLemmas.{advance_pre, fails_by, start_fault, start_ok, open_merge, ends_well, ends_fallen, kept_order}
 use proofs.MergeLemmas.{fails, ends, reads_less}
+use proofs.PassedLemmas.{blocks_fail, blocks_read, reads_once}
+use proofs.PairLemmas.{joined_by_blocks}
 use specs.declared.key_order.Side.TheVariants as sides
 use proofs.tools.join.join_with_order.Goals as goal
 
@@ -32,75 +34,123 @@ steps-init g c =
       };
     })
 
+pub merge_in_blocks-requires-clause-keys : goal.merge_in_blocks-requires-clause-keys
+merge_in_blocks-requires-clause-keys g c = c.steps.invariant.iteration.keys
+
+pub merge_in_blocks-requires-clause-ready : goal.merge_in_blocks-requires-clause-ready
+merge_in_blocks-requires-clause-ready g c =
+    let t = c.steps.invariant.iteration in
+    record {
+      own_reader = t.between.own_reader;
+      terminator = (t.here.sides sides.First).lines_read.terminator;
+      clean = t.between.clean;
+    }
+
+pub returns-in_err-merge_in_blocks : goal.returns-in_err-merge_in_blocks
+returns-in_err-merge_in_blocks g c =
+    let i = c.steps.invariant in
+    fails i c.from_residual-in_err-merge_in_blocks.ensures.1
+    (blocks_fail i.iteration.here i.iteration.between c.in_err-merge_in_blocks.ensures.merges refl)
+
 pub write_unpaired-requires-clause-status_is : goal.write_unpaired-requires-clause-status_is
 write_unpaired-requires-clause-status_is g c =
-    advance_pre c.steps.invariant.iteration.between _ c.in-First.ensures.status_is
+    let i = joined_by_blocks g.K.KeyOrder.order g.K.KeyOrder.key_of c.steps.invariant
+    c.in_ok-merge_in_blocks.ensures.merges c.merge_in_blocks.ensures.order c.merge_in_blocks.ensures.valid_cursors in
+    advance_pre i.iteration.between _ c.in-First.ensures.status_is
 
 pub write_unpaired-requires-in-Second-clause-status_is : goal.write_unpaired-requires-in-Second-clause-status_is
 write_unpaired-requires-in-Second-clause-status_is g c =
-    advance_pre c.steps.invariant.iteration.between _ c.in-Second.ensures.status_is
+    let i = joined_by_blocks g.K.KeyOrder.order g.K.KeyOrder.key_of c.steps.invariant
+    c.in_ok-merge_in_blocks.ensures.merges c.merge_in_blocks.ensures.order c.merge_in_blocks.ensures.valid_cursors in
+    advance_pre i.iteration.between _ c.in-Second.ensures.status_is
 
 pub write_unpaired-requires-clause-joins : goal.write_unpaired-requires-clause-joins
-write_unpaired-requires-clause-joins g c = joins c.steps.invariant.iteration
+write_unpaired-requires-clause-joins g c =
+    let i = joined_by_blocks g.K.KeyOrder.order g.K.KeyOrder.key_of c.steps.invariant
+    c.in_ok-merge_in_blocks.ensures.merges c.merge_in_blocks.ensures.order c.merge_in_blocks.ensures.valid_cursors in
+    joins i.iteration
 
 pub write_unpaired-requires-in-Second-clause-joins : goal.write_unpaired-requires-in-Second-clause-joins
-write_unpaired-requires-in-Second-clause-joins g c = joins c.steps.invariant.iteration
+write_unpaired-requires-in-Second-clause-joins g c =
+    let i = joined_by_blocks g.K.KeyOrder.order g.K.KeyOrder.key_of c.steps.invariant
+    c.in_ok-merge_in_blocks.ensures.merges c.merge_in_blocks.ensures.order c.merge_in_blocks.ensures.valid_cursors in
+    joins i.iteration
 
-pub steps-preserved-in-Continue-branch-2 : goal.steps-preserved-in-Continue-branch-2
-steps-preserved-in-Continue-branch-2 g c =
-    let i = c.steps.invariant in
+pub steps-preserved-in-Continue-branch-3 : goal.steps-preserved-in-Continue-branch-3
+steps-preserved-in-Continue-branch-3 g c =
+    let i = joined_by_blocks g.K.KeyOrder.order g.K.KeyOrder.key_of c.steps.invariant
+    c.in_ok-merge_in_blocks.ensures.merges c.merge_in_blocks.ensures.order c.merge_in_blocks.ensures.valid_cursors in
     let p = c.write_unpaired.ensures in
     kept_order p.order i.order (alone_continues i.iteration
     c.in-First.ensures p.wrote c.in_ok-write_unpaired-in-First.ensures.advances)
 
-pub steps-preserved-in-Continue-branch-3 : goal.steps-preserved-in-Continue-branch-3
-steps-preserved-in-Continue-branch-3 g c =
-    let i = c.steps.invariant in
+pub steps-preserved-in-Continue-branch-4 : goal.steps-preserved-in-Continue-branch-4
+steps-preserved-in-Continue-branch-4 g c =
+    let i = joined_by_blocks g.K.KeyOrder.order g.K.KeyOrder.key_of c.steps.invariant
+    c.in_ok-merge_in_blocks.ensures.merges c.merge_in_blocks.ensures.order c.merge_in_blocks.ensures.valid_cursors in
     let p = c.write_unpaired-in-Second.ensures in
     kept_order p.order i.order (alone_continues i.iteration
     c.in-Second.ensures p.wrote c.in_ok-write_unpaired-in-Second.ensures.advances)
 
-pub steps-smaller-in-Continue-branch-2 : goal.steps-smaller-in-Continue-branch-2
-steps-smaller-in-Continue-branch-2 g c =
-    let h = c.in_ok-write_unpaired-in-First.ensures.advances in
-    reads_less c.steps.invariant.iteration.between _ h.continues c.in-First.ensures.status_is h.came
-
 pub steps-smaller-in-Continue-branch-3 : goal.steps-smaller-in-Continue-branch-3
 steps-smaller-in-Continue-branch-3 g c =
+    let i = joined_by_blocks g.K.KeyOrder.order g.K.KeyOrder.key_of c.steps.invariant
+    c.in_ok-merge_in_blocks.ensures.merges c.merge_in_blocks.ensures.order c.merge_in_blocks.ensures.valid_cursors in
+    let h = c.in_ok-write_unpaired-in-First.ensures.advances in
+    reads_once (reads_less i.iteration.between _ h.continues c.in-First.ensures.status_is h.came)
+    (blocks_read c.steps.invariant.iteration.here c.steps.invariant.iteration.between
+    c.in_ok-merge_in_blocks.ensures.merges)
+
+pub steps-smaller-in-Continue-branch-4 : goal.steps-smaller-in-Continue-branch-4
+steps-smaller-in-Continue-branch-4 g c =
+    let i = joined_by_blocks g.K.KeyOrder.order g.K.KeyOrder.key_of c.steps.invariant
+    c.in_ok-merge_in_blocks.ensures.merges c.merge_in_blocks.ensures.order c.merge_in_blocks.ensures.valid_cursors in
     let h = c.in_ok-write_unpaired-in-Second.ensures.advances in
-    reads_less c.steps.invariant.iteration.between _ h.continues c.in-Second.ensures.status_is h.came
+    reads_once (reads_less i.iteration.between _ h.continues c.in-Second.ensures.status_is h.came)
+    (blocks_read c.steps.invariant.iteration.here c.steps.invariant.iteration.between
+    c.in_ok-merge_in_blocks.ensures.merges)
 
 pub returns-in_err-write_unpaired-in-First : goal.returns-in_err-write_unpaired-in-First
 returns-in_err-write_unpaired-in-First g c =
-    fails c.steps.invariant c.from_residual-in_err-write_unpaired-in-First.ensures.1
-    (alone_fails c.steps.invariant.iteration c.in-First.ensures c.write_unpaired.ensures.wrote
+    let i = joined_by_blocks g.K.KeyOrder.order g.K.KeyOrder.key_of c.steps.invariant
+    c.in_ok-merge_in_blocks.ensures.merges c.merge_in_blocks.ensures.order c.merge_in_blocks.ensures.valid_cursors in
+    fails i c.from_residual-in_err-write_unpaired-in-First.ensures.1
+    (alone_fails i.iteration c.in-First.ensures c.write_unpaired.ensures.wrote
     _ _ _ c.in_err-write_unpaired-in-First.ensures.advances)
 
 pub returns-in_err-write_unpaired-in-Second : goal.returns-in_err-write_unpaired-in-Second
 returns-in_err-write_unpaired-in-Second g c =
-    fails c.steps.invariant c.from_residual-in_err-write_unpaired-in-Second.ensures.1
-    (alone_fails c.steps.invariant.iteration c.in-Second.ensures
+    let i = joined_by_blocks g.K.KeyOrder.order g.K.KeyOrder.key_of c.steps.invariant
+    c.in_ok-merge_in_blocks.ensures.merges c.merge_in_blocks.ensures.order c.merge_in_blocks.ensures.valid_cursors in
+    fails i c.from_residual-in_err-write_unpaired-in-Second.ensures.1
+    (alone_fails i.iteration c.in-Second.ensures
     c.write_unpaired-in-Second.ensures.wrote
     _ _ _ c.in_err-write_unpaired-in-Second.ensures.advances)
 
 pub returns-in-End : goal.returns-in-End
 returns-in-End g c =
-    let i = c.steps.invariant in
+    let i = joined_by_blocks g.K.KeyOrder.order g.K.KeyOrder.key_of c.steps.invariant
+    c.in_ok-merge_in_blocks.ensures.merges c.merge_in_blocks.ensures.order c.merge_in_blocks.ensures.valid_cursors in
     ends i (ends_well i.iteration.here i.iteration.clean
     c.clear_four_slots.ensures c.in-End.ensures)
 
 pub returns-in-Stop : goal.returns-in-Stop
 returns-in-Stop g c =
-    let i = c.steps.invariant in
+    let i = joined_by_blocks g.K.KeyOrder.order g.K.KeyOrder.key_of c.steps.invariant
+    c.in_ok-merge_in_blocks.ensures.merges c.merge_in_blocks.ensures.order c.merge_in_blocks.ensures.valid_cursors in
     ends i (ends_fallen i.iteration.here i.iteration.clean
     c.clear_four_slots-in-Stop.ensures c.in-Stop.ensures)
 
 pub clear_four_slots-requires-in-Stop : goal.clear_four_slots-requires-in-Stop
-clear_four_slots-requires-in-Stop g c = c.steps.invariant.iteration.valid_cursors.slots
+clear_four_slots-requires-in-Stop g c =
+    let i = joined_by_blocks g.K.KeyOrder.order g.K.KeyOrder.key_of c.steps.invariant
+    c.in_ok-merge_in_blocks.ensures.merges c.merge_in_blocks.ensures.order c.merge_in_blocks.ensures.valid_cursors in
+    i.iteration.valid_cursors.slots
 
 pub lines-init : goal.lines-init
 lines-init g c =
-    let i = c.steps.invariant in
+    let i = joined_by_blocks g.K.KeyOrder.order g.K.KeyOrder.key_of c.steps.invariant
+    c.in_ok-merge_in_blocks.ensures.merges c.merge_in_blocks.ensures.order c.merge_in_blocks.ensures.valid_cursors in
     record {
       kept = kept_order refl i.order (group_opens i.iteration c.in-Both.ensures c.new-group.ensures);
       fewer = omega arith;
@@ -203,6 +253,8 @@ steps-smaller g c =
     let line = c.in_ok-read_line-in-Both.ensures in
     let wrote = c.pairs.invariant.kept.iteration in
     let pair = c.in_ok-write_pairs-in-Both.ensures.advances in
-    fewer_after (reads_less wrote.between _ pair.continues (write_pairs_pre wrote).status_is.head pair.came)
+    reads_once (fewer_after (reads_less wrote.between _ pair.continues (write_pairs_pre wrote).status_is.head pair.came)
     c.pairs.invariant.fewer
-    (reads_less read.between _ line.continues (read_group_pre read).head line.reads_line.1.came) c.lines.invariant.fewer
+    (reads_less read.between _ line.continues (read_group_pre read).head line.reads_line.1.came) c.lines.invariant.fewer)
+    (blocks_read c.steps.invariant.iteration.here c.steps.invariant.iteration.between
+    c.in_ok-merge_in_blocks.ensures.merges)

@@ -1,8 +1,0 @@
-use Rattle.ptmerge.proofs
-use proofs.Common.{usual, refl, arith}
-use proofs.BlockLemmas.{near_line}
-use proofs.tools.comm.block_lines.BlockLine.next.Goals as goal
-
-pub returns : goal.returns
-returns g c = let n = near_line _ _ _ _ c.in_ok-size.ensures in
-    record { bytes = grind (usual, n.bytes); whole = n.whole; short = omega (arith, n.short); ordered = grind usual; passed = refl }

@@ -1,0 +1,111 @@
+//! The lines of the inputs of a merge that end in the blocks of their readers: they are merged where they are, without a
+//! copy in the store.
+
+ghost use Rattle.std.specs.Prelude.{◌≡◌, IfSome};
+ghost use Rattle.ptmerge.specs.Calls.Sides.{both};
+ghost use Rattle.ptmerge.specs.Private.BlockLines.{HasKeySpan, IsInBlock, IsNextLine, IsReached, IsRunEnd};
+
+use crate::key_order::{KeyOrder, Side, Span};
+use crate::merging::cursor::Reached;
+use ptlines::find_byte;
+
+// The current line of an input with the span of its key, and the bytes in its block after this line. `passed` lines came
+// before it since the merge of the blocks began. `same` is true if it is one of them, and has the key of the line before.
+#[derive(Clone, Copy)]
+pub(crate) struct BlockLine<'a> {
+    pub head: &'a [u8],
+    pub span: Span,
+    pub rest: &'a [u8],
+    pub passed: usize,
+    pub same: bool,
+}
+
+// Where a merge of two blocks ended. `failed` is true if a write has failed.
+#[derive(Clone, Copy)]
+pub(crate) struct BlockRun {
+    pub first: Reached,
+    pub second: Reached,
+    pub failed: bool,
+}
+
+impl<'a> BlockLine<'a> {
+    // Returns the current line of an input, before others are passed.
+    #[inline(always)]
+    pub(crate) fn new(head: &'a [u8], span: Span, rest: &'a [u8]) -> BlockLine<'a>
+        ensures bytes { (result.head.now ≡ head.now) × (result.rest.now ≡ rest.now) }
+        ensures span { result.span ≡ span }
+        ensures passed { result.passed ≡ 0 }
+    {
+        BlockLine {
+            head,
+            span,
+            rest,
+            passed: 0,
+            same: false,
+        }
+    }
+
+    // Returns the key of the line.
+    #[inline(always)]
+    pub(crate) fn key<K: KeyOrder>(self, order: &K, side: Side) -> &'a [u8]
+        requires { HasKeySpan (K.key_of order.now side) self }
+        ensures { result.now ≡ K.key_of order.now side self.entry.head.now }
+    {
+        order.key(side, self.span, self.head)
+    }
+
+    // Returns the next line, if its terminator is among the next 64 bytes and it is in order. Longer lines take the
+    // other way, since a search for their end would be in vain too often.
+    #[inline(always)]
+    pub(crate) fn next<K: KeyOrder>(
+        self,
+        order: &K,
+        side: Side,
+        terminator: u8,
+    ) -> Option<BlockLine<'a>>
+        requires passed { IsInBlock self }
+        requires span { HasKeySpan (K.key_of order.now side) self }
+        ensures { let key = K.key_of order.now side in
+            IfSome result (λ next. IsNextLine terminator (K.order order.now) key self.entry next) }
+    {
+        let near = &self.rest[..self.rest.len().min(64)];
+        let size = find_byte(terminator, near)?;
+        let head = &self.rest[..size];
+        let span = order.span(side, head);
+        let ordering = order.cmp(self.key(order, side), order.key(side, span, head));
+        if ordering.is_gt() {
+            return None;
+        }
+        Some(BlockLine {
+            head,
+            span,
+            rest: &self.rest[size + 1..],
+            passed: self.passed + 1,
+            same: ordering.is_eq(),
+        })
+    }
+
+    // Returns where the input is.
+    #[inline(always)]
+    pub(crate) fn reached(self) -> Reached
+        ensures { IsReached self.entry result }
+    {
+        Reached {
+            passed: self.passed,
+            size: self.head.len(),
+            left: self.rest.len(),
+        }
+    }
+}
+
+// Returns where a merge of blocks ended.
+#[inline(always)]
+pub(crate) fn end_run(first: BlockLine, second: BlockLine, failed: bool) -> BlockRun
+    ensures { IsRunEnd failed (both first.entry second.entry) result }
+{
+    BlockRun {
+        first: first.reached(),
+        second: second.reached(),
+        failed,
+    }
+}
