@@ -48,8 +48,7 @@ use ptlangs::jobs::JoinJob;
 use ptlines::{LineReader, Out, Sink, Source, Store, WriteFault};
 use std::alloc::Allocator;
 
-// Writes the output line of an unpaired line, if the options ask for it. Inlined, since most of its calls only ask
-// (`join`: 265 for 283 a line).
+// Writes the output line of an unpaired line, if the options ask for it. Inlined, since most of its calls only ask.
 #[inline(always)]
 fn write_unpaired_entry<B: Allocator, W: Sink>(
     job: &JoinJob<B>,
