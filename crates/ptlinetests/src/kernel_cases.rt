@@ -2,7 +2,7 @@
 
 use crate::asserts::{holds_of, same, same_of};
 use ptfakes::texts::text_of;
-use ptlines::{compare, copy_short, find_byte, find_in_chunk};
+use ptlines::{compare, copy_short, find_byte, find_in_chunk, match_mask};
 use std::alloc::{AllocError, Global};
 use std::cmp::Ordering;
 use std::process::Abort;
@@ -50,6 +50,9 @@ fn few_and_many_bytes_are_copied_and_found(rt: HostRuntime) -> Result<(), Fail> 
     same(&rt, &find_in_chunk::<4>(b'\n', few, 3), &Some(5));
     same(&rt, &find_in_chunk::<2>(b'\n', few, 0), &None);
     same(&rt, &find_in_chunk::<16>(b'\n', few, 6), &None);
+    same(&rt, &match_mask::<4>(b'\n', few, 0), &0b100);
+    same(&rt, &match_mask::<4>(b'\n', few, 2), &0b1001);
+    same(&rt, &match_mask::<16>(b'\n', few, 6), &0);
     same(&rt, &find_byte(b'\n', b""), &None);
     for at in OFFSETS {
         finds(&rt, rt.alloc(), *at)?;
