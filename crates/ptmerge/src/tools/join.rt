@@ -169,13 +169,11 @@ fn write_pairs<K: KeyOrder, A: Allocator + Copy, B: Allocator, S: Source, R: Sou
     Ok(merge.has_same_key(First))
 }
 
-// Merges the lines of both blocks where they are, if both inputs are at lines of fewer than 64 bytes. After a key with
-// several lines of an input it does nothing: another such key would soon follow, and end it.
+// Merges the lines of both blocks where they are, if both inputs are at lines of fewer than 64 bytes.
 #[inline(always)]
 fn merge_in_blocks<K: KeyOrder, A: Allocator + Copy, B: Allocator, S: Source, R: Source, W: Sink>(
     merge: &mut Merge<K>,
     job: &JoinJob<B>,
-    after_group: bool,
     first: &mut LineReader<S, R>,
     second: &mut LineReader<S, R>,
     store: &mut Store<A>,
@@ -193,7 +191,7 @@ fn merge_in_blocks<K: KeyOrder, A: Allocator + Copy, B: Allocator, S: Source, R:
     ensures order { merge.new.order ≡ merge.old.order }
     ensures valid_cursors { AreValidCursors (K.key_of merge.new.order) merge.new.first merge.new.second store.new }
 {
-    if after_group || !merge.has_short_heads(store) {
+    if !merge.has_short_heads(store) {
         return Ok(());
     }
     let one = BlockLine::new(
@@ -234,7 +232,10 @@ fn join_with_order<K: KeyOrder, A: Allocator + Copy, B: Allocator, S: Source, R:
     let mut merge = Merge::start(order, first, second, store)?;
     let mut after_group = false;
     'steps: loop {
-        merge_in_blocks(&mut merge, job, after_group, first, second, store, out)?;
+        // After a key with several lines of an input, another such key would soon end a merge in the blocks.
+        if !after_group {
+            merge_in_blocks(&mut merge, job, first, second, store, out)?;
+        }
         after_group = false;
         match merge.step(store) {
             Step::First => write_unpaired(&mut merge, job, First, first, store, out)?,

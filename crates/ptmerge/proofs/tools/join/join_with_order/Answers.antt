@@ -1,16 +1,55 @@
 -- One lemma of `JoinLemmas` for each iteration, and one of `JoinLemmas` or `MergeLemmas` for each exit.
 use Rattle.ptmerge.proofs
 use Rattle.ptmerge.specs
-use proofs.Common.{refl, sym, ◌∙◌, arith, ℕ, ◌<◌, ◌≤◌, join_job}
-use proofs.JoinLemmas.{alone_continues, alone_fails, is_line_by_line, joins, group_opens, read_group_in, read_group_pre}
-use proofs.JoinLemmas.{read_group_continues, read_group_fails, write_pairs_next, write_pairs_pre, write_pairs_group}
-use proofs.JoinLemmas.{write_pairs_continues, pair_fails, group_there, group_closed}
+use proofs.Common.{◌≡◌, refl, sym, ◌∙◌, arith, ℕ, ◌<◌, ◌≤◌, both, inl, join_job, merge_state, Ok}
+use proofs.JoinLemmas.{BetweenGroups, LoopOfJoin, alone_continues, alone_fails, is_line_by_line, joins, group_opens}
+use proofs.JoinLemmas.{read_group_in, read_group_pre, read_group_continues, read_group_fails, write_pairs_next}
+use proofs.JoinLemmas.{write_pairs_pre, write_pairs_group, write_pairs_continues, pair_fails, group_there, group_closed}
 use proofs.MergeLemmas.{advance_pre, fails_by, start_fault, start_ok, open_merge, ends_well, ends_fallen, kept_order}
 use proofs.MergeLemmas.{fails, ends, reads_less}
 use proofs.PassedLemmas.{blocks_fail, blocks_read, reads_once}
 use proofs.PairLemmas.{joined_by_blocks}
 use specs.declared.key_order.Side.TheVariants as sides
+use specs.Calls.Join.{join_with}
+use specs.Calls.MergeSteps.{AreValidCursors}
+use specs.Private.Passed.{BlocksPost}
+use proofs.tools.join.join_with_order.Given as given
+use Rattle.ptmerge.proofs.tools.join.join_with_order.Goals.{After-step, else-not-after_group}
+use Rattle.ptmerge.proofs.tools.join.join_with_order.Goals.{then-not-after_group+in_ok-merge_in_blocks}
 use proofs.tools.join.join_with_order.Goals as goal
+
+module _ (g : given.Over) (c : After-step g) where
+  -- the lines of both blocks are merged, or nothing happened
+  by_blocks : let k = g.K.KeyOrder.key_of in
+      let was = c.steps in
+      let is = c.if-not-after_group in
+      BlocksPost (join_with (join_job c.args.job.now) (g.K.KeyOrder.order was.merge.order) (k was.merge.order))
+      (both was.merge.first was.merge.second) (both is.merge.first is.merge.second)
+      (merge_state was.first was.second was.out was.store) (merge_state is.first is.second is.out is.store) (Ok tt)
+      × (is.merge.order ≡ was.merge.order)
+      × AreValidCursors (k is.merge.order) is.merge.first is.merge.second is.store
+  by_blocks =
+      elim c.if-not-after_group.branch [
+        | then-not-after_group+in_ok-merge_in_blocks w ↦
+            simp (w.first-is, w.second-is, w.store-is, w.out-is, w.merge-is) (
+              w.in_ok-merge_in_blocks.ensures.merges,
+              w.merge_in_blocks.ensures.order,
+              w.merge_in_blocks.ensures.valid_cursors,
+            )
+        | else-not-after_group w ↦
+            simp (w.first-is, w.second-is, w.store-is, w.out-is, w.merge-is) (
+              inl (refl, refl, refl),
+              refl,
+              c.steps.invariant.iteration.between.valid_cursors,
+            )
+      ]
+
+  on_by_blocks : let is = c.if-not-after_group in
+      LoopOfJoin (join_job c.args.job.now) g.K.KeyOrder.order g.K.KeyOrder.key_of
+      (merge_state c.args.first.now c.args.second.now c.args.out.now c.args.store.now) BetweenGroups
+      (merge_state is.first is.second is.out is.store) is.merge.first is.merge.second is.merge.order c.args.order
+  on_by_blocks = joined_by_blocks g.K.KeyOrder.order g.K.KeyOrder.key_of c.steps.invariant by_blocks.0 by_blocks.1
+      by_blocks.2
 
 pub returns-in_err-merge : goal.returns-in_err-merge
 returns-in_err-merge g c =
@@ -52,76 +91,74 @@ returns-in_err-merge_in_blocks g c =
     fails i c.from_residual-in_err-merge_in_blocks.ensures.1
     (blocks_fail i.iteration.here i.iteration.between c.in_err-merge_in_blocks.ensures.merges refl)
 
+pub step-requires : goal.step-requires
+step-requires g c =
+    elim c.if-not-after_group.branch [
+      | then-not-after_group+in_ok-merge_in_blocks w ↦
+          simp (w.store-is, w.merge-is) w.merge_in_blocks.ensures.valid_cursors
+      | else-not-after_group w ↦ simp (w.store-is, w.merge-is) c.steps.invariant.iteration.between.valid_cursors
+    ]
+
 pub write_unpaired-requires-clause-status_is : goal.write_unpaired-requires-clause-status_is
 write_unpaired-requires-clause-status_is g c =
-    let i = joined_by_blocks g.K.KeyOrder.order g.K.KeyOrder.key_of c.steps.invariant
-    c.in_ok-merge_in_blocks.ensures.merges c.merge_in_blocks.ensures.order c.merge_in_blocks.ensures.valid_cursors in
+    let i = on_by_blocks g (goal.at.write_unpaired-requires-clause-status_is g c).After-step in
     advance_pre i.iteration.between _ c.in-First.ensures.status_is
 
 pub write_unpaired-requires-in-Second-clause-status_is : goal.write_unpaired-requires-in-Second-clause-status_is
 write_unpaired-requires-in-Second-clause-status_is g c =
-    let i = joined_by_blocks g.K.KeyOrder.order g.K.KeyOrder.key_of c.steps.invariant
-    c.in_ok-merge_in_blocks.ensures.merges c.merge_in_blocks.ensures.order c.merge_in_blocks.ensures.valid_cursors in
+    let i = on_by_blocks g (goal.at.write_unpaired-requires-in-Second-clause-status_is g c).After-step in
     advance_pre i.iteration.between _ c.in-Second.ensures.status_is
 
 pub write_unpaired-requires-clause-joins : goal.write_unpaired-requires-clause-joins
 write_unpaired-requires-clause-joins g c =
-    let i = joined_by_blocks g.K.KeyOrder.order g.K.KeyOrder.key_of c.steps.invariant
-    c.in_ok-merge_in_blocks.ensures.merges c.merge_in_blocks.ensures.order c.merge_in_blocks.ensures.valid_cursors in
+    let i = on_by_blocks g (goal.at.write_unpaired-requires-clause-joins g c).After-step in
     joins i.iteration
 
 pub write_unpaired-requires-in-Second-clause-joins : goal.write_unpaired-requires-in-Second-clause-joins
 write_unpaired-requires-in-Second-clause-joins g c =
-    let i = joined_by_blocks g.K.KeyOrder.order g.K.KeyOrder.key_of c.steps.invariant
-    c.in_ok-merge_in_blocks.ensures.merges c.merge_in_blocks.ensures.order c.merge_in_blocks.ensures.valid_cursors in
+    let i = on_by_blocks g (goal.at.write_unpaired-requires-in-Second-clause-joins g c).After-step in
     joins i.iteration
 
 pub steps-preserved-in-Continue-branch-3 : goal.steps-preserved-in-Continue-branch-3
 steps-preserved-in-Continue-branch-3 g c =
-    let i = joined_by_blocks g.K.KeyOrder.order g.K.KeyOrder.key_of c.steps.invariant
-    c.in_ok-merge_in_blocks.ensures.merges c.merge_in_blocks.ensures.order c.merge_in_blocks.ensures.valid_cursors in
+    let i = on_by_blocks g (goal.at.steps-preserved-in-Continue-branch-3 g c).After-step in
     let p = c.write_unpaired.ensures in
     kept_order p.order i.order (alone_continues i.iteration
     c.in-First.ensures p.wrote c.in_ok-write_unpaired-in-First.ensures.advances)
 
 pub steps-preserved-in-Continue-branch-4 : goal.steps-preserved-in-Continue-branch-4
 steps-preserved-in-Continue-branch-4 g c =
-    let i = joined_by_blocks g.K.KeyOrder.order g.K.KeyOrder.key_of c.steps.invariant
-    c.in_ok-merge_in_blocks.ensures.merges c.merge_in_blocks.ensures.order c.merge_in_blocks.ensures.valid_cursors in
+    let i = on_by_blocks g (goal.at.steps-preserved-in-Continue-branch-4 g c).After-step in
     let p = c.write_unpaired-in-Second.ensures in
     kept_order p.order i.order (alone_continues i.iteration
     c.in-Second.ensures p.wrote c.in_ok-write_unpaired-in-Second.ensures.advances)
 
 pub steps-smaller-in-Continue-branch-3 : goal.steps-smaller-in-Continue-branch-3
 steps-smaller-in-Continue-branch-3 g c =
-    let i = joined_by_blocks g.K.KeyOrder.order g.K.KeyOrder.key_of c.steps.invariant
-    c.in_ok-merge_in_blocks.ensures.merges c.merge_in_blocks.ensures.order c.merge_in_blocks.ensures.valid_cursors in
+    let i = on_by_blocks g (goal.at.steps-smaller-in-Continue-branch-3 g c).After-step in
     let h = c.in_ok-write_unpaired-in-First.ensures.advances in
     reads_once (reads_less i.iteration.between _ h.continues c.in-First.ensures.status_is h.came)
     (blocks_read c.steps.invariant.iteration.here c.steps.invariant.iteration.between
-    c.in_ok-merge_in_blocks.ensures.merges)
+    (by_blocks g (goal.at.steps-smaller-in-Continue-branch-3 g c).After-step).0)
 
 pub steps-smaller-in-Continue-branch-4 : goal.steps-smaller-in-Continue-branch-4
 steps-smaller-in-Continue-branch-4 g c =
-    let i = joined_by_blocks g.K.KeyOrder.order g.K.KeyOrder.key_of c.steps.invariant
-    c.in_ok-merge_in_blocks.ensures.merges c.merge_in_blocks.ensures.order c.merge_in_blocks.ensures.valid_cursors in
+    let i = on_by_blocks g (goal.at.steps-smaller-in-Continue-branch-4 g c).After-step in
     let h = c.in_ok-write_unpaired-in-Second.ensures.advances in
     reads_once (reads_less i.iteration.between _ h.continues c.in-Second.ensures.status_is h.came)
     (blocks_read c.steps.invariant.iteration.here c.steps.invariant.iteration.between
-    c.in_ok-merge_in_blocks.ensures.merges)
+    (by_blocks g (goal.at.steps-smaller-in-Continue-branch-4 g c).After-step).0)
 
 pub returns-in_err-write_unpaired-in-First : goal.returns-in_err-write_unpaired-in-First
 returns-in_err-write_unpaired-in-First g c =
-    let i = joined_by_blocks g.K.KeyOrder.order g.K.KeyOrder.key_of c.steps.invariant
-    c.in_ok-merge_in_blocks.ensures.merges c.merge_in_blocks.ensures.order c.merge_in_blocks.ensures.valid_cursors in
+    let i = on_by_blocks g (goal.at.returns-in_err-write_unpaired-in-First g c).After-step in
     fails i c.from_residual-in_err-write_unpaired-in-First.ensures.1
     (alone_fails i.iteration c.in-First.ensures c.write_unpaired.ensures.wrote
     _ _ _ c.in_err-write_unpaired-in-First.ensures.advances)
 
 pub returns-in_err-write_unpaired-in-Second : goal.returns-in_err-write_unpaired-in-Second
 returns-in_err-write_unpaired-in-Second g c =
-    let i = joined_by_blocks g.K.KeyOrder.order g.K.KeyOrder.key_of c.steps.invariant
-    c.in_ok-merge_in_blocks.ensures.merges c.merge_in_blocks.ensures.order c.merge_in_blocks.ensures.valid_cursors in
+    let i = on_by_blocks g (goal.at.returns-in_err-write_unpaired-in-Second g c).After-step in
     fails i c.from_residual-in_err-write_unpaired-in-Second.ensures.1
     (alone_fails i.iteration c.in-Second.ensures
     c.write_unpaired-in-Second.ensures.wrote
@@ -129,28 +166,24 @@ returns-in_err-write_unpaired-in-Second g c =
 
 pub returns-in-End : goal.returns-in-End
 returns-in-End g c =
-    let i = joined_by_blocks g.K.KeyOrder.order g.K.KeyOrder.key_of c.steps.invariant
-    c.in_ok-merge_in_blocks.ensures.merges c.merge_in_blocks.ensures.order c.merge_in_blocks.ensures.valid_cursors in
+    let i = on_by_blocks g (goal.at.returns-in-End g c).After-step in
     ends i (ends_well i.iteration.here i.iteration.clean
     c.clear_four_slots.ensures c.in-End.ensures)
 
 pub returns-in-Stop : goal.returns-in-Stop
 returns-in-Stop g c =
-    let i = joined_by_blocks g.K.KeyOrder.order g.K.KeyOrder.key_of c.steps.invariant
-    c.in_ok-merge_in_blocks.ensures.merges c.merge_in_blocks.ensures.order c.merge_in_blocks.ensures.valid_cursors in
+    let i = on_by_blocks g (goal.at.returns-in-Stop g c).After-step in
     ends i (ends_fallen i.iteration.here i.iteration.clean
     c.clear_four_slots-in-Stop.ensures c.in-Stop.ensures)
 
 pub clear_four_slots-requires-in-Stop : goal.clear_four_slots-requires-in-Stop
 clear_four_slots-requires-in-Stop g c =
-    let i = joined_by_blocks g.K.KeyOrder.order g.K.KeyOrder.key_of c.steps.invariant
-    c.in_ok-merge_in_blocks.ensures.merges c.merge_in_blocks.ensures.order c.merge_in_blocks.ensures.valid_cursors in
+    let i = on_by_blocks g (goal.at.clear_four_slots-requires-in-Stop g c).After-step in
     i.iteration.valid_cursors.slots
 
 pub lines-init : goal.lines-init
 lines-init g c =
-    let i = joined_by_blocks g.K.KeyOrder.order g.K.KeyOrder.key_of c.steps.invariant
-    c.in_ok-merge_in_blocks.ensures.merges c.merge_in_blocks.ensures.order c.merge_in_blocks.ensures.valid_cursors in
+    let i = on_by_blocks g (goal.at.lines-init g c).After-step in
     record {
       kept = kept_order refl i.order (group_opens i.iteration c.in-Both.ensures c.new-group.ensures);
       fewer = omega arith;
@@ -257,4 +290,4 @@ steps-smaller g c =
     c.pairs.invariant.fewer
     (reads_less read.between _ line.continues (read_group_pre read).head line.reads_line.1.came) c.lines.invariant.fewer)
     (blocks_read c.steps.invariant.iteration.here c.steps.invariant.iteration.between
-    c.in_ok-merge_in_blocks.ensures.merges)
+    (by_blocks g (goal.at.steps-smaller g c).After-step).0)
