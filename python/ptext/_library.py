@@ -117,9 +117,9 @@ def check_status(status: int, messages: bytes, out: bytes, unknown: tuple[str, .
 def run(words: Iterable[str], stdin: Input = b"", files: Mapping[str, Input] | None = None) -> bytes:
     """Runs a command, the name of the tool first, and returns its output. A file that `files` lacks cannot be opened.
 
-    An open file or an iterator is read once, also if it is there by several names. Raises `Error` if the status is not 0, with the status,
-    the messages and the output; and `MemoryError`, of which `out` has the beginning of the output if the library raised
-    it."""
+    An open file or an iterator is read once, also if it is there by several names. Raises `Error` if the status is not
+    0, with the status, the messages and the output; and `MemoryError`, of which `out` has the beginning of the output if
+    the library raised it."""
     words = list_words(words)
     status, out, messages = run_all(words, stdin, files)
     if status:

@@ -1,7 +1,7 @@
 //! The merge of two inputs, on which `comm` and `join` are built: it selects the current line with the least key.
 //!
-//! `cursor` is one input of the merge, with its order check; `block_lines` are lines that are merged in the blocks of the
-//! readers; `four_slots` manages the store slots that both inputs use.
+//! `cursor` is one input of the merge, with its order check; `block_lines` are lines that are merged in the blocks of
+//! the readers; `four_slots` manages the store slots that both inputs use.
 
 ghost use Rattle.std.specs.Prelude.{◌≡◌, None, true, false, [], OnOk, IfOk, IfErr};
 ghost use Rattle.std.specs.Ordering.{is_gt};

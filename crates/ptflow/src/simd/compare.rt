@@ -5,8 +5,8 @@ ghost use Rattle.std.specs.Simd.Lanes.{chunk};
 
 use std::simd::prelude::*;
 
-/// Whether the first `len` bytes of two slices are equal. False if `len` is above 16, or one of the slices has fewer than
-/// 16 bytes.
+/// Whether the first `len` bytes of two slices are equal. False if `len` is above 16, or one of the slices has fewer
+/// than 16 bytes.
 #[inline(always)]
 pub(crate) fn same_short_start(a: &[u8], b: &[u8], len: usize) -> bool
     ensures same { result ≡ true → take len a.now ≡ take len b.now }
@@ -48,7 +48,8 @@ fn is_equal_long(a: &[u8], b: &[u8]) -> bool
 }
 
 // Whether two slices of one length, from `N` to `2 * N`, are equal: their first `N` bytes, and their last. It has no
-// loop, which would keep an index of the last bytes in a register (`uniq` of a dictionary: 4.5 for 5.0 a byte).
+// loop, which would keep an index of the last bytes in a register (`uniq` of a dictionary: 4.5 instructions a byte for
+// 5.0).
 fn is_equal_short<const N: usize>(a: &[u8], b: &[u8]) -> bool
     requires lanes { N ≤ 64 }
     requires size { (N ≤ length a.now) × (length a.now ≤ N + N) × (length a.now ≡ length b.now) }

@@ -1,5 +1,5 @@
-//! The lines of the inputs of a merge that end in the blocks of their readers: they are merged where they are, without a
-//! copy in the store.
+//! The lines of the inputs of a merge that end in the blocks of their readers: they are merged where they are, without
+//! a copy in the store.
 
 ghost use Rattle.std.specs.Prelude.{◌≡◌, IfSome};
 ghost use Rattle.ptmerge.specs.Calls.Sides.{both};
@@ -9,8 +9,9 @@ use crate::key_order::{KeyOrder, Side, Span};
 use crate::merging::cursor::Reached;
 use ptlines::find_byte;
 
-// The current line of an input with the span of its key, and the bytes in its block after this line. `passed` lines came
-// before it since the merge of the blocks began. `same` is true if it is one of them, and has the key of the line before.
+// The current line of an input with the span of its key, and the bytes in its block after this line. `passed` lines
+// came before it since the merge of the blocks began. `same` is true if there are such lines, and the last of them has
+// the same key.
 #[derive(Clone, Copy)]
 pub(crate) struct BlockLine<'a> {
     pub head: &'a [u8],
@@ -20,7 +21,8 @@ pub(crate) struct BlockLine<'a> {
     pub same: bool,
 }
 
-// Where a merge of two blocks ended. `failed` is true if a write has failed.
+// Where a merge of two blocks ended. `failed` is true if a write has failed; the lines that were to be written are then
+// passed.
 #[derive(Clone, Copy)]
 pub(crate) struct BlockRun {
     pub first: Reached,

@@ -25,7 +25,7 @@ pub enum CursorStatus {
 // `current_slot` and `previous_slot` are the slots of these two lines, `number` is the count of lines read, and `key`
 // is the span of the key in the current line. The reader is passed to each call that reads. (`same` comes first for
 // speed: the compiler splits the first field of a merge, since a result of `Merge::start` keeps a fault in the same
-// bytes. `comm`: 169 for 175 a line.)
+// bytes.)
 #[derive(Clone, Copy, Drop)]
 pub struct Sorted {
     pub same: bool,
@@ -120,9 +120,9 @@ impl Sorted {
         Ok(())
     }
 
-    // Consumes the lines that were merged in the block of the reader. The line reached, if it is in the block, is copied
-    // to the slot of the current line. `same` and the slot of the previous line are those of the line before these, so
-    // no call may rely on them until `next` sets both.
+    // Consumes the lines that were merged in the block of the reader. The line reached, if it is in the block, is
+    // copied to the slot of the current line. `same` and the slot of the previous line are those of the line before
+    // these, so no call may rely on them until `next` sets both.
     #[inline(always)]
     pub fn resume<K: KeyOrder, A: Allocator + Copy, S: Source, R: Source>(
         &mut self,

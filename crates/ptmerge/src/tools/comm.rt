@@ -53,7 +53,8 @@ fn write_head<K: KeyOrder, A: Allocator + Copy, S: Source, R: Source, W: Sink>(
     merge.write_out_and_advance(side, reader, store, out)
 }
 
-// Merges the lines of both blocks where they are, if both inputs are at lines of fewer than 64 bytes.
+// Merges the lines of both blocks where they are, if both inputs are at lines of fewer than 64 bytes, and after such
+// lines.
 #[inline(always)]
 fn merge_in_blocks<K: KeyOrder, A: Allocator + Copy, S: Source, R: Source, W: Sink>(
     merge: &mut Merge<K>,

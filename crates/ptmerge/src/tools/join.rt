@@ -2,7 +2,8 @@
 //!
 //! `block_pairs` pairs lines in the blocks of the readers, as long as each is the only one of its key in its input.
 //! `field_keys` is the order of lines by their join fields, and `key_group` copies the lines of a key. `fields` splits
-//! a line into fields, `output` writes an output line, and `separators` and `words` find separators and blanks by `masks`.
+//! a line into fields, `output` writes an output line, and `separators` and `words` find separators and blanks by
+//! `masks`.
 
 ghost use Rattle.std.specs.Prelude.{◌≡◌, ℕ, List, ◌∷◌, [], Err, IfErr, IfOk, OnOk};
 ghost use Rattle.ptlangs.specs.Jobs.{join_job};
@@ -169,7 +170,8 @@ fn write_pairs<K: KeyOrder, A: Allocator + Copy, B: Allocator, S: Source, R: Sou
     Ok(merge.has_same_key(First))
 }
 
-// Merges the lines of both blocks where they are, if both inputs are at lines of fewer than 64 bytes.
+// Merges the lines of both blocks where they are, if both inputs are at lines of fewer than 64 bytes, and after such
+// lines.
 #[inline(always)]
 fn merge_in_blocks<K: KeyOrder, A: Allocator + Copy, B: Allocator, S: Source, R: Source, W: Sink>(
     merge: &mut Merge<K>,

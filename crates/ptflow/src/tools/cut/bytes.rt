@@ -45,7 +45,7 @@ struct BlockEnd {
 
 impl Selection<'_> {
     // Copies the selected bytes among the first `count` bytes of a line. Returns the index after the copied bytes. Out
-    // of line, to keep registers free in the copy of most lines (`cut -c 2-4`: 3.4 for 4.6 a byte).
+    // of line, to keep registers free in the copy of most lines (`cut -c 2-4`: 3.4 instructions a byte for 4.6).
     #[inline(never)]
     fn copy_selected(&self, block: &[u8], line: Line, count: usize, into: &mut PaddedBlock) -> usize
         requires within { line.start + count ≤ length block.now }
@@ -101,7 +101,7 @@ impl Selection<'_> {
 
     // Copies the selected bytes of a line, which is the first `count` bytes, piece by piece. Returns the index after
     // the copied bytes. Out of line, to keep registers free in the copy of short lines (`cut -c 2-4`: 3.4
-    // for 4.1 a byte).
+    // instructions a byte for 4.1).
     #[inline(never)]
     fn copy_pieces(&self, line: &[u8], count: usize, into: &mut PaddedBlock, at: usize) -> usize
         requires few { count ≤ self.now.shuffles.max_len }
