@@ -10,7 +10,7 @@ use Rattle.std.specs.Prelude.{MatchBool, take}
 use Rattle.std.specs.declared.cmp.Ordering.{Ordering}
 use Rattle.ptlines.specs.Calls.Readers.{IsSound}
 use specs.Calls.KeySpan.{IsValidCursor}
-use specs.Calls.MergeSteps.{IsReaderOf}
+use specs.Calls.MergeSteps.{AreValidCursors, IsReaderOf}
 use specs.Private.Passed.{CanResume}
 use specs.declared.merging.cursor.Reached.{Reached}
 use specs.declared.tools.comm.block_lines.Column.{Column}
@@ -83,6 +83,10 @@ can_merge none head rest span sound valid status_is = record {
   in_block = omega (arith, none, ap length rest, sound.buffered);
   span = rw (head, span) (valid.head status_is);
 }
+
+pub valid_side : {key : Side → Key} {one two : Sorted} {store : Slots} → AreValidCursors key one two store
+    → (side : Side) → IsValidCursor (key side) (both one two side) store
+valid_side v = elim [ First ↦ v.cursor_valid1 | Second ↦ v.cursor_valid2 ]
 
 -- ---- a step
 
@@ -379,3 +383,11 @@ can_resume {end} {now = now} rest (inr m) at head own =
       within = omega (arith, at.left, at.passed, m.passed, ap length rest, size, more, each_ends end m.middle);
       line = λ some. (omega (arith, at.left, at.size, ap length rest, size, more), omega (arith, at.size, m.short));
     }
+
+pub can_resume_both : {tool : MergeTool} {old : Side → BlockLine} {run : BlockRun} {was is : Output}
+    → BlockRunPost tool old run was is → {cursor : Side → Sorted} {reader : Side → Reader}
+    → ((side : Side) → (old side).rest.now ≡ (reader side).buffered) → ((side : Side) → (cursor side).status ≡ Head)
+    → ((side : Side) → IsReaderOf (cursor side) (reader side))
+    → (side : Side) → CanResume (both run.first run.second side) (cursor side) (reader side)
+can_resume_both p rest head own side =
+    can_resume (rest side) ((lines_of p).passed side) (p.end.reached side) (head side) (own side)

@@ -251,24 +251,24 @@ module _ {tool : MergeTool} {old was : MergeState} {one two : Sorted} {w : IsOpe
     module _ (run_lines : RunLines tool m.old now) where
       open run_lines use {q, passed}
 
-      step1 : HasPassed tool old First two one2 (was.reader First) first was.store m.mid ls (p First ++ q First)
+      step1 : HasPassed tool old First two one2 (was.reader First) first was.store m.resumed.mid ls (p First ++ q First)
           (now First).head.now
       step1 = has_passed before First (m.head First) (m.head_is First) (m.rest_is First) (passed First)
-          (post.end.reached First) m.resumed1
+          (post.end.reached First) m.resumed.first
 
-      half : CursorsInvariant w (with_side First first was.reader) (with_side First one2 (both one two)) m.mid
+      half : CursorsInvariant w (with_side First first was.reader) (with_side First one2 (both one two)) m.resumed.mid
           (with_side First step1.now_ls ls) (with_side First (p First ++ q First) p)
           (with_side First (AtLeast (key First (now First).head.now)) b)
       half = cursors_on before First (m.head First) (m.head_is First) (m.rest_is First) (passed First)
-          (post.end.reached First) m.resumed1 step1
+          (post.end.reached First) m.resumed.first step1
 
-      head2 : (m.old Second).head.now ≡ line m.mid two.current_slot
+      head2 : (m.old Second).head.now ≡ line m.resumed.mid two.current_slot
       head2 = m.head_is Second ∙ sym step1.current
 
-      step2 : HasPassed tool old Second one2 two2 (was.reader Second) second m.mid after
+      step2 : HasPassed tool old Second one2 two2 (was.reader Second) second m.resumed.mid after
           (with_side First step1.now_ls ls) (p Second ++ q Second) (now Second).head.now
       step2 = has_passed half Second (m.head Second) head2 (m.rest_is Second) (passed Second)
-          (post.end.reached Second) m.resumed2
+          (post.end.reached Second) m.resumed.second
 
       abbrev now_ls : Side → Lines
       now_ls = both step1.now_ls step2.now_ls
@@ -279,7 +279,7 @@ module _ {tool : MergeTool} {old was : MergeState} {one two : Sorted} {w : IsOpe
       whole : CursorsInvariant w (both first second) (both one2 two2) after now_ls done (at_heads tool now)
       whole =
           let c = cursors_on half Second (m.head Second) head2 (m.rest_is Second) (passed Second)
-          (post.end.reached Second) m.resumed2 step2 in
+          (post.end.reached Second) m.resumed.second step2 in
           record { sides = elim [ First ↦ c.sides First | Second ↦ c.sides Second ]; keeps = c.keeps }
 
       reads_by : reads_ahead (both first second) one2 two2 ≤ reads_ahead was.reader one two
@@ -309,7 +309,7 @@ module _ {tool : MergeTool} {old was : MergeState} {one two : Sorted} {w : IsOpe
           },
           record {
             valid_cursors = valid;
-            own_reader = elim [ First ↦ m.resumed1.own_reader | Second ↦ m.resumed2.own_reader ];
+            own_reader = elim [ First ↦ m.resumed.first.own_reader | Second ↦ m.resumed.second.own_reader ];
             clean = a.clean;
           },
         )
@@ -342,7 +342,7 @@ module _ {tool : MergeTool} {old was : MergeState} {one two : Sorted} {w : IsOpe
       ⊎_elim
       (λ e. rw (ap (λ (c : Side → Sorted). c First) e.0, ap (λ (c : Side → Sorted). c Second) e.0)
       (subst (λ state. LoopInvariant w state (both one two) × BetweenSteps tool.key state one two) (sym e.1) (loop, between)))
-      (λ m. merged_goes_on loop between m (ended_well m.run.failed u (sym well ∙ m.result_is)) valid) post
+      (λ m. merged_goes_on loop between m (ended_well m.run.failed u (sym well ∙ m.resumed.result_is)) valid) post
 
   pub blocks_read : reads_ahead (both first second) one2 two2 ≤ reads_ahead was.reader one two
   blocks_read =
@@ -355,7 +355,7 @@ module _ {tool : MergeTool} {old was : MergeState} {one two : Sorted} {w : IsOpe
   blocks_fail {fault} badly =
       ⊎_elim
       (λ e. (let never : Ok tt ≡ Err fault = sym e.2 ∙ badly in cc))
-      (λ m. (let (some, write) = ended_badly m.run.failed fault (sym badly ∙ m.result_is) in
+      (λ m. (let (some, write) = ended_badly m.run.failed fault (sym badly ∙ m.resumed.result_is) in
       rw write (merged_fails loop between m some))) post
 
 -- the invariant of the loop of `comm`, in whatever order

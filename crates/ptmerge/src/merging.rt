@@ -14,7 +14,8 @@ ghost use Rattle.ptmerge.specs.Calls.Sides.{other};
 ghost use Rattle.ptmerge.specs.Calls.MergeSteps.{merge_inputs, AreValidCursors, IsReaderOf, StepPost, StartOkPost};
 ghost use Rattle.ptmerge.specs.Calls.MergeSteps.{StartErrPost};
 ghost use Rattle.ptmerge.specs.Calls.MergeSteps.{previous_key};
-ghost use Rattle.ptmerge.specs.Private.Passed.{CanResume, IsResumed};
+ghost use Rattle.ptmerge.specs.Private.BlockLines.{CanMerge};
+ghost use Rattle.ptmerge.specs.Private.Passed.{AreResumed, CanResume, IsResumed};
 ghost use Rattle.ptmerge.specs.declared.key_order.Side.{Side as SideType};
 
 pub(crate) mod block_lines;
@@ -24,6 +25,7 @@ pub(crate) mod four_slots;
 use crate::faults::MergeFault;
 use crate::key_order::Side::{First, Second};
 use crate::key_order::{KeyOrder, Side, Span};
+use crate::merging::block_lines::{BlockLine, BlockRun};
 use crate::merging::cursor::CursorStatus::{Disorder, Ended, Head};
 use crate::merging::cursor::{Reached, Sorted};
 use crate::merging::four_slots::ensure_four_slots;
@@ -202,9 +204,51 @@ impl<K: KeyOrder> Merge<K> {
         }
     }
 
+    // Returns the current line of an input with the bytes in its block after this line.
+    #[inline(always)]
+    pub(crate) fn block_line<'a, A: Allocator + Copy, S: Source, R: Source>(
+        &self,
+        side: Side,
+        reader: &'a LineReader<S, R>,
+        store: &'a Store<A>,
+    ) -> BlockLine<'a>
+        requires valid_cursors { AreValidCursors (K.key_of self.now.order) self.now.first self.now.second store.now }
+        requires status_is { (both self.now.first self.now.second side).status ≡ status_is.Head }
+        ensures head { result.head.now ≡ line store.now (both self.now.first self.now.second side).current_slot }
+        ensures rest { result.rest.now ≡ reader.now.buffered }
+        ensures begins { CanMerge (K.key_of self.now.order side) result }
+    {
+        BlockLine::new(self.head(side, store), self.span(side), reader.buffered())
+    }
+
+    // Consumes the lines that were merged in both blocks, and makes the lines reached the current ones.
+    #[inline(always)]
+    pub(crate) fn resume_both<A: Allocator + Copy, S: Source, R: Source>(
+        &mut self,
+        run: BlockRun,
+        first: &mut LineReader<S, R>,
+        second: &mut LineReader<S, R>,
+        store: &mut Store<A>,
+    ) -> Result<(), MergeFault>
+        requires valid_cursors { AreValidCursors (K.key_of self.old.order) self.old.first self.old.second store.old }
+        requires fits { (side : SideType) → CanResume (both run.first run.second side)
+            (both self.old.first self.old.second side) (both first.old second.old side) }
+        ensures resumes { AreResumed run (both self.old.first self.old.second) (both self.new.first self.new.second)
+            (both first.old second.old) (both first.new second.new) store.old store.new result }
+        ensures order { self.new.order ≡ self.old.order }
+        ensures valid_cursors { AreValidCursors (K.key_of self.new.order) self.new.first self.new.second store.new }
+    {
+        self.resume(First, run.first, first, store);
+        self.resume(Second, run.second, second, store);
+        if run.failed {
+            return Err(MergeFault::Write);
+        }
+        Ok(())
+    }
+
     // Consumes the lines of an input that were merged in its block, and makes the line reached its current line.
     #[inline(always)]
-    pub(crate) fn resume<A: Allocator + Copy, S: Source, R: Source>(
+    fn resume<A: Allocator + Copy, S: Source, R: Source>(
         &mut self,
         side: Side,
         at: Reached,
@@ -240,7 +284,7 @@ impl<K: KeyOrder> Merge<K> {
 
     // Returns the span of the key of an input's current line.
     #[inline(always)]
-    pub(crate) fn span(&self, side: Side) -> Span
+    fn span(&self, side: Side) -> Span
         ensures { result ≡ (both self.now.first self.now.second side).key }
     {
         self.cursor(side).key

@@ -42,6 +42,14 @@ pub record IsResumed (reached : Reached) (old new : Sorted) (was is : Reader) (b
       IsPassed reached.passed (slice_range was.buffered (used - 1 - reached.size) (used - 1)) old new before after
   pub own_reader : IsReaderOf new is
 
+-- Both inputs are at the lines reached. If a write has failed, this is the result.
+pub record AreResumed (run : BlockRun) (cursor next : Side → Sorted) (was is : Side → Reader) (before after : Slots)
+    (result : Result (Unit {0}) MergeFault) : Type 0 where
+  pub mid : Slots
+  pub first : IsResumed run.first (cursor First) (next First) (was First) (is First) before mid
+  pub second : IsResumed run.second (cursor Second) (next Second) (was Second) (is Second) mid after
+  pub result_is : result ≡ (if run.failed then Err Write else Ok tt)
+
 -- Each reader is that of its input, and no write has failed.
 pub record AreReady (end : ℕ) (cursor : Side → Sorted) (reader : Side → Reader) (out : Output) : Type 0 where
   pub own_reader : (side : Side) → IsReaderOf (cursor side) (reader side)
@@ -57,10 +65,7 @@ pub record AreBlocksMerged (tool : MergeTool) (cursor next : Side → Sorted) (w
   pub head_is : (side : Side) → (old side).head.now ≡ line was.store (cursor side).current_slot
   pub rest_is : (side : Side) → (old side).rest.now ≡ (was.reader side).buffered
   pub post : BlockRunPost tool old run was.out is.out
-  pub mid : Slots
-  pub resumed1 : IsResumed run.first (cursor First) (next First) (was.reader First) (is.reader First) was.store mid
-  pub resumed2 : IsResumed run.second (cursor Second) (next Second) (was.reader Second) (is.reader Second) mid is.store
-  pub result_is : result ≡ (if run.failed then Err Write else Ok tt)
+  pub resumed : AreResumed run cursor next was.reader is.reader was.store is.store result
 
 -- The lines of both blocks are merged, or nothing happened.
 abbrev pub BlocksPost : MergeTool → (Side → Sorted) → (Side → Sorted) → MergeState → MergeState

@@ -38,7 +38,6 @@ mod words;
 use crate::faults::MergeFault;
 use crate::key_order::Side::{First, Second};
 use crate::key_order::{Descending, KeyOrder, Side};
-use crate::merging::block_lines::BlockLine;
 use crate::merging::four_slots::clear_four_slots;
 use crate::merging::{Merge, Step};
 use crate::tools::join::block_pairs::pair_blocks;
@@ -196,23 +195,10 @@ fn merge_in_blocks<K: KeyOrder, A: Allocator + Copy, B: Allocator, S: Source, R:
     if !merge.has_short_heads(store) {
         return Ok(());
     }
-    let one = BlockLine::new(
-        merge.head(First, store),
-        merge.span(First),
-        first.buffered(),
-    );
-    let two = BlockLine::new(
-        merge.head(Second, store),
-        merge.span(Second),
-        second.buffered(),
-    );
+    let one = merge.block_line(First, first, store);
+    let two = merge.block_line(Second, second, store);
     let run = pair_blocks(merge.order(), job, first.terminator(), one, two, out);
-    merge.resume(First, run.first, first, store);
-    merge.resume(Second, run.second, second, store);
-    if run.failed {
-        return Err(MergeFault::Write);
-    }
-    Ok(())
+    merge.resume_both(run, first, second, store)
 }
 
 // Runs `join` in an order of join fields. The terminator of both readers is already set.
