@@ -62,9 +62,7 @@ impl Group {
     }
 
     // Advances the second input, and copies its previous line, if a group is to be kept and that line is not the only
-    // one of its key. Returns true if the current line has that key too. Not inlined, so that the merge stays in memory
-    // and is not moved between registers in each iteration.
-    #[inline(never)]
+    // one of its key. Returns true if the current line has that key too.
     pub(crate) fn read_line<K: KeyOrder, A: Allocator + Copy, S: Source, R: Source, W: Sink>(
         &mut self,
         merge: &mut Merge<K>,
