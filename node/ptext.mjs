@@ -90,7 +90,7 @@ function awaitedPiecesOf(given) {
     if (isBytes(given)) return eachOf([given]);
     if (typeof given.getReader === "function") {
         const reader = given.getReader();
-        return { next: () => reader.read(), return: () => reader.cancel() };
+        return { next: () => reader.read(), return: () => reader.cancel().finally(() => reader.releaseLock()) };
     }
     const iterator = eachOf(given);
     if (typeof given.pipe !== "function") return iterator;

@@ -217,7 +217,6 @@ export class Ptext {
         this.heap.begin(this.exports.memory, Number(this.exports.__heap_base.value));
         this.streams = streams ?? {};
         this.short.clear();
-        this.views = [];
         try {
             return call();
         } catch (error) {
@@ -225,6 +224,8 @@ export class Ptext {
             throw error;
         } finally {
             this.streams = null;
+            // (A view keeps the memory that it is of.)
+            this.views = [];
         }
     }
 

@@ -183,6 +183,9 @@ const outer = stream(["uniq"], { stdin: stream(["uniq"], { stdin: silent }) }).g
 await new Promise((after) => setTimeout(after, 100));
 await outer.cancel();
 is("its input that waits is cancelled", [(await waits).done, isCancelled], [true, true]);
+const lent = new Blob(["a\n"]).stream();
+for await (const it of stream(["uniq"], { stdin: lent })) void it;
+is("a stream that was read is not locked", lent.locked, false);
 
 // ---- output comes as it is there: a line of a slow input is not held back
 const order = [];

@@ -200,7 +200,7 @@ ptext.release();
 is("it is kept", sizeOf(ptext) > 0, true);
 is("100 MB in a line again", run("uniq", "x".repeat(10 ** 8))[0], 0);
 ptext.release();
-is("its memory is let go", ptext.exports, null);
+is("its memory is let go", [ptext.exports, ptext.views], [null, []]);
 // A call that the host ends leaves the module as it stopped, with its part of the stack taken.
 const stopped = await load();
 for (let turn = 0; turn < 1000; turn++) {
