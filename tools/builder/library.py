@@ -102,7 +102,7 @@ def build(kit, place):
     if not shutil.which("gcc") or not shutil.which("objcopy"):
         raise Failed("make lib needs gcc, ar, ld and objcopy (on Debian: apt install gcc)")
     crates, version = Crates(CRATE, False), read_version()
-    say(f"proving the {len(crates.names)} crates below {CRATE}, which takes minutes; {describe_kept()}")
+    say(f"proving the {len(crates.names)} crates below {CRATE}, which takes minutes; {describe_kept(crates)}")
     room = prove(crates, place)
     say(f"proving {CRATE} and compiling it: a minute or two, or half a minute where an earlier run kept its proof")
     os.makedirs(os.path.dirname(KEPT), exist_ok=True)

@@ -6,6 +6,8 @@ One run of the gate gives each crate one processor while other crates wait to be
 proved, crates that do not depend on each other are therefore proved first, each in a run of its own, all at the same
 time, and each run uses two processors. If there are too few for that, the largest crate has two, and each of the others
 one. The last run proves the rest and builds the program. If the gate keeps nothing, one run does all.
+
+In `make test`, whose gate has just proved all crates, they are not proved again, whatever the kit keeps.
 """
 import os
 import re
@@ -75,8 +77,16 @@ def keeps():
     return find_kept()[1]
 
 
-def describe_kept():
+def is_in_gate(crates):
+    """Whether `make test` has just proved these crates, in this folder. It builds all else from what it proved."""
+    made = [f"{TOP}/crates/{name}/out/rlib/{name}.rlib" for name in crates.names]
+    return "PTEXT_GATE" in os.environ and all(os.path.exists(rlib) for rlib in made)
+
+
+def describe_kept(crates):
     """A part of a sentence: which crates are proved again."""
+    if is_in_gate(crates):
+        return "the gate has just done that"
     place, is_kept = find_kept()
     if is_kept:
         return "nothing that was proved on this machine is proved again"
@@ -154,7 +164,9 @@ def run_gates(runs, room, progress):
 
 def prove(crates, place):
     """Proves these crates in a room in this place, and builds the program there, if it is one of them. Returns the
-    room."""
+    room, which is this folder if the gate has just proved them in it."""
+    if is_in_gate(crates):
+        return TOP
     room, progress = f"{place}/room", Progress(len(crates.names))
     copy_crates(crates, room)
     first = [[[name] for name in names] for names in group(crates, room)] if keeps() else []

@@ -45,10 +45,10 @@ def is_of_program(kit, place):
     return filecmp.cmp(linked, f"{TOP}/build/{PROGRAM}", shallow=False)
 
 
-def compile_object(kit, room, crates, into):
+def compile_object(kit, place, room, crates, into):
     """Checks the crate of the program in the room, and compiles it to an object file."""
     words = crates.make_words(kit, room, "src/main.rt")
-    checked, folder = f"{os.path.dirname(room)}/checked", f"{room}/crates/{PROGRAM}"
+    checked, folder = f"{place}/checked", f"{room}/crates/{PROGRAM}"
     how = ["--logic-built", f"{kit}/logic_built", "--jobs", "2", "-o", checked]
     run([f"{kit}/bin/rattle", "check", *words, *how], folder)
     words += ["--crate-checked", checked, "--toolchain", f"{kit}/toolchain", "--backend", "llvm", "-o", into]
@@ -64,7 +64,7 @@ def make_object(kit, place):
     if not os.path.exists(made):
         say("compiling the program to an object file, which checks its crate once more")
         made = f"{place}/{PROGRAM}.o"
-        compile_object(kit, room, crates, made)
+        compile_object(kit, place, room, crates, made)
     put(made, OBJECT)
 
 
