@@ -177,11 +177,11 @@ fill_step : (n : ℕ) (role : SetRole) (p : SetElement) (d : Segment) (has_fill 
 fill_step = grind (arith, length-replicate)
 
 -- the next segment keeps the bound
-pub most_step : (n : ℕ) (role : SetRole) (p : SetElement) (d : Segment) (has_fill : Bool) (m l at next : ℕ)
-    → segment role has_fill p ≡ Ok d → length (members 0 d) ≤ 65535 → at < next → next ≤ l
-    → length (marked_members n d) + 65536 * (l - next) + cond (has_fill || is_fill (Ok d)) 0 n
-    ≤ m + 65536 * (l - at) + cond has_fill 0 n
-most_step n role p d has_fill m l at next is short onward within =
+pub most_step : (n : ℕ) (role : SetRole) (p : SetElement) (d : Segment) (has_fill : Bool) (m left next : ℕ)
+    → segment role has_fill p ≡ Ok d → length (members 0 d) ≤ 65535 → next < left
+    → length (marked_members n d) + 65536 * next + cond (has_fill || is_fill (Ok d)) 0 n
+    ≤ m + 65536 * left + cond has_fill 0 n
+most_step n role p d has_fill m left next is short fewer =
     let same = ap length (member_bytes-members (class_of d) (members n d)) in
     omega (arith, length-map (marked_members n d) (λ (m : Member). m.byte), same, fill_step n role p d has_fill is)
 

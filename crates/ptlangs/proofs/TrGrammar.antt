@@ -1,14 +1,14 @@
--- The character at an index depends only on the bytes from there on, so the agreement with the grammar goes character
--- by character. A byte other than a backslash is a character by itself, so the code may look at bytes where the
--- definition looks at characters. Each bracketed form, range and single character is one case of both the definition
--- and the grammar.
+-- The first character depends only on the bytes that it takes, so the agreement with the grammar goes character by
+-- character. A byte other than a backslash is a character by itself, so the code may look at bytes where the definition
+-- looks at characters. Each bracketed form, range and single character is one case of both the definition and the
+-- grammar.
 use Rattle.ptlangs.proofs
 use Rattle.ptlangs.specs
 use Rattle.std.proofs.lemmas
-use proofs.Common.{Bool, CharClass, Err, List, None, Ok, Option, Result, Segment, SetChar, SetElement, SetFaultKind}
-use proofs.Common.{SetRole, Some, SpellsChars, [], ap, arith, byte_of, chars, chars_after, usual, cond, cond_both}
-use proofs.Common.{digits_value, drop, drop_all, drop_more, false, get_or, is_ascii_digit, is_fill, length, ltb-true}
-use proofs.Common.{map, ne_eqb, refl, rules, segments, sequence, set_elements, slice_get, subst, suc, sym, take, true}
+use proofs.Common.{Bool, Err, List, None, Ok, Option, Result, Segment, SetChar, SetElement, SetFaultKind}
+use proofs.Common.{SetRole, Some, SpellsChars, [], ap, arith, byte_of, chars, chars_after, usual, cond_both}
+use proofs.Common.{digits_value, drop, drop_all, eqb, false, get_or, is_ascii_digit, is_fill, length, ltb-true}
+use proofs.Common.{map, ne_eqb, refl, rules, segments, sequence, set_elements, subst, suc, sym, take, true}
 use proofs.Common.{cons_ok, zero, ℕ, ◌*◌, ◌++◌, ◌+◌, ◌-◌, ◌<◌, ◌||◌, ◌∙◌, ◌∷◌, ◌≡◌, ◌≢◌, ◌≤◌}
 use specs.Laws.TrChars.{AChar, ALargeOctal, ALoneBackslash, APlainByte, AnEscape, AnOctal, IsOctalRun, OneDigit}
 use specs.TrChars.{Escaped}
@@ -20,32 +20,26 @@ use specs.Laws.TrElements.{AClass, ADescendingRange, ARange, ARepeat, Alone, AnE
 use specs.Laws.TrElements.{AnInvalidEnd}
 use specs.Laws.TrElements.{AreElements, ByEscape, ByItself, DenotesByte, HasBracketed, InBrackets, StartsBracketed}
 use specs.Laws.TrElements.{StartsElement, StartsInvalid}
-use specs.TrElements.{after_plain, after_run, after_two, bracketed_at, char_or_range}
+use specs.TrElements.{after_plain, after_run, after_two, bracketed_at, char_or_range, equivalence_with_byte}
 use specs.TrElements.{class_at, class_with_name, elements_after, equivalence_after_equals, equivalence_at}
-use specs.TrElements.{first_set_element, or_char, plain_run, range_to, repeat_after_star, repeat_at, repeat_count}
-use specs.TrElements.{single_or_range, with_rest}
-use specs.Private.TrParsing.{char_from, chars_beyond}
+use specs.TrElements.{first_set_element, or_char, plain_run, range_to, repeat_after_byte, repeat_after_star, repeat_at}
+use specs.TrElements.{repeat_count, single_or_range, with_rest}
+use specs.Private.TrParsing.{enclosed_at, first_byte}
 use specs.Laws.TrPlan.{FirstFault, LaterFault, NoElement, NoSegment}
 use specs.TrPlan.{segment}
-use specs.declared.faults.SetFaultKind.TheVariants.{Octal}
 use specs.declared.tr.elements.SetElement.TheVariants.{Class, Equivalence, Repeat, Single}
 use Rattle.std.proofs.Common.{All, inl, inr, nat_le, nat_lt}
 use lemmas.Bool.{cases_Bool, le-leb, le-ltb, lt-leb}
 use lemmas.Int.Digits.{digits_value_more}
 use lemmas.List.Folds.{length-prefix_len}
 use lemmas.List.Sums.{AllPass-from_list_all, prefix_len_passes, take_while-cons}
-use lemmas.List.{drop_at, get_or-take, length-take, take-append-drop, take-take, take_rest}
+use lemmas.List.{drop_at, get_or-take, length-take, take-append-drop, take-take}
 use lemmas.Str.Parse.{digit_from_value, digits_value-take-le}
 use Rattle.std.specs.Char.{digit_value, is_ascii_lowercase}
-use Rattle.std.specs.List.{AllPass, list_all, prefix_len, slice_range, take_while}
+use Rattle.std.specs.List.{AllPass, list_all, prefix_len, take_while}
 use Rattle.std.specs.Option.{option_and_then}
 
 pub ruleset number_steps = (digits_value_more, digits_value-take-le, digit_from_value)
-
--- `None` is a value above 255
-abbrev byte_of_octal : Option ℕ → Result ℕ SetFaultKind
-byte_of_octal None = Err Octal
-byte_of_octal (Some v) = Ok v
 
 pub too_large : (base limit : ℕ) (ds : List ℕ) (i : ℕ) → 1 ≤ base → limit < digits_value base (take i ds)
     → nat_le (digits_value base ds) limit ≡ false
@@ -68,63 +62,19 @@ take-octal_run bs =
 pub octal_digits : (bs : List ℕ) → All (λ d. digit_value d < 8) (take (length (octal_run bs)) bs)
 octal_digits bs = rw (take-octal_run bs) (grind (usual, length-take, get_or-take, prefix_len_passes))
 
-after_backslash-octal : (bs : List ℕ) (c : ℕ) → Some c ≡ slice_get bs 0 → is_octal_digit c ≡ true
+pub after_backslash-octal : (bs : List ℕ) → 0 < length bs → is_octal_digit (get_or bs 0 0) ≡ true
     → after_backslash bs ≡ (octal (digits_value 8 (octal_run bs)), length (octal_run bs))
 after_backslash-octal = grind arith
 
-pub octal_char : (bs : List ℕ) (c count : ℕ) (o : Option ℕ) → Some c ≡ slice_get bs 0 → is_octal_digit c ≡ true
-    → count ≡ length (octal_run bs)
-    → o ≡ cond (nat_le (digits_value 8 (take count bs)) 255) (Some (digits_value 8 (take count bs))) None
-    → byte_of_octal o ≡ byte_of (after_backslash bs).0
-octal_char = grind (arith, take-octal_run)
-
-chars-cons : (b : ℕ) (bs : List ℕ) → chars (b ∷ bs) ≡ (char_at b bs).0 ∷ chars (drop (char_at b bs).1 bs)
+pub chars-cons : (b : ℕ) (bs : List ℕ) → chars (b ∷ bs) ≡ (char_at b bs).0 ∷ chars (drop (char_at b bs).1 bs)
 chars-cons b bs = grind arith
 
-pub chars_plain : (bs : List ℕ) (i b : ℕ) → i < length bs → get_or bs i 0 ≡ b → (b ≡ 92 → ⊥)
-    → chars (drop i bs) ≡ Plain b ∷ chars (drop (i + 1) bs)
-chars_plain = grind usual
+pub chars-plain : (b : ℕ) (bs : List ℕ) → b ≢ 92 → chars (b ∷ bs) ≡ Plain b ∷ chars bs
+chars-plain = search rules
 
-pub chars_escape : (bs : List ℕ) (i : ℕ) → get_or bs i 0 ≡ 92
-    → chars (drop i bs) ≡ (after_backslash (drop (i + 1) bs)).0
-    ∷ chars (drop (i + 1 + (after_backslash (drop (i + 1) bs)).1) bs)
-chars_escape = grind (usual, chars-cons)
+pub ruleset char_steps = (chars-plain, chars-cons)
 
-pub char_from-plain : (bs : List ℕ) (i b : ℕ) → get_or bs i 0 ≡ b → (b ≡ 92 → ⊥) → char_from bs i ≡ Plain b
-unfolding char_from
-char_from-plain = grind arith
-
-pub char_from-escape : (bs : List ℕ) (i : ℕ) → get_or bs i 0 ≡ 92
-    → char_from bs i ≡ (after_backslash (drop (i + 1) bs)).0
-unfolding char_from
-char_from-escape bs i e = rw (char_from, e) refl
-
-split_first : {us : List SetChar} (u : SetChar) (more : List SetChar) → us ≡ u ∷ more → us ≡ u ∷ drop 1 us
-split_first u more e = e ∙ ap (λ us. u ∷ us) (sym (ap (drop 1) e))
-
-pub first_plain : (bs : List ℕ) (i b : ℕ) → i < length bs → get_or bs i 0 ≡ b → (b ≡ 92 → ⊥)
-    → chars (drop i bs) ≡ char_from bs i ∷ chars_beyond bs i
-unfolding chars_beyond
-first_plain bs i b low at plain =
-    rw (char_from-plain bs i b at plain) (split_first _ _ (chars_plain bs i b low at plain))
-
-pub first_escape : (bs : List ℕ) (i : ℕ) → get_or bs i 0 ≡ 92 → chars (drop i bs) ≡ char_from bs i ∷ chars_beyond bs i
-unfolding chars_beyond
-first_escape bs i at = rw (char_from-escape bs i at) (split_first _ _ (chars_escape bs i at))
-
-pub beyond_plain : (bs : List ℕ) (i b : ℕ) → i < length bs → get_or bs i 0 ≡ b → (b ≡ 92 → ⊥)
-    → chars_beyond bs i ≡ chars (drop (i + 1) bs)
-unfolding chars_beyond
-beyond_plain bs i b low at plain = ap (drop 1) (chars_plain bs i b low at plain)
-
-pub beyond_escape : (bs : List ℕ) (i : ℕ) → get_or bs i 0 ≡ 92
-    → chars_beyond bs i ≡ chars (drop (i + 1 + (after_backslash (drop (i + 1) bs)).1) bs)
-unfolding chars_beyond
-beyond_escape bs i at = ap (drop 1) (chars_escape bs i at)
-
-pub ruleset char_steps = (char_from-plain, char_from-escape, first_plain, first_escape, beyond_plain, beyond_escape)
-
-pub ruleset octal_steps = (length-octal_run, take-octal_run, octal_digits)
+pub ruleset octal_steps = (length-octal_run, after_backslash-octal)
 
 -- ---- from the grammar to the computed characters
 
@@ -160,7 +110,7 @@ escape_spelled (b ∷ more) = elim (cases_Bool (is_octal_digit b)) [
       let digits = octal_run (b ∷ more) in
       let rest = drop (length digits) (b ∷ more) in
       let all = ap (λ ds. ds ++ rest) (sym (take-octal_run (b ∷ more))) ∙ take-append-drop (length digits) (b ∷ more) in
-      rw (after_backslash-octal (b ∷ more) b refl h)
+      rw (after_backslash-octal (b ∷ more) (omega arith) h)
       (subst (λ xs. SpellsChar (92 ∷ xs) (octal (digits_value 8 digits)) rest) all
       (elim (cases_Bool (nat_le (digits_value 8 digits) 255)) [
         | inl small ↦ rw small (AnOctal digits rest (run_spelled b more h) (grind arith))
@@ -177,23 +127,12 @@ spelled (b ∷ bs) (suc skip) = spelled bs _
 
 -- ---- one plain byte
 
-pub after_plain-here : (bs : List ℕ) (i c : ℕ) → i < length bs → get_or bs i 0 ≡ c → c ≢ 92
-    → Some (chars (drop (i + 1) bs)) ≡ after_plain c (chars (drop i bs))
-after_plain-here = grind (arith, chars_plain)
+pub after_plain-other : (b c : ℕ) (bs : List ℕ) → b ≢ c → after_plain c (chars (b ∷ bs)) ≡ None
+after_plain-other = grind (arith, chars-cons, ne_eqb)
 
-pub after_plain-other : (bs : List ℕ) (i c : ℕ) → i < length bs → get_or bs i 0 ≢ c
-    → None ≡ after_plain c (chars (drop i bs))
-after_plain-other = grind (arith, chars_escape, chars_plain, ne_eqb)
-
-pub after_plain-end : (bs : List ℕ) (i c : ℕ) → length bs ≤ i → None ≡ after_plain c (chars (drop i bs))
-after_plain-end bs i c h = rw (drop_all i bs h) refl
-
-pub ruleset after_plain_steps = (after_plain-here, after_plain-other, after_plain-end)
+pub ruleset after_plain_steps = (chars-plain, after_plain-other)
 
 -- ---- a run of plain bytes
-
-chars-plain : (b : ℕ) (bs : List ℕ) → b ≢ 92 → chars (b ∷ bs) ≡ Plain b ∷ chars bs
-chars-plain = search rules
 
 plain_run-chars : (test : ℕ → Bool) → test 92 ≡ false → (bs : List ℕ)
     → plain_run test (chars bs) ≡ take_while test bs
@@ -211,20 +150,12 @@ drop-prefix_len test n (b ∷ bs) =
       next,
     ) (drop-prefix_len test n bs)) (λ e. refl)
 
--- `count` is counted in the slice from `i` on
-abbrev IsRunLength : (ℕ → Bool) → List ℕ → ℕ → ℕ → Type 0
-IsRunLength test bs i count = count ≡ length (take_while test (take (length bs - i) (drop i bs)))
+pub run_taken : (test : ℕ → Bool) → test 92 ≡ false → (bs : List ℕ) (count : ℕ) → count ≡ length (take_while test bs)
+    → take count bs ≡ plain_run test (chars bs)
+run_taken = grind (usual, plain_run-chars)
 
-prefix_len-from_run : (test : ℕ → Bool) (bs : List ℕ) (i count : ℕ) → IsRunLength test bs i count
-    → count ≡ prefix_len test (drop i bs)
-prefix_len-from_run test bs i count e = simp (e, take_rest, length-prefix_len)
-
-pub run_range : (test : ℕ → Bool) → test 92 ≡ false → (bs : List ℕ) (i count : ℕ) → IsRunLength test bs i count
-    → slice_range bs i (i + count) ≡ plain_run test (chars (drop i bs))
-run_range = grind (arith, prefix_len-from_run, plain_run-chars)
-
-pub run_rest : (test : ℕ → Bool) → test 92 ≡ false → (bs : List ℕ) (i count : ℕ) → IsRunLength test bs i count
-    → chars (drop (i + count) bs) ≡ after_run test (chars (drop i bs))
+pub run_rest : (test : ℕ → Bool) → test 92 ≡ false → (bs : List ℕ) (count : ℕ) → count ≡ length (take_while test bs)
+    → chars (drop count bs) ≡ after_run test (chars bs)
 run_rest = grind (usual, plain_run-chars, length-prefix_len, drop-prefix_len)
 
 list_all-plain_run : (test : ℕ → Bool) (us : List SetChar) → list_all test (plain_run test us) ≡ true
@@ -456,25 +387,35 @@ AreElements-set_elements (p ∷ ps) (u ∷ us) e = by_first u us
 
 -- ---- the bracketed forms and the first element, as the code finds them
 
-class_with_name-named : (name : List ℕ) (us : List SetChar) → 0 < length name
-    → class_with_name name us ≡ with_rest (Class (class_named name)) (after_two 58 93 us)
-class_with_name-named = grind arith
+pub repeat_at-first : (us : List SetChar) → repeat_at us ≡ repeat_after_byte (first_byte us) (drop 1 us)
+repeat_at-first = grind arith
 
-pub class_at-found : (us : List SetChar) {inside : List SetChar} (after : List SetChar) {rest : List SetChar}
-    (name : List ℕ) (found : Option CharClass)
-    → Some inside ≡ after_plain 58 us → name ≡ plain_run is_ascii_lowercase inside
-    → after ≡ after_run is_ascii_lowercase inside → 0 < length name → Some rest ≡ after_two 58 93 after
-    → found ≡ class_named name → Some (Class found, rest) ≡ class_at us
-class_at-found us after name found e n a h r f = rw (← e, ← a, ← n, (class_with_name-named name after h), ← r, f) refl
+pub ruleset repeat_steps = (repeat_at-first, run_passes)
 
-pub chars-some : (bs : List ℕ) (i : ℕ) → i < length bs → 0 < length (chars (drop i bs))
-chars-some bs i h = rw (drop_more bs i 0 h) (omega arith)
+pub enclosed-class : (us inside after : List SetChar) (name : List ℕ) → us ≡ Plain 58 ∷ inside
+    → name ≡ plain_run is_ascii_lowercase inside → after ≡ after_run is_ascii_lowercase inside
+    → eqb (length name) 0 ≡ false → enclosed_at us ≡ with_rest (Class (class_named name)) (after_two 58 93 after)
+enclosed-class = grind arith
 
-pub first_set_element-range : (us next more : List SetChar) (u : SetChar) (a : ℕ)
-    {r : Result (SetElement × List SetChar) SetFaultKind}
-    → us ≡ u ∷ next → None ≡ bracketed_at us → Ok a ≡ byte_of u → Some more ≡ after_plain 45 next → 0 < length more
-    → r ≡ single_or_range a [] (Some more) → r ≡ first_set_element us
-first_set_element-range = grind arith
+pub equivalence-first : (us : List SetChar)
+    → equivalence_after_equals us ≡ equivalence_with_byte (first_byte us) (drop 1 us)
+equivalence-first = grind arith
+
+pub ruleset enclosed_steps = (chars-plain, equivalence-first)
+
+pub first_set_element-first : (us : List SetChar) → None ≡ bracketed_at us
+    → first_set_element us ≡ char_or_range (first_byte us) (drop 1 us)
+first_set_element-first = grind arith
+
+pub single_or_range-first : (a : ℕ) (us more : List SetChar) → 0 < length more
+    → single_or_range a us (Some more) ≡ range_to a (first_byte more) (drop 1 more)
+single_or_range-first = grind arith
+
+pub chars-some : (bs : List ℕ) → 0 < length bs → 0 < length (chars bs)
+chars-some [] h = absurd (omega arith)
+chars-some (b ∷ bs) h = omega arith
+
+pub ruleset first_steps = (first_set_element-first, single_or_range-first, chars-some)
 
 -- ---- the segments of the elements, one after another
 

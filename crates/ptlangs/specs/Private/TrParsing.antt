@@ -1,14 +1,15 @@
--- Definitions for the contracts of the private functions that read a string of `tr`: the characters after an index, the
--- bytes still to be read, and the pairs of the two arrays.
-use Rattle.std.specs.Prelude.{◌≡◌, ◌-◌, ◌+◌, ◌*◌, ◌++◌, ◌&&◌, ℕ, Bool, true, false, List, [], ◌∷◌, Option, None, Some}
-use Rattle.std.specs.Prelude.{Result, Ok, Err, drop, length, map, slice_index, take, if◌then◌else◌}
+-- Definitions for the contracts of the private functions that read a string of `tr`: the first character and the first
+-- element, the bytes still to be read, and the pairs of the two arrays.
+use Rattle.std.specs.Prelude.{◌≡◌, ◌+◌, ◌*◌, ◌++◌, ◌&&◌, ℕ, Bool, true, false, List, [], ◌∷◌, Option, None, Some}
+use Rattle.std.specs.Prelude.{Result, Ok, Err, drop, length, map, take, if◌then◌else◌}
 use Rattle.std.specs.List.{flat_map, last_or}
-use Rattle.ptlangs.specs.TrChars.{SetChar, char_at, chars}
+use Rattle.std.specs.Option.{option_or}
+use Rattle.ptlangs.specs.TrChars.{SetChar, byte_of, chars}
 use Rattle.ptlangs.specs.TrClasses.{all_bytes, are_opposite_cases}
-use Rattle.ptlangs.specs.TrElements.{set_elements}
+use Rattle.ptlangs.specs.TrElements.{class_at, equivalence_at, set_elements}
 use Rattle.ptlangs.specs.TrPlan.{array, complement_of, has_byte, image_by, members, segments, sequence}
 use Rattle.ptlangs.specs.declared.faults.SetFaultKind.{SetFaultKind}
-use Rattle.ptlangs.specs.declared.faults.SetFaultKind.TheVariants.{ClassPlace}
+use Rattle.ptlangs.specs.declared.faults.SetFaultKind.TheVariants.{ClassPlace, Empty}
 use Rattle.ptlangs.specs.declared.tr.bytes.Bytes.{Bytes}
 use Rattle.ptlangs.specs.declared.tr.classes.CharClass.{CharClass}
 use Rattle.ptlangs.specs.declared.tr.contents.Contents.{Contents}
@@ -19,21 +20,18 @@ use Rattle.ptlangs.specs.declared.tr.segments.Member.{Member}
 use Rattle.ptlangs.specs.declared.tr.segments.Segment.{Segment}
 use Rattle.ptlangs.specs.declared.tr.segments.Segment.TheVariants.{Class, Fill, Range, Repeat}
 
--- the characters of the text after its first `at` bytes
-abbrev pub chars_from : List ℕ → ℕ → List SetChar
-chars_from text at = chars (drop at text)
+-- the byte of the first character, or its fault
+abbrev pub first_byte : List SetChar → Result ℕ SetFaultKind
+first_byte [] = Err Empty
+first_byte (u ∷ us) = byte_of u
 
--- the character at an index of the text
-unfoldable pub char_from : List ℕ → ℕ → SetChar
-char_from text at = (char_at (slice_index text at) (drop (at + 1) text)).0
-
--- the characters after the one at an index of the text
-unfoldable pub chars_beyond : List ℕ → ℕ → List SetChar
-chars_beyond text at = drop 1 (chars_from text at)
+-- `[:class:]` or `[=x=]`, from the character after its opening bracket
+abbrev pub enclosed_at : List SetChar → Option (SetElement × List SetChar)
+enclosed_at us = option_or (class_at us) (equivalence_at us)
 
 -- an element that was read, with the characters after it
-abbrev pub element_and_rest : List ℕ → ParsedElement → SetElement × List SetChar
-element_and_rest text found = (found.element, chars_from text found.next)
+abbrev pub element_and_rest : ParsedElement → SetElement × List SetChar
+element_and_rest found = (found.element, chars found.rest.now)
 
 -- ---- the bytes of an array
 
@@ -79,12 +77,12 @@ member_results n (Err k ∷ rs) = Err k ∷ member_results n rs
 abbrev pub bytes_left : Bytes → List (Result Member SetFaultKind)
 bytes_left b =
     map Ok (drop b.index (marked_members b.fill b.segment))
-    ++ member_results b.fill (segments b.role b.has_fill (set_elements (chars_from b.text.now b.at)))
+    ++ member_results b.fill (segments b.role b.has_fill (set_elements (chars b.text.now)))
 
 -- a bound on the number of bytes that are left: each byte of the text gives fewer than 65,536; one segment is a fill
 abbrev pub most_left : Bytes → ℕ
 most_left b =
-    length (drop b.index (marked_members b.fill b.segment)) + 65536 * (length b.text.now - b.at)
+    length (drop b.index (marked_members b.fill b.segment)) + 65536 * length b.text.now
     + (if b.has_fill then 0 else b.fill)
 
 -- one item of a list of results is read: `old` is the list before, `new` the rest after it; a fault ends the list

@@ -5,15 +5,14 @@ ghost use Rattle.ptlangs.specs.TrPlan.{segments_of};
 ghost use Rattle.ptlangs.specs.Private.TrParsing.{NextItemPost, bytes_left, member_results, most_left, plain_members};
 
 use crate::faults::SetFaultKind;
-use crate::tr::elements::element_at;
+use crate::tr::elements::next_element;
 use crate::tr::segments::{Member, Segment, SetRole};
 
-/// Iterates over the bytes of a string's array, of which a fill has `fill`.
+/// Iterates over the bytes of a string's array, of which a fill has `fill`. `text` is the rest of the string.
 #[derive(Drop)]
 pub(crate) struct Bytes<'a> {
     role: SetRole,
     text: &'a [u8],
-    at: usize,
     has_fill: bool,
     fill: u128,
     segment: Segment,
@@ -29,7 +28,6 @@ impl<'a> Bytes<'a> {
         Bytes {
             role,
             text,
-            at: 0,
             has_fill: false,
             fill,
             segment: Segment::Repeat(0, 0),
@@ -51,13 +49,13 @@ impl<'a> Bytes<'a> {
                 self.index += 1;
                 return Ok(Some(member));
             }
-            if self.at >= self.text.len() {
+            if self.text.is_empty() {
                 return Ok(None);
             }
-            let parsed = element_at(self.text, self.at)?;
+            let parsed = next_element(self.text)?;
             self.segment = Segment::new(self.role, self.has_fill, parsed.element)?;
             self.has_fill = self.has_fill || self.segment.is_fill();
-            self.at = parsed.next;
+            self.text = parsed.rest;
             self.index = 0;
         }
     }

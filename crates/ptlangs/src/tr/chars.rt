@@ -1,28 +1,26 @@
 //! The characters of a string of `tr`: plain bytes and escapes (POSIX.1-2017, XCU, `tr`, "EXTENDED DESCRIPTION").
 //! `elements` reads a string with it.
-ghost use Rattle.std.specs.Prelude.{◌≡◌, ◌+◌, ◌*◌, ◌^◌, ◌<◌, ◌≤◌, ◌∷◌, length, drop, take, nat_le, Some, None};
-ghost use Rattle.std.specs.Prelude.{if◌then◌else◌, All, IfOk};
+ghost use Rattle.std.specs.Prelude.{◌≡◌, ◌<◌, ◌≤◌, length, drop, nat_le, Some, None, if◌then◌else◌, All, IfOk};
 ghost use Rattle.std.specs.Char.{digit_value};
 ghost use Rattle.std.specs.Str.Parse.{digits_value};
-ghost use Rattle.ptlangs.specs.TrChars.{byte_of, chars, after_backslash, byte_of_escape, is_octal_digit, octal_run};
-ghost use Rattle.ptlangs.specs.Private.TrParsing.{char_from, chars_beyond, chars_from};
-ghost use Rattle.ptlangs.specs.Calls.TrParsing.{ok_map};
+ghost use Rattle.ptlangs.specs.TrChars.{byte_of, chars, after_backslash, byte_of_escape, is_octal_digit, octal};
+ghost use Rattle.ptlangs.specs.TrChars.{octal_run};
+ghost use Rattle.ptlangs.specs.Private.TrParsing.{first_byte};
 
 use crate::faults::SetFaultKind;
 
-/// A character that was read: the byte that it denotes, and the index after it in the bytes that were given.
+/// The first character of a text: the byte that it denotes, or its fault, and the rest of the text after it.
 #[derive(Clone, Copy)]
-pub(crate) struct ParsedChar {
-    pub(crate) byte: u8,
-    pub(crate) next: usize,
+pub(crate) struct ParsedChar<'a> {
+    pub(crate) byte: Result<u8, SetFaultKind>,
+    pub(crate) rest: &'a [u8],
 }
 
 /// The value of the digits in this base, or `None` if it is above `limit`.
 #[tactic(auto, using(crate::proofs::TrGrammar::number_steps))]
-pub(crate) fn number(digits: &[u8], base: u32, limit: u32) -> Option<u32>
+pub(crate) fn number(digits: &[u8], base: u32, limit: u16) -> Option<u16>
     requires digits { All (λ d. digit_value d < base) digits.now }
     requires base { base ≤ 10 }
-    requires limit { limit < 2 ^ 24 }
     ensures { result
         ≡ (if nat_le (digits_value base digits.now) limit
         then Some (digits_value base digits.now)
@@ -31,11 +29,11 @@ pub(crate) fn number(digits: &[u8], base: u32, limit: u32) -> Option<u32>
     let mut value = 0;
     for &digit in digits {
         value = value * base + u32::from(digit - b'0');
-        if value > limit {
+        if value > u32::from(limit) {
             return None;
         }
     }
-    Some(value)
+    Some(value as u16)
 }
 
 /// The byte that a backslash and this byte denote, if it is not an octal digit.
@@ -68,58 +66,58 @@ fn octal_len(bytes: &[u8]) -> usize
     bytes.iter().take(3).take_while(|b| is_octal(**b)).count()
 }
 
-/// The character of a backslash before these bytes.
-///
-/// # Errors
-///
-/// The fault of the escape.
-#[tactic(auto, using(crate::proofs::TrGrammar::octal_steps))]
-fn escape(bytes: &[u8]) -> Result<ParsedChar, SetFaultKind>
-    ensures denoted { ok_map (λ c. c.byte) result ≡ byte_of (after_backslash bytes.now).0 }
-    ensures consumed { IfOk result (λ c. c.next ≡ (after_backslash bytes.now).1) }
-    ensures within { IfOk result (λ c. c.next ≤ length bytes.now) }
+/// The byte with this octal number.
+fn octal_byte(digits: &[u8]) -> Result<u8, SetFaultKind>
+    requires { All (λ d. digit_value d < 8) digits.now }
+    ensures { result ≡ byte_of (octal (digits_value 8 digits.now)) }
 {
-    let Some(&first) = bytes.first() else {
-        return Err(SetFaultKind::Escape);
-    };
-    if !is_octal(first) {
-        return Ok(ParsedChar {
-            byte: escaped_byte(first),
-            next: 1,
-        });
-    }
-    let next = octal_len(bytes);
-    match number(&bytes[..next], 8, 255) {
-        Some(value) => Ok(ParsedChar {
-            byte: value as u8,
-            next,
-        }),
+    match number(digits, 8, 255) {
+        Some(value) => Ok(value as u8),
         None => Err(SetFaultKind::Octal),
     }
 }
 
-/// The character at `at`.
-///
-/// # Errors
-///
-/// The fault of its escape.
-#[tactic(auto, using(crate::proofs::TrGrammar::char_steps))]
-pub(crate) fn next_char(text: &[u8], at: usize) -> Result<ParsedChar, SetFaultKind>
-    requires { at < length text.now }
-    ensures denoted { ok_map (λ c. c.byte) result ≡ byte_of (char_from text.now at) }
-    ensures first { chars_from text.now at ≡ char_from text.now at ∷ chars_beyond text.now at }
-    ensures reads { IfOk result (λ c. chars_beyond text.now at ≡ chars_from text.now c.next) }
-    ensures onward { IfOk result (λ c. at < c.next) }
-    ensures within { IfOk result (λ c. c.next ≤ length text.now) }
+/// The character of a backslash before these bytes.
+#[tactic(auto, using(crate::proofs::TrGrammar::octal_steps))]
+fn escape(bytes: &[u8]) -> ParsedChar
+    ensures byte { result.byte ≡ byte_of (after_backslash bytes.now).0 }
+    ensures rest { result.rest.now ≡ drop (after_backslash bytes.now).1 bytes.now }
 {
-    let byte = text[at];
-    let after = at + 1;
-    if byte != b'\\' {
-        return Ok(ParsedChar { byte, next: after });
+    match bytes {
+        [] => ParsedChar {
+            byte: Err(SetFaultKind::Escape),
+            rest: bytes,
+        },
+        [first, rest @ ..] if !is_octal(*first) => ParsedChar {
+            byte: Ok(escaped_byte(*first)),
+            rest,
+        },
+        _ => {
+            let (digits, rest) = bytes.split_at(octal_len(bytes));
+            ParsedChar {
+                byte: octal_byte(digits),
+                rest,
+            }
+        }
     }
-    let escaped = escape(&text[after..])?;
-    Ok(ParsedChar {
-        byte: escaped.byte,
-        next: after + escaped.next,
-    })
+}
+
+/// The first character of the text. An empty text has the fault `Empty`.
+#[tactic(auto, using(crate::proofs::TrGrammar::char_steps))]
+pub(crate) fn next_char(text: &[u8]) -> ParsedChar
+    ensures byte { result.byte ≡ first_byte (chars text.now) }
+    ensures rest { chars result.rest.now ≡ drop 1 (chars text.now) }
+    ensures shorter { IfOk result.byte (λ _. length result.rest.now < length text.now) }
+{
+    match text {
+        [] => ParsedChar {
+            byte: Err(SetFaultKind::Empty),
+            rest: text,
+        },
+        [b'\\', escaped @ ..] => escape(escaped),
+        [byte, rest @ ..] => ParsedChar {
+            byte: Ok(*byte),
+            rest,
+        },
+    }
 }

@@ -1,19 +1,18 @@
-//! Reads one element of a string of `tr` at a given index: a single character, a range, or one of the bracketed forms
-//! `[x*n]`, `[:class:]` and `[=x=]` (POSIX.1-2017, XCU, `tr`, "EXTENDED DESCRIPTION"). `bytes` reads a whole string by
-//! calls of `element_at`.
-ghost use Rattle.std.specs.Prelude.{◌≡◌, ◌≢◌, ◌+◌, ◌<◌, ◌≤◌, ◌∷◌, [], ℕ, List, Some, length, drop, option_map};
-ghost use Rattle.std.specs.Prelude.{IfSome, IfOk, slice_range};
-ghost use Rattle.std.specs.List.{take_while, list_all, AllPass};
-ghost use Rattle.std.specs.Char.{is_ascii_digit, is_ascii_lowercase};
-ghost use Rattle.ptlangs.specs.declared.faults.SetFaultKind.{SetFaultKind};
+//! Reads the first element of a string of `tr`: a single character, a range, or one of the bracketed forms `[x*n]`,
+//! `[:class:]` and `[=x=]` (POSIX.1-2017, XCU, `tr`, "EXTENDED DESCRIPTION"). `bytes` reads a whole string by calls of
+//! `next_element`.
+ghost use Rattle.std.specs.Prelude.{◌≡◌, ◌≢◌, ◌<◌, ◌≤◌, Some, None, false, length, drop, option_map, IfSome, IfOk};
+ghost use Rattle.std.specs.Prelude.{MatchOption};
+ghost use Rattle.std.specs.List.{list_all, AllPass};
+ghost use Rattle.std.specs.Char.{is_ascii_digit};
+ghost use Rattle.std.specs.Int.{is_in_range};
 ghost use Rattle.ptlangs.specs.TrChars.{is_octal_digit, chars};
 ghost use Rattle.ptlangs.specs.Laws.TrChars.{CharsMatchGrammar};
-ghost use Rattle.ptlangs.specs.TrElements.{after_plain, after_two, after_run, plain_run, repeat_at, class_at};
-ghost use Rattle.ptlangs.specs.TrElements.{equivalence_at, bracketed_at, first_set_element, single_or_range};
-ghost use Rattle.ptlangs.specs.TrElements.{repeat_count};
+ghost use Rattle.ptlangs.specs.TrElements.{after_plain, after_two, after_run, plain_run, repeat_at, repeat_count};
+ghost use Rattle.ptlangs.specs.TrElements.{bracketed_at, first_set_element, range_to, with_rest};
 ghost use Rattle.ptlangs.specs.Laws.TrElements.{ElementsMatchGrammar};
 ghost use Rattle.ptlangs.specs.Laws.TrPlan.{FirstFaultIsReported};
-ghost use Rattle.ptlangs.specs.Private.TrParsing.{element_and_rest, chars_from};
+ghost use Rattle.ptlangs.specs.Private.TrParsing.{element_and_rest, enclosed_at, first_byte};
 ghost use Rattle.ptlangs.specs.Calls.TrParsing.{ok_map};
 
 use crate::faults::SetFaultKind;
@@ -35,81 +34,39 @@ pub(crate) enum SetElement {
     Repeat(u8, Option<u16>),
 }
 
-/// An element that was read, and the index after it in the text.
+/// The first element of a text, and the rest of the text after it.
 #[derive(Clone, Copy)]
-pub(crate) struct ParsedElement {
+pub(crate) struct ParsedElement<'a> {
     pub(crate) element: SetElement,
-    pub(crate) next: usize,
+    pub(crate) rest: &'a [u8],
 }
 
-/// The index after `byte`, if the text has it at `at`.
+/// The rest of the text after `byte`, if the text starts with it.
 #[tactic(auto, using(crate::proofs::TrGrammar::after_plain_steps))]
-fn after_byte(text: &[u8], at: usize, byte: u8) -> Option<usize>
-    requires plain { byte ≢ 92 }
-    requires within { at ≤ length text.now }
-    ensures reads { option_map (chars_from text.now) result ≡ after_plain byte (chars_from text.now at) }
-    ensures next { IfSome result (λ i. i ≡ at + 1) }
-    ensures within { IfSome result (λ i. i ≤ length text.now) }
+fn after_byte(text: &[u8], byte: u8) -> Option<&[u8]>
+    requires { byte ≢ 92 }
+    ensures reads { MatchOption result
+        (after_plain byte (chars text.now) ≡ None)
+        (λ rest. after_plain byte (chars text.now) ≡ Some (chars rest.now)) }
+    ensures shorter { IfSome result (λ rest. length rest.now < length text.now) }
 {
-    match text.get(at) {
-        Some(found) if *found == byte => Some(at + 1),
+    match text {
+        [first, rest @ ..] if *first == byte => Some(rest),
         _ => None,
     }
 }
 
-/// The index after `first` and `second`, if the text has both at `at`.
-fn after_bytes(text: &[u8], at: usize, first: u8, second: u8) -> Option<usize>
-    requires plain { first ≢ 92 }
-    requires plain_second { second ≢ 92 }
-    requires within { at ≤ length text.now }
-    ensures reads { option_map (chars_from text.now) result
-        ≡ after_two first second (chars_from text.now at) }
-    ensures onward { IfSome result (λ i. at < i) }
-    ensures within { IfSome result (λ i. i ≤ length text.now) }
+/// The bytes from `first` to `last` at the start of the text, and the rest after them.
+fn split_run(text: &[u8], first: u8, last: u8) -> (&[u8], &[u8])
+    requires { is_in_range first last 92 ≡ false }
+    ensures run { result.0.now ≡ plain_run (is_in_range first last) (chars text.now) }
+    ensures rest { chars result.1.now ≡ after_run (is_in_range first last) (chars text.now) }
+    ensures within { length result.1.now ≤ length text.now }
 {
-    after_byte(text, after_byte(text, at, first)?, second)
-}
-
-/// The number of digits at the start.
-fn digits_len(bytes: &[u8]) -> usize
-    ensures { result ≡ length (take_while is_ascii_digit bytes.now) }
-{
-    bytes.iter().take_while(|b| b.is_ascii_digit()).count()
-}
-
-/// The number of lower-case letters at the start.
-fn letters_len(bytes: &[u8]) -> usize
-    ensures { result ≡ length (take_while is_ascii_lowercase bytes.now) }
-{
-    bytes.iter().take_while(|b| b.is_ascii_lowercase()).count()
-}
-
-/// The index after the digits at `at`.
-#[tactic(auto, using(crate::proofs::TrGrammar::run_range, crate::proofs::TrGrammar::run_rest))]
-fn after_digits(text: &[u8], at: usize) -> usize
-    requires { at ≤ length text.now }
-    ensures run { slice_range text.now at result
-        ≡ plain_run is_ascii_digit (chars_from text.now at) }
-    ensures reads { chars_from text.now result
-        ≡ after_run is_ascii_digit (chars_from text.now at) }
-    ensures onward { at ≤ result }
-    ensures within { result ≤ length text.now }
-{
-    at + digits_len(&text[at..])
-}
-
-/// The index after the lower-case letters at `at`.
-#[tactic(auto, using(crate::proofs::TrGrammar::run_range, crate::proofs::TrGrammar::run_rest))]
-fn after_letters(text: &[u8], at: usize) -> usize
-    requires { at ≤ length text.now }
-    ensures run { slice_range text.now at result
-        ≡ plain_run is_ascii_lowercase (chars_from text.now at) }
-    ensures reads { chars_from text.now result
-        ≡ after_run is_ascii_lowercase (chars_from text.now at) }
-    ensures onward { at ≤ result }
-    ensures within { result ≤ length text.now }
-{
-    at + letters_len(&text[at..])
+    let run = text
+        .iter()
+        .take_while(|byte| (first..=last).contains(*byte));
+    text.split_at(run.count())
 }
 
 /// Whether all of these are octal digits.
@@ -126,124 +83,105 @@ fn read_count(digits: &[u8]) -> Option<u16>
 {
     match digits {
         [b'0', ..] if !are_octal(digits) => None,
-        [b'0', ..] => Some(number(digits, 8, 65535)? as u16),
-        _ => Some(number(digits, 10, 65535)? as u16),
+        [b'0', ..] => number(digits, 8, 65535),
+        _ => number(digits, 10, 65535),
     }
 }
 
-/// `[x*n]` from the index after its opening bracket.
-#[tactic(auto, using(crate::proofs::TrGrammar::run_passes))]
-fn repeat(text: &[u8], at: usize) -> Option<ParsedElement>
-    requires { at ≤ length text.now }
-    ensures reads { option_map (element_and_rest text.now) result ≡ repeat_at (chars_from text.now at) }
-    ensures onward { IfSome result (λ r. at < r.next) }
-    ensures within { IfSome result (λ r. r.next ≤ length text.now) }
+/// `[x*n]`, from the text after its opening bracket.
+#[tactic(auto, using(crate::proofs::TrGrammar::repeat_steps))]
+fn repeat(text: &[u8]) -> Option<ParsedElement>
+    ensures reads { option_map element_and_rest result ≡ repeat_at (chars text.now) }
+    ensures shorter { IfSome result (λ found. length found.rest.now < length text.now) }
 {
-    if at == text.len() {
-        return None;
+    let repeated = next_char(text);
+    let byte = repeated.byte.ok()?;
+    let (digits, rest) = split_run(after_byte(repeated.rest, b'*')?, b'0', b'9');
+    let rest = after_byte(rest, b']')?;
+    let element = SetElement::Repeat(byte, read_count(digits));
+    Some(ParsedElement { element, rest })
+}
+
+/// The element and the rest after `delimiter` and `]`, if the text starts with these two.
+fn close(element: SetElement, text: &[u8], delimiter: u8) -> Option<ParsedElement>
+    requires { delimiter ≢ 92 }
+    ensures reads { option_map element_and_rest result
+        ≡ with_rest element (after_two delimiter 93 (chars text.now)) }
+    ensures shorter { IfSome result (λ found. length found.rest.now < length text.now) }
+{
+    let rest = after_byte(after_byte(text, delimiter)?, b']')?;
+    Some(ParsedElement { element, rest })
+}
+
+/// `[:class:]` or `[=x=]`, from the text after its opening bracket.
+#[tactic(auto, using(crate::proofs::TrGrammar::enclosed_steps))]
+fn enclosed(text: &[u8]) -> Option<ParsedElement>
+    ensures reads { option_map element_and_rest result ≡ enclosed_at (chars text.now) }
+    ensures shorter { IfSome result (λ found. length found.rest.now < length text.now) }
+{
+    match text {
+        [b':', inside @ ..] => {
+            let (name, rest) = split_run(inside, b'a', b'z');
+            if name.is_empty() {
+                return None;
+            }
+            close(SetElement::Class(CharClass::from_name(name)), rest, b':')
+        }
+        [b'=', inside @ ..] => {
+            let char = next_char(inside);
+            close(SetElement::Equivalence(char.byte.ok()?), char.rest, b'=')
+        }
+        _ => None,
     }
-    let repeated = next_char(text, at).ok()?;
-    let digits = after_byte(text, repeated.next, b'*')?;
-    let end = after_digits(text, digits);
-    let next = after_byte(text, end, b']')?;
-    let count = read_count(&text[digits..end]);
-    Some(ParsedElement {
-        element: SetElement::Repeat(repeated.byte, count),
-        next,
-    })
 }
 
-/// `[:class:]` from the index after its opening bracket.
-fn class(text: &[u8], at: usize) -> Option<ParsedElement>
-    requires { at ≤ length text.now }
-    ensures reads { option_map (element_and_rest text.now) result ≡ class_at (chars_from text.now at) }
-    ensures onward { IfSome result (λ r. at < r.next) }
-    ensures within { IfSome result (λ r. r.next ≤ length text.now) }
+/// A bracketed form at the start of the text.
+fn bracketed(text: &[u8]) -> Option<ParsedElement>
+    ensures reads { option_map element_and_rest result ≡ bracketed_at (chars text.now) }
+    ensures shorter { IfSome result (λ found. length found.rest.now < length text.now) }
 {
-    let name = after_byte(text, at, b':')?;
-    let end = after_letters(text, name);
-    if end == name {
-        return None;
-    }
-    let next = after_bytes(text, end, b':', b']')?;
-    let class = CharClass::from_name(&text[name..end]);
-    Some(ParsedElement {
-        element: SetElement::Class(class),
-        next,
-    })
+    let inside = after_byte(text, b'[')?;
+    repeat(inside).or(enclosed(inside))
 }
 
-/// `[=x=]` from the index after its opening bracket.
-fn equivalence(text: &[u8], at: usize) -> Option<ParsedElement>
-    requires { at ≤ length text.now }
-    ensures reads { option_map (element_and_rest text.now) result
-        ≡ equivalence_at (chars_from text.now at) }
-    ensures onward { IfSome result (λ r. at < r.next) }
-    ensures within { IfSome result (λ r. r.next ≤ length text.now) }
-{
-    let start = after_byte(text, at, b'=')?;
-    if start == text.len() {
-        return None;
-    }
-    let char = next_char(text, start).ok()?;
-    let next = after_bytes(text, char.next, b'=', b']')?;
-    Some(ParsedElement {
-        element: SetElement::Equivalence(char.byte),
-        next,
-    })
-}
-
-/// A bracketed form at `at`.
-fn bracketed(text: &[u8], at: usize) -> Option<ParsedElement>
-    requires { at ≤ length text.now }
-    ensures reads { option_map (element_and_rest text.now) result ≡ bracketed_at (chars_from text.now at) }
-    ensures onward { IfSome result (λ r. at < r.next) }
-    ensures within { IfSome result (λ r. r.next ≤ length text.now) }
-{
-    let inside = after_byte(text, at, b'[')?;
-    let other = class(text, inside).or(equivalence(text, inside));
-    repeat(text, inside).or(other)
-}
-
-/// The element at `at`.
+/// The first element of the text.
 ///
 /// # Errors
 ///
-/// The fault of the character or the range at `at`.
-pub(crate) fn element_at(text: &[u8], at: usize) -> Result<ParsedElement, SetFaultKind>
-    requires { at < length text.now }
-    ensures reads { ok_map (element_and_rest text.now) result ≡ first_set_element (chars_from text.now at) }
-    ensures onward { IfOk result (λ r. at < r.next) }
-    ensures within { IfOk result (λ r. r.next ≤ length text.now) }
+/// The fault of its character or range.
+#[tactic(auto, using(crate::proofs::TrGrammar::first_steps))]
+pub(crate) fn next_element(text: &[u8]) -> Result<ParsedElement, SetFaultKind>
+    ensures reads { ok_map element_and_rest result ≡ first_set_element (chars text.now) }
+    ensures shorter { IfOk result (λ found. length found.rest.now < length text.now) }
 {
-    if let Some(found) = bracketed(text, at) {
+    if let Some(found) = bracketed(text) {
         return Ok(found);
     }
-    let first = next_char(text, at)?;
-    match after_byte(text, first.next, b'-') {
-        Some(upper) if upper < text.len() => range(text, first.byte, upper),
+    let first = next_char(text);
+    let byte = first.byte?;
+    match after_byte(first.rest, b'-') {
+        Some(upper) if !upper.is_empty() => range(byte, upper),
         _ => Ok(ParsedElement {
-            element: SetElement::Single(first.byte),
-            next: first.next,
+            element: SetElement::Single(byte),
+            rest: first.rest,
         }),
     }
 }
 
-/// The range from `first` to the character at `at`.
-fn range(text: &[u8], first: u8, at: usize) -> Result<ParsedElement, SetFaultKind>
-    requires { at < length text.now }
-    ensures reads { ok_map (element_and_rest text.now) result
-        ≡ single_or_range first [] (Some (chars_from text.now at)) }
-    ensures onward { IfOk result (λ r. at < r.next) }
-    ensures within { IfOk result (λ r. r.next ≤ length text.now) }
+/// The range from `first` to the first character of the text.
+fn range(first: u8, text: &[u8]) -> Result<ParsedElement, SetFaultKind>
+    ensures reads { ok_map element_and_rest result
+        ≡ range_to first (first_byte (chars text.now)) (drop 1 (chars text.now)) }
+    ensures shorter { IfOk result (λ found. length found.rest.now < length text.now) }
 {
-    let last = next_char(text, at)?;
-    if last.byte < first {
+    let last = next_char(text);
+    let byte = last.byte?;
+    if byte < first {
         return Err(SetFaultKind::Descending);
     }
     Ok(ParsedElement {
-        element: SetElement::Range(first, last.byte),
-        next: last.next,
+        element: SetElement::Range(first, byte),
+        rest: last.rest,
     })
 }
 

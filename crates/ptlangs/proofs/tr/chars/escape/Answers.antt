@@ -1,20 +1,12 @@
 use Rattle.ptlangs.proofs
-use proofs.Common.{None, Some, arith, rules}
-use proofs.TrGrammar.{octal_char, octal_digits, octal_steps}
+use proofs.Common.{arith, ◌∙◌}
+use proofs.TrGrammar.{after_backslash-octal, octal_digits, take-octal_run}
 use proofs.tr.chars.escape.Goals as goal
 
-pub returns-in-Some-number-clause-denoted : goal.returns-in-Some-number-clause-denoted
-returns-in-Some-number-clause-denoted c =
-    octal_char c.args.bytes.now c.in-Some.first c.octal_len-next.result (Some c.in-Some-number.value) (search rules)
-    (search rules) (search rules) (search rules)
+pub octal_byte-requires : goal.octal_byte-requires
+octal_byte-requires c = rw (c.split_at.ensures.front, c.octal_len.ensures) (octal_digits c.args.bytes.now)
 
-pub returns-in-None-clause-denoted : goal.returns-in-None-clause-denoted
-returns-in-None-clause-denoted c =
-    octal_char c.args.bytes.now c.in-Some.first c.octal_len-next.result None (search rules) (search rules)
-    (search rules) (search rules)
-
-pub number-requires-clause-digits : goal.number-requires-clause-digits
-number-requires-clause-digits c = rw c.octal_len-next.ensures (octal_digits c.args.bytes.now)
-
-pub returns-in-None-clause-within : goal.returns-in-None-clause-within
-returns-in-None-clause-within c = grind (arith, octal_steps)
+pub returns-in_default-clause-byte : goal.returns-in_default-clause-byte
+returns-in_default-clause-byte c =
+    let is = after_backslash-octal c.args.bytes.now (omega arith) (grind arith) in
+    c.octal_byte.ensures ∙ rw (c.split_at.ensures.front, c.octal_len.ensures, take-octal_run, is)

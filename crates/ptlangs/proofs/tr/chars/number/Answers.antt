@@ -3,8 +3,8 @@ use proofs.Common.{arith, ◌+◌}
 use proofs.TrGrammar.{number_step, too_large}
 use proofs.tr.chars.number.Goals as goal
 
-pub returns-then-value-limit : goal.returns-then-value-limit
-returns-then-value-limit c =
+pub returns-then-value-from : goal.returns-then-value-from
+returns-then-value-from c =
     let i = c.loop-digit.digit-index in
     let ds = c.args.digits.now in
     let below = c.requires.digits i 0 c.loop-digit-test.true in

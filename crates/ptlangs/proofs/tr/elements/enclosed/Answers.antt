@@ -1,0 +1,11 @@
+use Rattle.ptlangs.proofs
+use proofs.Common.{chars, drop, length, sym, take, usual, ◌-◌, ◌∙◌}
+use proofs.TrGrammar.{chars-plain, enclosed-class}
+use proofs.tr.elements.enclosed.Goals as goal
+
+pub returns-else-is_empty-clause-reads : goal.returns-else-is_empty-clause-reads
+returns-else-is_empty-clause-reads c =
+    let text = c.args.text.now in
+    let is = enclosed-class (chars text) (chars (take (length text - 1) (drop 1 text))) _ _ (grind (usual, chars-plain))
+    c.split_run.ensures.run c.split_run.ensures.rest (sym c.is_empty.ensures ∙ c.if-is_empty.false) in
+    c.close.ensures.reads ∙ rw (c.from_name.ensures, is)
