@@ -5,10 +5,10 @@ use Rattle.ptlangs.proofs
 use Rattle.ptlangs.specs
 use Rattle.std.proofs.lemmas
 use proofs.Common.{Bool, Err, Interval, IsValidInterval, List, None, Ok, Option, Result, Some, [], and_then, ap, arith}
-use proofs.Common.{usual, cond, cond_both, cons_ok, digits_value_after, drop, element_field, element_interval, elements}
+use proofs.Common.{usual, cond, cond_both, cons_ok, drop, element_field, element_interval, elements}
 use proofs.Common.{eqb, eqb-true, false, get_or, is_ascii_digit, is_dash, is_err, is_list_separator, length}
-use proofs.Common.{length-drop, ltb-true, map, max_u64, refl, result_err, result_ok, rules, subst, suc, take, take_all}
-use proofs.Common.{true, value, ℕ, ◌*◌, ◌++◌, ◌+◌, ◌-◌, ◌<◌, ◌∙◌, ◌∷◌, ◌≡◌, ◌≤◌}
+use proofs.Common.{length-drop, ltb-true, map, refl, result_err, result_ok, rules, subst, suc, take, take_all}
+use proofs.Common.{true, digits_value, value, ℕ, ◌*◌, ◌++◌, ◌+◌, ◌-◌, ◌<◌, ◌∙◌, ◌∷◌, ◌≡◌, ◌≤◌}
 use specs.Calls.CutLists.{AreSeparated}
 use specs.Private.CutLists.{AreSortedFrom}
 use specs.Laws.CutLists.{CutListMatchesGrammar, From, FromTo, IsIntervalElement, One}
@@ -17,7 +17,7 @@ use specs.CutLists.{checked_interval, cut_list, interval_of_bounds}
 use specs.Calls.CutLists.{cut_list_fault}
 use specs.CutLists.{interval_of_parts, is_bound, is_selected, selection}
 use specs.Laws.Numbers.{IsListOf, Last, More}
-use specs.Numbers.{is_empty, is_number, number, traverse}
+use specs.Numbers.{is_empty, is_number, traverse}
 use specs.Laws.OutLists.{FirstFileField, IsFieldElement, IsValidField, JoinField, OutListMatchesGrammar}
 use specs.Laws.OutLists.{SecondFileField}
 use specs.Laws.OutLists.{SpellsField}
@@ -30,10 +30,13 @@ use specs.declared.outlist.OutField.{OutField}
 use specs.declared.ranges.ListFault.{ListFault}
 use Rattle.std.proofs.Common.{max}
 use lemmas.Bool.{and_parts, cases_Bool, false≢true, ltb-false, not-false}
+use lemmas.Int.Digits.{digits_value_more}
 use lemmas.List.Elements.{All-append, All-cons}
 use lemmas.List.Sorted.{list_any-IsPermutation}
 use lemmas.List.Splits.{join_with_byte-slice_split, slice_split_at, slice_split_first, slice_split_none}
 use lemmas.List.Sums.{fails_before_first}
+use lemmas.Str.Parse.{digit_from_value, digits_value-take-le}
+use Rattle.std.proofs.Common.{nat_le}
 use Rattle.std.specs.Char.{digit_value}
 use Rattle.std.specs.List.Sorted.{IsNonDecreasingBy, IsPermutation}
 use Rattle.std.specs.List.{All, filter_map, find, onto_first, position, slice_split}
@@ -147,22 +150,24 @@ module _ {A E : Type 0} (read : List ℕ → Result A E) (Spells : List ℕ → 
         × (traverse read (elements bs) ≡ Ok xs → IsListOf Spells bs xs)
     matches_grammar = search (rules, from_grammar, reads_parts, splits)
 
--- ---- reading decimal digits from left to right
+-- ---- reading digits from left to right
 
-after-ge : (n : ℕ) (ds : List ℕ) → n ≤ digits_value_after 10 n ds
-after-ge n [] = omega arith
-after-ge n (d ∷ ds) = omega (arith, after-ge (n * 10 + digit_value d) ds)
+pub ruleset number_steps = (digits_value_more, digits_value-take-le, digit_from_value)
 
-pub too_large_at : (bs : List ℕ) (i n : ℕ) → i < length bs → value bs ≡ digits_value_after 10 n (drop i bs)
-    → max_u64 < n * 10 + digit_value (get_or bs i 0) → None ≡ number bs
-too_large_at = grind (usual, after-ge)
+pub too_large : (base limit : ℕ) (ds : List ℕ) (i : ℕ) → 1 ≤ base → limit < digits_value base (take i ds)
+    → nat_le (digits_value base ds) limit ≡ false
+too_large = search (rules, digits_value-take-le)
+
+pub number_step : (base : ℕ) (ds : List ℕ) (i value digit : ℕ) → i < length ds → base ≤ 10
+    → digit_value (get_or ds i 0) < base → value ≡ digits_value base (take i ds) → digit ≡ get_or ds i 0 - 48
+    → value * base + digit ≡ digits_value base (take (i + 1) ds)
+number_step = search (rules, digit_from_value, digits_value_more)
 
 pub is_empty_by_length : {X : Type 0} (xs : List X) → is_empty xs ≡ eqb (length xs) 0
 is_empty_by_length = grind arith
 
-pub digit_at : (bs : List ℕ) (i : ℕ) → true ≡ is_number bs → i < length bs
-    → digit_value (get_or bs i 0) ≡ get_or bs i 0 - 48
-digit_at = grind usual
+pub digits_of_number : (bs : List ℕ) → true ≡ is_number bs → All (λ d. digit_value d < 10) bs
+digits_of_number = grind usual
 
 -- ---- the elements, split at dashes
 

@@ -9,7 +9,7 @@ use proofs.Common.{Bool, Err, List, None, Ok, Option, Result, Segment, SetChar, 
 use proofs.Common.{SetRole, Some, SpellsChars, [], ap, arith, byte_of, chars, chars_after, usual, cond_both}
 use proofs.Common.{digits_value, drop, drop_all, eqb, false, get_or, is_ascii_digit, is_fill, length, ltb-true}
 use proofs.Common.{map, ne_eqb, refl, rules, segments, sequence, set_elements, subst, suc, sym, take, true}
-use proofs.Common.{cons_ok, zero, ℕ, ◌*◌, ◌++◌, ◌+◌, ◌-◌, ◌<◌, ◌||◌, ◌∙◌, ◌∷◌, ◌≡◌, ◌≢◌, ◌≤◌}
+use proofs.Common.{cons_ok, zero, ℕ, ◌++◌, ◌+◌, ◌-◌, ◌<◌, ◌||◌, ◌∙◌, ◌∷◌, ◌≡◌, ◌≢◌, ◌≤◌}
 use specs.Laws.TrChars.{AChar, ALargeOctal, ALoneBackslash, APlainByte, AnEscape, AnOctal, IsOctalRun, OneDigit}
 use specs.TrChars.{Escaped}
 use specs.Laws.TrChars.{ThreeDigits, TwoDigits, NoChar, SpellsChar}
@@ -30,25 +30,12 @@ use specs.TrPlan.{segment}
 use specs.declared.tr.elements.SetElement.TheVariants.{Class, Equivalence, Repeat, Single}
 use Rattle.std.proofs.Common.{All, inl, inr, nat_le, nat_lt}
 use lemmas.Bool.{cases_Bool, le-leb, le-ltb, lt-leb}
-use lemmas.Int.Digits.{digits_value_more}
 use lemmas.List.Folds.{length-prefix_len}
 use lemmas.List.Sums.{AllPass-from_list_all, prefix_len_passes, take_while-cons}
 use lemmas.List.{drop_at, get_or-take, length-take, take-append-drop, take-take}
-use lemmas.Str.Parse.{digit_from_value, digits_value-take-le}
 use Rattle.std.specs.Char.{digit_value, is_ascii_lowercase}
 use Rattle.std.specs.List.{AllPass, list_all, prefix_len, take_while}
 use Rattle.std.specs.Option.{option_and_then}
-
-pub ruleset number_steps = (digits_value_more, digits_value-take-le, digit_from_value)
-
-pub too_large : (base limit : ℕ) (ds : List ℕ) (i : ℕ) → 1 ≤ base → limit < digits_value base (take i ds)
-    → nat_le (digits_value base ds) limit ≡ false
-too_large = search (rules, digits_value-take-le)
-
-pub number_step : (base : ℕ) (ds : List ℕ) (i value digit : ℕ) → i < length ds → base ≤ 10
-    → digit_value (get_or ds i 0) < base → value ≡ digits_value base (take i ds) → digit ≡ get_or ds i 0 - 48
-    → value * base + digit ≡ digits_value base (take (i + 1) ds)
-number_step = search (rules, digit_from_value, digits_value_more)
 
 pub length-octal_run : (bs : List ℕ) → length (octal_run bs) ≤ length bs
 length-octal_run bs = grind (usual, length-prefix_len is_octal_digit (take 3 bs), length-take 3 bs)

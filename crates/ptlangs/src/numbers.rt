@@ -1,6 +1,8 @@
-//! Decimal numbers, and the bytes that separate the elements of a list. The lists of `cut` and `join` and the numeric
-//! options of `ptopts` use these.
-ghost use Rattle.std.specs.Prelude.{◌≡◌};
+//! Numbers, and the bytes that separate the elements of a list. The lists of `cut` and `join`, the strings of `tr` and
+//! the numeric options of `ptopts` use these.
+ghost use Rattle.std.specs.Prelude.{◌≡◌, ◌<◌, ◌≤◌, All, None, Some, if◌then◌else◌, nat_le};
+ghost use Rattle.std.specs.Char.{digit_value};
+ghost use Rattle.std.specs.Str.Parse.{digits_value};
 ghost use Rattle.ptlangs.specs.Numbers.{is_number, number, is_list_separator};
 
 /// Whether the text is a decimal number: one digit or more, and nothing else. Leading zeros are allowed.
@@ -17,11 +19,27 @@ pub fn decimal(text: &[u8]) -> Option<u64>
     if !is_decimal(text) {
         return None;
     }
-    let mut value: u64 = 0;
-    for byte in text {
-        value = value.checked_mul(10)?.checked_add(u64::from(*byte - b'0'))?;
+    digits_value(text, 10, u64::MAX)
+}
+
+/// The value of the digits in this base, or `None` if it is above `limit`.
+#[tactic(auto, using(crate::proofs::ListElements::number_steps))]
+pub(crate) fn digits_value(digits: &[u8], base: u128, limit: u64) -> Option<u64>
+    requires digits { All (λ d. digit_value d < base) digits.now }
+    requires base { base ≤ 10 }
+    ensures { result
+        ≡ (if nat_le (digits_value base digits.now) limit
+        then Some (digits_value base digits.now)
+        else None) }
+{
+    let mut value = 0;
+    for &digit in digits {
+        value = value * base + u128::from(digit - b'0');
+        if value > u128::from(limit) {
+            return None;
+        }
     }
-    Some(value)
+    Some(value as u64)
 }
 
 /// Whether the byte separates elements: a comma, a space or a tab.

@@ -8,32 +8,13 @@ ghost use Rattle.ptlangs.specs.TrChars.{octal_run};
 ghost use Rattle.ptlangs.specs.Private.TrParsing.{first_byte};
 
 use crate::faults::SetFaultKind;
+use crate::numbers::digits_value;
 
 /// The first character of a text: the byte that it denotes, or its fault, and the rest of the text after it.
 #[derive(Clone, Copy)]
 pub(crate) struct ParsedChar<'a> {
     pub(crate) byte: Result<u8, SetFaultKind>,
     pub(crate) rest: &'a [u8],
-}
-
-/// The value of the digits in this base, or `None` if it is above `limit`.
-#[tactic(auto, using(crate::proofs::TrGrammar::number_steps))]
-pub(crate) fn number(digits: &[u8], base: u32, limit: u16) -> Option<u16>
-    requires digits { All (λ d. digit_value d < base) digits.now }
-    requires base { base ≤ 10 }
-    ensures { result
-        ≡ (if nat_le (digits_value base digits.now) limit
-        then Some (digits_value base digits.now)
-        else None) }
-{
-    let mut value = 0;
-    for &digit in digits {
-        value = value * base + u32::from(digit - b'0');
-        if value > u32::from(limit) {
-            return None;
-        }
-    }
-    Some(value as u16)
 }
 
 /// The byte that a backslash and this byte denote, if it is not an octal digit.
@@ -71,7 +52,7 @@ fn octal_byte(digits: &[u8]) -> Result<u8, SetFaultKind>
     requires { All (λ d. digit_value d < 8) digits.now }
     ensures { result ≡ byte_of (octal (digits_value 8 digits.now)) }
 {
-    match number(digits, 8, 255) {
+    match digits_value(digits, 8, 255) {
         Some(value) => Ok(value as u8),
         None => Err(SetFaultKind::Octal),
     }

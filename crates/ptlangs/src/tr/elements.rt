@@ -16,7 +16,8 @@ ghost use Rattle.ptlangs.specs.Private.TrParsing.{element_and_rest, enclosed_at,
 ghost use Rattle.ptlangs.specs.Calls.TrParsing.{ok_map};
 
 use crate::faults::SetFaultKind;
-use crate::tr::chars::{is_octal, next_char, number};
+use crate::numbers::digits_value;
+use crate::tr::chars::{is_octal, next_char};
 use crate::tr::classes::CharClass;
 
 /// An element of a string.
@@ -83,8 +84,8 @@ fn read_count(digits: &[u8]) -> Option<u16>
 {
     match digits {
         [b'0', ..] if !are_octal(digits) => None,
-        [b'0', ..] => number(digits, 8, 65535),
-        _ => number(digits, 10, 65535),
+        [b'0', ..] => Some(digits_value(digits, 8, 65535)? as u16),
+        _ => Some(digits_value(digits, 10, 65535)? as u16),
     }
 }
 

@@ -1,7 +1,7 @@
 use Rattle.ptlangs.proofs
 use proofs.Common.{arith, ◌+◌}
-use proofs.TrGrammar.{number_step, too_large}
-use proofs.tr.chars.number.Goals as goal
+use proofs.ListElements.{number_step, too_large}
+use proofs.numbers.digits_value.Goals as goal
 
 pub returns-then-value-from : goal.returns-then-value-from
 returns-then-value-from c =
