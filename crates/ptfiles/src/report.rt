@@ -1,4 +1,6 @@
-//! `FilesReport`, the result of a run over files. Built by `shell`.
+//! `FilesReport`, the result of a run over files, and how `shell` builds it: for a run that did not write to
+//! standard output, and with a message if nothing is run, as there is no memory or the output file cannot be
+//! created.
 
 ghost use Rattle.std.specs.Prelude.{◌≡◌, false, true, None, codes};
 ghost use Rattle.ptrun.specs.MessageWrites.{HasSaid, line_of};

@@ -1,6 +1,6 @@
 //! Reads the first element of a string of `tr`: a single character, a range, or one of the bracketed forms `[x*n]`,
 //! `[:class:]` and `[=x=]` (POSIX.1-2017, XCU, `tr`, "EXTENDED DESCRIPTION"). `bytes` reads a whole string by calls of
-//! `next_element`.
+//! `next_element`. And the law that characters and elements are those of the grammar.
 ghost use Rattle.std.specs.Prelude.{◌≡◌, ◌≢◌, ◌<◌, ◌≤◌, Some, None, false, length, drop, option_map, IfSome, IfOk};
 ghost use Rattle.std.specs.Prelude.{MatchOption};
 ghost use Rattle.std.specs.List.{list_all, AllPass};

@@ -1,3 +1,4 @@
+-- The loop of `digits_value`: the value is that of the digits so far, and is not above the limit.
 use Rattle.ptlangs.proofs
 use proofs.Common.{digits_value, take, ◌≡◌, ◌≤◌}
 use proofs.numbers.digits_value.Given as goal

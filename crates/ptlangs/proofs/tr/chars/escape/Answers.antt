@@ -1,3 +1,5 @@
+-- Answers for `escape`, if octal digits come after the backslash: the byte is that of their number. The digits are
+-- octal, as `octal_byte` requires.
 use Rattle.ptlangs.proofs
 use proofs.Common.{arith, ◌∙◌}
 use proofs.TrGrammar.{after_backslash-octal, octal_digits, take-octal_run}

@@ -1,3 +1,4 @@
+-- Answer for `enclosed` after a colon: the class is the one with the name before the next colon.
 use Rattle.ptlangs.proofs
 use proofs.Common.{chars, drop, length, sym, take, usual, ◌-◌, ◌∙◌}
 use proofs.TrGrammar.{chars-plain, enclosed-class}

@@ -1,3 +1,4 @@
+-- Answer for `split_run`: the bytes that are counted are the run of plain characters, and the rest is after it.
 use Rattle.ptlangs.proofs
 use Rattle.std.proofs.lemmas
 use proofs.Common.{YieldsList-from_slice, arith, rules}
