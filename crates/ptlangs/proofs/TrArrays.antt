@@ -28,7 +28,8 @@ use lemmas.List.Elements.{filter-append, filter_more}
 use lemmas.List.Folds.{list_any-append, list_any_at}
 use lemmas.List.FromFn.{get_or-map-range_with_len, get_or-range_with_len, length-map-range_with_len}
 use lemmas.List.FromFn.{length-range_with_len}
-use lemmas.List.{drop-map, drop-replicate, get_or-replicate, get_or_default, get_or_past, length-map, length-replicate, length-set}
+use lemmas.List.{drop-map, drop-replicate, get_or-replicate, get_or_default, get_or_past, length-map, length-replicate}
+use lemmas.List.{length-set}
 use lemmas.List.{same_lists, take-append-drop, take-map, length-append}
 use lemmas.Map.Views.{any-filter_same}
 use lemmas.Option.{slice_get-get_or, slice_get_cases, slice_get_past, slice_get_within}

@@ -5,7 +5,7 @@ ghost use Rattle.ptlangs.specs.TrPlan.{segments_of};
 ghost use Rattle.ptlangs.specs.Private.TrParsing.{NextItemPost, bytes_left, member_results, most_left, plain_members};
 
 use crate::faults::SetFaultKind;
-use crate::tr::elements::next_element;
+use crate::tr::elements::first_element;
 use crate::tr::segments::{Member, Segment, SetRole};
 
 /// Iterates over the bytes of a string's array, of which a fill has `fill`. `text` is the rest of the string.
@@ -52,7 +52,7 @@ impl<'a> Bytes<'a> {
             if self.text.is_empty() {
                 return Ok(None);
             }
-            let parsed = next_element(self.text)?;
+            let parsed = first_element(self.text)?;
             self.segment = Segment::new(self.role, self.has_fill, parsed.element)?;
             self.has_fill = self.has_fill || self.segment.is_fill();
             self.text = parsed.rest;

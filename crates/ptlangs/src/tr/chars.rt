@@ -85,7 +85,7 @@ fn escape(bytes: &[u8]) -> ParsedChar
 
 /// The first character of the text. An empty text has the fault `Empty`.
 #[tactic(auto, using(crate::proofs::TrGrammar::char_steps))]
-pub(crate) fn next_char(text: &[u8]) -> ParsedChar
+pub(crate) fn first_char(text: &[u8]) -> ParsedChar
     ensures byte { result.byte ≡ first_byte (chars text.now) }
     ensures rest { chars result.rest.now ≡ drop 1 (chars text.now) }
     ensures shorter { IfOk result.byte (λ _. length result.rest.now < length text.now) }

@@ -1,6 +1,6 @@
 //! Reads the first element of a string of `tr`: a single character, a range, or one of the bracketed forms `[x*n]`,
 //! `[:class:]` and `[=x=]` (POSIX.1-2017, XCU, `tr`, "EXTENDED DESCRIPTION"). `bytes` reads a whole string by calls of
-//! `next_element`. And the law that characters and elements are those of the grammar.
+//! `first_element`. And the law that characters and elements are those of the grammar.
 ghost use Rattle.std.specs.Prelude.{◌≡◌, ◌≢◌, ◌<◌, ◌≤◌, Some, None, false, length, drop, option_map, IfSome, IfOk};
 ghost use Rattle.std.specs.Prelude.{MatchOption};
 ghost use Rattle.std.specs.List.{list_all, AllPass};
@@ -17,7 +17,7 @@ ghost use Rattle.ptlangs.specs.Calls.TrParsing.{ok_map};
 
 use crate::faults::SetFaultKind;
 use crate::numbers::digits_value;
-use crate::tr::chars::{is_octal, next_char};
+use crate::tr::chars::{first_char, is_octal};
 use crate::tr::classes::CharClass;
 
 /// An element of a string.
@@ -95,7 +95,7 @@ fn repeat(text: &[u8]) -> Option<ParsedElement>
     ensures reads { option_map element_and_rest result ≡ repeat_at (chars text.now) }
     ensures shorter { IfSome result (λ found. length found.rest.now < length text.now) }
 {
-    let repeated = next_char(text);
+    let repeated = first_char(text);
     let byte = repeated.byte.ok()?;
     let (digits, rest) = split_run(after_byte(repeated.rest, b'*')?, b'0', b'9');
     let rest = after_byte(rest, b']')?;
@@ -129,7 +129,7 @@ fn enclosed(text: &[u8]) -> Option<ParsedElement>
             close(SetElement::Class(CharClass::from_name(name)), rest, b':')
         }
         [b'=', inside @ ..] => {
-            let char = next_char(inside);
+            let char = first_char(inside);
             close(SetElement::Equivalence(char.byte.ok()?), char.rest, b'=')
         }
         _ => None,
@@ -151,14 +151,14 @@ fn bracketed(text: &[u8]) -> Option<ParsedElement>
 ///
 /// The fault of its character or range.
 #[tactic(auto, using(crate::proofs::TrGrammar::first_steps))]
-pub(crate) fn next_element(text: &[u8]) -> Result<ParsedElement, SetFaultKind>
+pub(crate) fn first_element(text: &[u8]) -> Result<ParsedElement, SetFaultKind>
     ensures reads { ok_map element_and_rest result ≡ first_set_element (chars text.now) }
     ensures shorter { IfOk result (λ found. length found.rest.now < length text.now) }
 {
     if let Some(found) = bracketed(text) {
         return Ok(found);
     }
-    let first = next_char(text);
+    let first = first_char(text);
     let byte = first.byte?;
     match after_byte(first.rest, b'-') {
         Some(upper) if !upper.is_empty() => range(byte, upper),
@@ -175,7 +175,7 @@ fn range(first: u8, text: &[u8]) -> Result<ParsedElement, SetFaultKind>
         ≡ range_to first (first_byte (chars text.now)) (drop 1 (chars text.now)) }
     ensures shorter { IfOk result (λ found. length found.rest.now < length text.now) }
 {
-    let last = next_char(text);
+    let last = first_char(text);
     let byte = last.byte?;
     if byte < first {
         return Err(SetFaultKind::Descending);

@@ -24,7 +24,15 @@ returns c = λ ps to e f l.
     let b = c.args.complement in
     let new = unpaired (goal.at.returns c).After-identity to l in
     let paired : HasPaired _ to c.if-complement.images =
-    grind (arith, then-complement+in_ok-push_ascending, paired_same, first_members, contents_of, first_array, else-complement+in_ok-push_string) in
+    grind (
+      arith,
+      then-complement+in_ok-push_ascending,
+      paired_same,
+      first_members,
+      contents_of,
+      first_array,
+      else-complement+in_ok-push_string,
+    ) in
     c.finish.ensures _ to paired
     ∙ ap (λ from. answer_of (all_paired (first_members b ps) to) (map (image_by from (member_bytes to)) all_bytes))
     (first-bytes b ps)
