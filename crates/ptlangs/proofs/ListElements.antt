@@ -164,8 +164,8 @@ pub number_step : (base : ℕ) (ds : List ℕ) (i value digit : ℕ) → i < len
     → value * base + digit ≡ digits_value base (take (i + 1) ds)
 number_step = search (rules, digit_from_value, digits_value_more)
 
-pub is_empty_by_length : {X : Type 0} (xs : List X) → is_empty xs ≡ eqb (length xs) 0
-is_empty_by_length = grind arith
+pub not_empty : {X : Type 0} (xs : List X) {b : Bool} → b ≡ eqb (length xs) 0 → b ≡ false → is_empty xs ≡ false
+not_empty = grind arith
 
 pub digits_of_number : (bs : List ℕ) → true ≡ is_number bs → All (λ d. digit_value d < 10) bs
 digits_of_number = grind usual
