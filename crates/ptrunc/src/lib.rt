@@ -23,7 +23,7 @@ use answer::{Answer, refuse};
 use given::{are_ends, files_of};
 use host::Caller;
 use naming::write_names;
-use ptfiles::{run_given_streams, words_of};
+use ptfiles::{GivenRun, run_given_streams, words_of};
 use running::run_in_memory;
 use std::alloc::Global;
 
@@ -112,5 +112,8 @@ pub extern "C" fn ptext_run_streams(alloc: Global, words: &[u8], opened: &[u8]) 
     ensures { HasGivenRun hide_accepted words.now unknown (λ number. unwritten) opened.now result
         (MayFail hide_left hide_left) }
 {
-    run_given_streams(alloc, &Caller, words, opened).0
+    match run_given_streams(alloc, &Caller, words, opened) {
+        GivenRun::Ran(ran) => ran.status,
+        GivenRun::Refused { status, .. } => status,
+    }
 }
