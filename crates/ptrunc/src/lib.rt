@@ -44,7 +44,7 @@ pub extern "C" fn ptext_run_in_memory(
 )
     ensures { RunGivenPost words.now input.now files.now ends.now out.new messages.new answer.new }
 {
-    *answer = run_given(alloc, words, input, (files, ends), out, messages);
+    *answer = run_given(alloc, words, input, files, ends, out, messages);
 }
 
 // Runs a command whose words and files are split first.
@@ -52,13 +52,13 @@ fn run_given(
     alloc: Global,
     words: &[u8],
     input: &[u8],
-    given: (&[u8], &[usize]),
+    files: &[u8],
+    ends: &[usize],
     out: &mut [u8],
     messages: &mut [u8],
 ) -> Answer
-    ensures { RunGivenPost words.now input.now given.entry.0.now given.entry.1.now out.new messages.new result }
+    ensures { RunGivenPost words.now input.now files.now ends.now out.new messages.new result }
 {
-    let (files, ends) = given;
     let Ok(text) = str::from_utf8(words) else {
         return refuse(Some(2), "ptext: a word is not UTF-8\n", messages);
     };
