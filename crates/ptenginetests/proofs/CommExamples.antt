@@ -1,4 +1,5 @@
--- Worked examples of `comm`.
+-- Worked examples of `comm`: its columns, which input is out of order and at which line, lines that end with byte 0,
+-- descending order, and the part of the output that is determined by what was received.
 use Rattle.std.proofs.Common.{◌≡◌, ℕ, List, Option, Some, Bool, true, false, refl}
 use Rattle.std.specs.Prelude.{codes}
 use Rattle.ptlangs.specs.Jobs.{Comm}

@@ -1,4 +1,5 @@
--- Worked examples of `cut`.
+-- Worked examples of `cut` by bytes and by fields: the output, and the part of it that is determined by what was
+-- received.
 use Rattle.std.proofs.Common.{◌≡◌, ℕ, List, [], ◌∷◌, Bool, true, false, refl}
 use Rattle.std.specs.Prelude.{codes}
 use Rattle.std.specs.Str.{byte}

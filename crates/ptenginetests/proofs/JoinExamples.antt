@@ -1,4 +1,6 @@
--- Worked examples of `join`.
+-- Worked examples of `join`: the fields of a line, pairs and unpaired lines, which input is out of order and at which
+-- line, lines that end with byte 0, descending order, the part of the output that is determined by what was received,
+-- and the bounds on the memory.
 use Rattle.std.proofs.Common.{◌≡◌, ℕ, ◌+◌, ◌*◌, List, [], ◌∷◌, Option, Some, None, Bool, true, false, refl}
 use Rattle.std.specs.Prelude.{codes}
 use Rattle.std.specs.Str.{byte}

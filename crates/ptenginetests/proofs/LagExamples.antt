@@ -1,5 +1,6 @@
--- An implementation that holds output back does not have a bounded lag; and one that reads on after a disorder
--- contradicts the contract, since the disorder was determined two blocks earlier.
+-- Two wrong implementations of `comm`, which the contract excludes: one that holds output back does not have a
+-- bounded lag; and one that reads on after a disorder contradicts that the disorder was determined two blocks
+-- earlier. The lemmas before these say which lines had been received by then.
 use Rattle.std.proofs.Common.{◌≡◌, ℕ, zero, suc, ◌≤◌, Bool, true, false, List, [], ◌∷◌, ◌++◌, length, refl, sym, ◌∙◌}
 use Rattle.std.proofs.Common.{ap, subst, arith, drop, get_or, length-append}
 use Rattle.std.specs.Prelude.{replicate}

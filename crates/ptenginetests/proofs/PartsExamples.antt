@@ -1,4 +1,5 @@
--- Worked examples of inputs in parts: results of the laws, and counterexamples if a condition is not met.
+-- Worked examples of inputs in parts, for `cut`, `tr`, `uniq` and `paste`: results of the laws, and counterexamples
+-- if a condition is not met.
 use Rattle.std.proofs.Common.{◌≡◌, ◌==◌, cond, inl, inr, ℕ, List, [], ◌∷◌, ◌++◌, Bool, true, false, length, refl, ap}
 use Rattle.std.proofs.Common.{arith, codes, Option, Some, None, Result, Ok, Err, ◌<◌, ◌∙◌, sym, zero, suc}
 use Rattle.std.specs.Prelude.{slice_index_or, unwrap_or, filter, bytes_eq}

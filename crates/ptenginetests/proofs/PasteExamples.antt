@@ -1,4 +1,5 @@
--- Worked examples of `paste`.
+-- Worked examples of `paste`, with and without `-s`: the output, and the part of it that is determined by what was
+-- received. And a `paste` that pushes nothing of long inputs does not have a bounded lag.
 use Rattle.std.proofs.Common.{◌≡◌, ◌≤◌, ℕ, zero, suc, Bool, List, [], ◌∷◌, ◌++◌, true, false, cond, length, drop, refl}
 use Rattle.std.proofs.Common.{sym, ◌∙◌, ap, subst, arith, codes, Option, Some, None, length-append}
 use Rattle.std.specs.Prelude.{replicate, slice_index_or}

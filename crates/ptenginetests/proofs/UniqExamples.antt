@@ -1,4 +1,4 @@
--- Worked examples of `uniq`.
+-- Worked examples of `uniq`: the output with each option, and the part of it that is determined by what was received.
 use Rattle.std.proofs.Common.{◌≡◌, ℕ, [], false, refl, codes}
 use Rattle.std.specs.Fmt.{digits}
 use Rattle.ptlangs.specs.Jobs.{Uniq}

@@ -1,4 +1,5 @@
-//! Tests of `comm` over in-memory sources and sinks. The module `failures` makes each call fail in turn.
+//! Tests of `comm` over in-memory sources and sinks: the output, the line that is out of order, and how often the
+//! inputs are read and the output is written. The module `failures` makes each call fail in turn.
 
 use crate::two_inputs::{
     ANY, BOTH_EMPTY, Case, Example, Expected, FIRST_DISORDER, FIRST_READ_FAILS, Job, OK,

@@ -1,4 +1,5 @@
-//! Tests of `comm` and `join` in which a read, a write or a growth of the store fails.
+//! Tests of `comm` and `join` in which a read, a write or a growth of the store fails, and of what is read by then:
+//! nothing after a failed write, nor before the store has its slots.
 
 use crate::asserts::assert_for;
 use crate::two_inputs::{ANY, BOTH_EMPTY, Case, Example, Expected, OK, check_example};

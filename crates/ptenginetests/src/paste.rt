@@ -1,4 +1,6 @@
-//! Tests of `paste`, with and without `-s`, over in-memory inputs.
+//! Tests of `paste` over in-memory inputs: rows across blocks and after the end of an input, whose digests are those
+//! of the output of GNU `paste`; that nothing is read after a failure; and, with `-s`, lines of many lengths in one
+//! row.
 
 ghost use Rattle.std.specs.Prelude.{◌<◌, All};
 

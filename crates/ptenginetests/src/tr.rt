@@ -1,5 +1,6 @@
-//! Tests of `tr` with inputs in pieces, and with inputs of every length at which vectors, masks and blocks end. The
-//! expected output is computed byte by byte from the plan.
+//! Tests of `tr` with inputs in pieces, some with a read or a write that fails, and with inputs of every length at
+//! which vectors, masks and blocks end; and of maps by shifted ranges. The expected output is computed byte by byte
+//! from the plan.
 
 use crate::asserts::assert_for;
 use crate::one_input::{Case, Job, LONG, NO_FAILURE, SHORT, check_run};

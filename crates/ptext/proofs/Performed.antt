@@ -1,4 +1,6 @@
--- Standard output is returned unchanged unless the words mean a command that writes to it.
+-- Lemmas for the contract of `perform`: standard output is returned unchanged unless the words mean a command that
+-- writes to it, and a run over files of the system that were not used before has the postcondition of `perform`
+-- (`performed`), which does not say when a read fails.
 use Rattle.std.proofs.Common.{◌≡◌, ℕ, Bool, true, false, List, [], ◌∷◌, ⊎_elim, inl, inr, refl, subst}
 use Rattle.std.specs.Prelude.{⊤}
 use Rattle.ptlines.specs.Sinks.{SinkState}

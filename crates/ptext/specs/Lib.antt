@@ -1,1 +1,2 @@
+-- The definitions of this crate: the postcondition of `perform`.
 pub mod Perform

@@ -1,4 +1,5 @@
--- The postcondition of `perform`.
+-- The postcondition of `perform` (`PerformPost`), and the state of the files of the system before any was used
+-- (`no_calls`).
 use Rattle.std.specs.Prelude.{ℕ, Bool, List, [], None, ⊤}
 use Rattle.ptlines.specs.Sinks.{SinkState}
 use Rattle.ptlines.specs.Sources.{SourceState}

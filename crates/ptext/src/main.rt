@@ -1,4 +1,6 @@
-//! The program: `ptext TOOL WORDS...` over the standard streams and real files.
+//! The program: `ptext TOOL WORDS...` over the standard streams and real files. `main` reads the words of the
+//! command line, calls `perform`, and exits with its status. Before that, standard descriptors that are closed are
+//! occupied.
 #![tactic(auto)]
 
 mod perform;

@@ -1,5 +1,6 @@
--- The failing allocator of the tests, used through a shared reference: the two fields that its calls use, and the call
--- that counts down. Assumes `Logic`.
+-- For the proofs of the calls of the failing allocator of the tests, which use it through a shared reference: the
+-- two fields that they use, the call that counts down, and the parameters that are used up at the end. Assumes
+-- `Logic`.
 use Rattle.std.proofs.Common.{ℕ, zero, suc, ◌+◌, [], ◌∷◌, refl, Bor}
 use seplogic.Ra.Ura.{Ura}
 use mir.Syntax.{Args, a_type, dnil, dcons}

@@ -1,5 +1,5 @@
--- A source that gives one byte repeatedly: every part of its text consists of that byte, so the buffer may be filled
--- with it beforehand.
+-- Reads of the sources of the tests. A source of one byte repeated fills the buffer with it beforehand, so a read
+-- gives what its model says. And each read that the model of these sources allows is one that `Source` allows.
 use Rattle.std.proofs.Common.{◌≡◌, ℕ, ◌-◌, ◌<◌, ◌≤◌, Bool, List, [], ◌++◌, length, take, drop, replicate, min, refl}
 use Rattle.std.proofs.Common.{sym, ◌∙◌, ap, arith, take-append-drop, Some}
 use Rattle.std.proofs.Common.{true, false, ◌∷◌, length-drop, eq-eqb}

@@ -1,4 +1,5 @@
--- The model of the sinks of the tests, which know the bytes that they have accepted.
+-- The model of the sinks of the tests, which know the bytes that they have accepted: a new one, its state as a
+-- `Sink`, and the effects of a write and of a flush.
 use Rattle.std.specs.Prelude.{◌≡◌, ℕ, ◌-◌, ◌==◌, ◌<◌, ◌≤◌, ◌||◌, Bool, true, false, List, [], ◌++◌, Some, Result, Ok}
 use Rattle.std.specs.Prelude.{Err, length, take, min}
 use Rattle.ptlines.specs.Sinks.{SinkState, unflushed_after, flushes_after}

@@ -1,4 +1,5 @@
--- The model of the sources of the tests, which know the bytes that they have left.
+-- The model of the sources of the tests, which know the bytes that they have left: a new one, its state as a
+-- `Source`, and the effect of a read.
 use Rattle.std.specs.Prelude.{◌≡◌, ℕ, ◌==◌, ◌<◌, ◌≤◌, ◌||◌, Bool, true, false, List, Some, Result, Ok, Err, length}
 use Rattle.std.specs.Prelude.{take, drop, min, max}
 use Rattle.ptlines.specs.Sources.{SourceState}

@@ -1,4 +1,5 @@
--- The inputs that were opened are new, and have the bytes that are known of their files.
+-- The inputs of a run. The files of the names are opened one after another, each with its reader. The inputs that
+-- were opened are new, and have the bytes that are known of their files.
 use Rattle.std.proofs.Common.{◌≡◌, ℕ, zero, suc, ◌+◌, List, [], ◌∷◌, ◌++◌, Option, Some, None, All, ap, sym, ◌∙◌, refl}
 use Rattle.std.proofs.Common.{false, arith, length, map, take, get_or, length-append, append_assoc, subst}
 use Rattle.std.proofs.Common.{◌<◌, ◌≤◌, Bor}

@@ -1,3 +1,5 @@
+-- The lemmas of this crate: opened inputs, failed reads, the output, runs over files and over streams, the words of
+-- a text, and records of calls.
 pub mod FailedReads
 pub mod Inputs
 pub mod Outputs

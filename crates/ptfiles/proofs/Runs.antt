@@ -1,5 +1,6 @@
--- The words and the parsed command agree on the command that is run. So a run over the parsed command is one that the
--- words mean, and its inputs are the files that they name.
+-- From the run over the parsed command to the contract of a run over files. The words and the parsed command agree
+-- on the command, so the run is one that the words mean, over the new inputs that they name, and its sink is where
+-- they say. If the words are no command, nothing is read. And the contract of a run with a store of its own.
 use Rattle.std.proofs.Common.{◌≡◌, ℕ, Bool, true, false, List, [], ◌∷◌, Option, Some, None, Result, Ok, Err, inl, inr}
 use Rattle.std.proofs.Common.{All, arith, sym, ◌∙◌, ap, refl, subst, ⊎_elim, if◌then◌else◌, is_none, length, option_map}
 use Rattle.std.proofs.lemmas.Bool.{false≢true}

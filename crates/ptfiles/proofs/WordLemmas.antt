@@ -1,4 +1,4 @@
--- The words of a text are its lines that end with byte 0.
+-- The words of a text, which the code splits at each byte 0, are its lines that end with byte 0.
 use Rattle.std.proofs.Common.{◌≡◌, ◌⊎◌, ◌==◌, ◌<◌, ℕ, Bool, true, false, List, [], ◌∷◌, ◌++◌, Option, Some, None}
 use Rattle.std.proofs.Common.{inl, inr, ap, sym, ◌∙◌, refl, subst, arith, drop, length, take, if◌then◌else◌}
 use Rattle.std.proofs.Common.{get_or, suc}

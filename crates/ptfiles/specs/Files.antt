@@ -1,4 +1,5 @@
--- The model of `Files`: the names that were opened and created, and what is known of the files.
+-- The model of `Files`: the names that were opened and created, and what is known of the files. And the inputs of a
+-- run: that they are new, the contents of the files that it names, and their readers before the first read.
 use Rattle.std.specs.Prelude.{◌≡◌, ℕ, suc, ◌^◌, ◌<◌, true, false, List, [], ◌∷◌, ◌++◌, Option, Some, None, ⊤}
 use Rattle.std.specs.Prelude.{length, map, option_map}
 use Rattle.ptlines.specs.Readers.{Reader, new_reader}

@@ -1,4 +1,5 @@
--- Definitions that only private functions and proofs use.
+-- Definitions that only private functions and proofs use: calls of `Files`, opened inputs, outputs, streams as
+-- files, and readers that have failed.
 pub mod Failures
 pub mod Files
 pub mod Outputs

@@ -1,4 +1,6 @@
--- The contract of a run over files: which names are opened and created, and the run over them.
+-- The contract of a run over files: the states before and after it, which names are opened and created, where the
+-- output goes, the run, and the theorem that it is exact if all bytes are known (`IsExactOverNames`). And the cases
+-- in which nothing is run: there is no memory, or the output file cannot be created.
 use Rattle.std.specs.Prelude.{◌≡◌, ◌⊎◌, ℕ, Bool, true, false, List, [], ◌∷◌, Option, Some, None, Result, Ok, Err}
 use Rattle.std.specs.Prelude.{All, codes, is_none, length, if◌then◌else◌}
 use Rattle.std.specs.List.{list_any}

@@ -1,4 +1,4 @@
-//! A record of calls that only contracts read.
+//! `Calls`, a record of the calls of a method of `Files`, which only contracts read.
 ghost use Rattle.std.specs.Prelude.{◌≡◌, ℕ, List, [], ◌∷◌, ◌++◌};
 ghost use Rattle.std.specs.Borrow.{ftrue};
 

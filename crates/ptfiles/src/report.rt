@@ -1,4 +1,5 @@
-//! `FilesReport`, the result of a run over files. Built by `shell`.
+//! `FilesReport`, the result of a run over files, and how `shell` builds one with a message: nothing is run if there is
+//! no memory, or if the output file cannot be created.
 
 ghost use Rattle.std.specs.Prelude.{◌≡◌, false, true, None, codes};
 ghost use Rattle.ptrun.specs.MessageWrites.{HasSaid, line_of};

@@ -1,4 +1,5 @@
-//! `run_over_files`, which opens what the words name and runs the command over it. The entry point of the crate.
+//! `run_over_files` and `run_over_files_in_store`, the entry points of the crate. They parse the words, open the
+//! files that these name, decide where the command writes, create its output file, and run it.
 
 ghost use Rattle.std.specs.Prelude.{◌≡◌, false, Err, IfOk, OnErr};
 ghost use Rattle.std.specs.List.{list_any};

@@ -1,4 +1,5 @@
-//! A run over numbered streams, of any host. The library for C calls it.
+//! Runs over numbered streams: the trait `Host` of whoever has them, the streams as files (`StreamFiles`),
+//! `run_streams`, and `run_given_streams`, which takes the words as bytes. The library for C calls the latter.
 
 ghost use Rattle.std.specs.Prelude.{◌≡◌, ℕ, List, [], ◌∷◌, Option, Some, All, false, length, min};
 ghost use Rattle.ptfiles.specs.Files.{IsContent, created_state};

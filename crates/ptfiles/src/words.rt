@@ -1,4 +1,4 @@
-//! The words of a command as one text. Used by `streams`, and by the library for C.
+//! `words_of`, which splits a text into the words of a command. Used by `streams`, and by the library for C.
 
 ghost use Rattle.std.specs.Prelude.{◌≡◌, IfOk};
 ghost use Rattle.ptlines.specs.Text.{lines};

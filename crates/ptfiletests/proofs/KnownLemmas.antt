@@ -1,4 +1,5 @@
--- A run over streams of which all bytes are known and no read fails.
+-- A run over streams of which all bytes are known and no read fails: unless memory runs out or a write fails, its
+-- output, messages and status are those that the words mean. Also if the words are given as bytes.
 use Rattle.std.proofs.Common.{◌≡◌, ◌⊎◌, ◌+◌, ℕ, suc, Bool, true, false, List, [], ◌∷◌, Option, Some, None, All, ap}
 use Rattle.std.proofs.Common.{sym, ◌∙◌, refl, subst, inl, inr, ⊎_elim, if◌then◌else◌, length, arith}
 use Rattle.std.proofs.lemmas.Bool.{false≢true, true≢false}

@@ -1,4 +1,5 @@
--- A run over named files, of which all bytes are known and no read fails.
+-- A run over named files, of which all bytes are known and no read fails: unless memory runs out or a write fails, a
+-- command that writes to standard output writes what the words mean for these bytes.
 use Rattle.std.proofs.Common.{◌≡◌, ◌<◌, ◌^◌, ℕ, suc, Bool, true, false, List, [], ◌∷◌, Option, Some, None, ap, ◌∙◌, refl}
 use Rattle.std.proofs.Common.{if◌then◌else◌, inl, inr, is_none, length, map, subst}
 use Rattle.std.proofs.lemmas.Bool.{false≢true, true≢false}

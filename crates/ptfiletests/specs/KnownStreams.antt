@@ -1,4 +1,5 @@
--- Streams whose bytes are known, and what a run over them has to do.
+-- Streams whose bytes are known: the bytes by the number of a stream, sinks that know the number of their stream,
+-- the files of a run, and what a run over these streams has to do.
 use Rattle.std.specs.Prelude.{◌≡◌, ◌⊎◌, ◌+◌, ℕ, zero, suc, true, false, List, [], ◌∷◌, Some, None, get_or, length}
 use Rattle.std.specs.Prelude.{if◌then◌else◌, map, option_map}
 use Rattle.std.specs.Borrow.{Bor}

@@ -1,4 +1,5 @@
--- Files in memory, by their names.
+-- Files in memory, by their names: their contents, the states of files and of a sink before they are used, and what
+-- a run over these files has to do.
 use Rattle.std.specs.Prelude.{◌≡◌, ℕ, Bool, true, false, List, [], ◌∷◌, Some, None, bytes_eq, if◌then◌else◌, map}
 use Rattle.std.specs.Borrow.{Bor}
 use Rattle.ptfiles.specs.Files.{Content, FilesState}

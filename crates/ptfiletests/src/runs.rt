@@ -1,4 +1,5 @@
-//! The output of runs over named files, to standard output and to a file, and their messages.
+//! Tests of runs over named files: their output, to standard output and to a file, their messages, and what is not
+//! created or opened if the input or the words are wrong.
 
 ghost use Rattle.ptfakes.specs.FakeSink.{sink_state};
 ghost use Rattle.ptfiletests.specs.NamedFiles.{RunNamedPost};

@@ -1,4 +1,5 @@
-//! Runs over streams: what is written to the output, to the messages and to the output file of `uniq`.
+//! Tests of runs over streams: what is written to the output, to the messages and to the output file of `uniq`, what
+//! is said of words that are not run, and reads that fail.
 
 ghost use Rattle.ptfiletests.specs.KnownStreams.{GivenKnownPost, bytes_of, numbered_state};
 

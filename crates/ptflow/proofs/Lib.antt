@@ -1,3 +1,5 @@
+-- The theorems of this crate by subject, which the proofs of its functions use, and the names that they import
+-- (`Common`).
 pub mod Common
 pub mod Vectors
 pub mod CutLemmas

@@ -1,6 +1,7 @@
--- A call of `paste`. Between two iterations whole rows were taken and pushed, those left are the rows of the lines
--- still to come, for each continuation of the inputs, and each slot has at most one line. At an exit more rows may have
--- been pushed, and then the first columns of the next row were read, and perhaps a part of a line.
+-- A call of `paste`: first, that output which was determined two blocks of input earlier was pushed; then its state
+-- between two iterations, and its exits. Between two iterations whole rows were taken and pushed, those left are the
+-- rows of the lines still to come, for each continuation of the inputs, and each slot has at most one line. At an exit
+-- more rows may have been pushed, and then the first columns of the next row were read, and perhaps a part of a line.
 pub mod BufferedRows
 pub mod Replaced
 pub mod Segments

@@ -1,4 +1,4 @@
--- Facts about the vector code in `simd`.
+-- The modules with facts about the vector code in `simd`.
 pub mod Compress
 pub mod Equal
 pub mod Lanes

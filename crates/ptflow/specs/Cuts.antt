@@ -1,5 +1,5 @@
 -- The output of `cut` (POSIX.1-2017, XCU, `cut`). Also the output that a part of an input decides, and bounds of the
--- store.
+-- store. `cut_tool` has all of these.
 use Rattle.std.specs.Prelude.{ℕ, ◌+◌, ◌==◌, List, [], ◌∷◌, Bool, false, if◌then◌else◌}
 use Rattle.std.specs.List.{flat_map, list_any, slice_split, join_with_byte}
 use Rattle.ptlines.specs.Text.{unlines, lines, max_line_length}

@@ -1,3 +1,5 @@
+-- The modules with the definitions of this crate: the output of each tool (`Cuts`, `PasteText`, `TrOutput`, `Uniqs`),
+-- the tools as engines, the contracts of public calls, laws of the output, and what only private functions use.
 pub mod Calls
 pub mod Cuts
 pub mod Laws

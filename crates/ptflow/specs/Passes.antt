@@ -1,4 +1,4 @@
--- The engine of a tool with one input. The contract of a call is in Calls/Passes.
+-- The specification of the engine of a tool with one input. The contract of a call is in Calls/Passes.
 use Rattle.std.specs.Prelude.{false, None}
 use Rattle.ptflow.specs.ToolSpec.{ToolSpec}
 use Rattle.ptlines.specs.Engines.{EngineSpec}

@@ -1,5 +1,5 @@
--- The engine of `paste` without `-s`. The parameter `cells` has, for each column, the index of the reader of that
--- column. The contract of a call is in Calls/PasteCall.
+-- The specification of the engine of `paste` without `-s`. The parameter `cells` has, for each column, the index of the
+-- reader of that column. The contract of a call is in Calls/PasteCall.
 use Rattle.std.specs.Prelude.{ℕ, false, List, None, length}
 use Rattle.ptflow.specs.PasteText.{paste, paste_decided, paste_size}
 use Rattle.ptlangs.specs.Jobs.{Paste}

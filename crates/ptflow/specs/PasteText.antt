@@ -1,5 +1,5 @@
 -- The output of `paste`, with and without option `-s`, as a function of its inputs. Also the output that a part of them
--- decides, and bounds of the store.
+-- decides, bounds of the store, and `paste -s` as a tool over one input.
 use Rattle.std.specs.Prelude.{ℕ, ◌+◌, ◌%◌, ◌==◌, ◌||◌, List, [], ◌∷◌, ◌++◌, Bool, false, length, take, max, map, filter, zip}
 use Rattle.std.specs.Prelude.{fold, count_by, sum_by, nat_lt, Option, option_to_list, slice_index_or, if◌then◌else◌}
 use Rattle.std.specs.List.{enumerate_from, range_with_len, list_all}

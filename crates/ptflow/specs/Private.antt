@@ -1,4 +1,5 @@
--- Definitions that only private functions and proofs use.
+-- The modules with definitions that only private functions and proofs use: for each tool, for the loops over one
+-- input, and for vector code.
 pub mod Cut
 pub mod Passes
 pub mod Paste

@@ -1,5 +1,5 @@
 -- The output of `tr` for a text (POSIX.1-2017, XCU, `tr`): first bytes are deleted, then the others translated, and
--- then repeats squeezed. Also the output that a part of an input decides.
+-- then repeats squeezed. Also the output that a part of an input decides. `tr_tool` has both.
 use Rattle.std.specs.Prelude.{ℕ, ◌==◌, ◌&&◌, List, [], ◌∷◌, Bool, true, not, map, filter, zip}
 use Rattle.ptlines.specs.Received.{Received}
 use Rattle.ptlangs.specs.TrPlan.{ByteMap}

@@ -1,5 +1,6 @@
--- The output of `uniq` (POSIX.1-2017, XCU, `uniq`). Also the output that a part of an input decides, and bounds of the
--- store.
+-- The output of `uniq` (POSIX.1-2017, XCU, `uniq`): the key of a line, the runs of lines with equal keys, and what is
+-- written for a run. Also the output that a part of an input decides, and bounds of the store. `uniq_tool` has all of
+-- these.
 use Rattle.std.specs.Prelude.{ℕ, zero, suc, ◌+◌, ◌*◌, ◌==◌, ◌&&◌, List, [], ◌∷◌, ◌++◌, Bool, false, not, if◌then◌else◌, drop}
 use Rattle.std.specs.Prelude.{slice_get, bytes_eq, decimal, nat_lt}
 use Rattle.std.specs.List.{flat_map}

@@ -1,4 +1,5 @@
 //! The loop of the tools that work block by block, and keep nothing in a store: `cut` by bytes, `tr`, and `paste -s`.
+//! `BlockFilter` is the trait that such a tool implements, and `run_blocks` runs it over a reader.
 
 ghost use Rattle.std.specs.Prelude.{◌≡◌, ◌<◌, ◌≤◌, ◌+◌, ℕ, List, [], length, false, OnOk, OnErr};
 ghost use Rattle.ptlines.specs.Calls.Outputs.{PushPost};

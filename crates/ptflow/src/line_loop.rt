@@ -1,5 +1,5 @@
-//! The loop of the tools that work line by line and keep lines in slots of a store: `cut` by fields keeps one line, and
-//! `uniq` two.
+//! The loop of the tools that work line by line and keep lines in slots of a store: `cut` by fields keeps one line,
+//! and `uniq` two. `LineFilter` is the trait that such a tool implements, and `run_lines` runs it over a reader.
 
 ghost use Rattle.std.specs.Prelude.{◌≡◌, ◌≤◌, ◌-◌, ◌^◌, ℕ, List, ◌∷◌, [], length, false, IfOk, OnOk, OnErr};
 ghost use Rattle.ptlines.specs.Calls.Outputs.{PushPost};

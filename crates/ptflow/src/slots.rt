@@ -1,4 +1,5 @@
-//! The slots of a store that an engine needs. The line loop and `paste` use this file.
+//! Adds the slots that an engine needs and a store does not have yet (`ensure_slots`). The line loop and `paste` call
+//! it.
 
 ghost use Rattle.std.specs.Prelude.{◌≡◌, ◌<◌, true, false, length, Err, OnOk, OnErr};
 ghost use Rattle.ptlines.specs.Slots.{total_bytes};

@@ -1,6 +1,7 @@
--- An element contains no separator, so splitting at separators gives the elements of the grammar back; digits contain
--- no dash, so splitting an interval at its dashes gives its bounds back. The lists of `cut` and `join` agree with the
--- grammar in both directions. Merging sorted intervals keeps the set that they select.
+-- The lists of `cut` and `join`. An element contains no separator and a number no dash, so splitting at these gives
+-- the elements and bounds of the grammar back, and both lists agree with the grammar in both directions. Elements
+-- are read from left to right up to the first fault; so are decimal digits. Merging sorted intervals keeps the set
+-- that they select.
 use Rattle.ptlangs.proofs
 use Rattle.ptlangs.specs
 use Rattle.std.proofs.lemmas

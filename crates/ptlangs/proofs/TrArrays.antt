@@ -1,6 +1,7 @@
--- The bytes of a string of `tr` are read one after another: those read and those left are together all its bytes. The
--- image of a byte is the byte of the second array, extended by its last byte, at the index that was pushed last for it.
--- After the end of the first array, no class may start in the rest of the second one.
+-- The arrays of the strings of `tr`. Their bytes are read one after another: those read and those left are together
+-- all. Tables of 256 entries say which bytes an array or its complement contains, and the image of each byte: that
+-- of the second array, extended by its last byte, at the last index in the first. A class of the second array needs
+-- its other case in the first; after the end of the first none may start. A plan's tables have its map.
 use Rattle.ptlangs.proofs
 use Rattle.ptlangs.specs
 use Rattle.std.proofs.lemmas

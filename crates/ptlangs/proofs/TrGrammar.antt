@@ -1,7 +1,7 @@
--- The character at an index depends only on the bytes from there on, so the agreement with the grammar goes character
--- by character. A byte other than a backslash is a character by itself, so the code may look at bytes where the
--- definition looks at characters. Each bracketed form, range and single character is one case of both the definition
--- and the grammar.
+-- The characters, elements and segments of a string of `tr`. The definitions agree with the grammar case by case,
+-- and the fault of a string is that of its first faulty element. For the code: numbers are read digit by digit, and
+-- a byte other than a backslash is a character by itself, so bytes may be looked at where the definition looks at
+-- characters.
 use Rattle.ptlangs.proofs
 use Rattle.ptlangs.specs
 use Rattle.std.proofs.lemmas

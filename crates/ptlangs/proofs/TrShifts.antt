@@ -1,5 +1,5 @@
--- The stretches of a table of images give these images: a prepended byte is below all stretches after it, so only its
--- own stretch adds to it.
+-- The stretches of a table of images give these images: a prepended byte is below all stretches after it, so only
+-- its own stretch adds to it. And the bytes from an index on have no more stretches than all bytes.
 use Rattle.ptlangs.proofs
 use Rattle.std.proofs.lemmas
 use proofs.Common.{Bool, List, Stretch, [], ap, arith, usual, cond_both, drop, get_or, length, prepend_shift, refl}

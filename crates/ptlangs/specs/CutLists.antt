@@ -1,4 +1,5 @@
--- The list of `cut`, options `-b`, `-c` and `-f` (POSIX.1-2017, XCU, `cut`).
+-- The list of `cut`, options `-b`, `-c` and `-f` (POSIX.1-2017, XCU, `cut`), as a parse: the interval of each
+-- element, its fault, and the set of numbers that the list selects. Its grammar is in Laws/CutLists.
 use Rattle.std.specs.Prelude.{ℕ, ◌==◌, ◌||◌, ◌&&◌, List, [], ◌∷◌, Bool, not}
 use Rattle.std.specs.Prelude.{Option, Some, None, Result, Ok, Err, if◌then◌else◌, nat_lt, nat_le}
 use Rattle.std.specs.List.{slice_split, list_any}

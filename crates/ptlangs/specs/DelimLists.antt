@@ -1,5 +1,5 @@
--- The list of delimiters of `paste`, which is the value of option `-d` (POSIX.1-2017, XCU, `paste`), as a parse. Its
--- grammar is in Laws/DelimLists.
+-- The list of delimiters of `paste`, which is the value of option `-d` (POSIX.1-2017, XCU, `paste`), as a parse, and
+-- the delimiter after a column. Its grammar is in Laws/DelimLists.
 use Rattle.std.specs.Prelude.{ℕ, ◌%◌, ◌==◌, List, [], ◌∷◌, length, Option, Some, None, Result}
 use Rattle.std.specs.Prelude.{Ok, Err, if◌then◌else◌, slice_index_or}
 use Rattle.std.specs.Str.{byte}

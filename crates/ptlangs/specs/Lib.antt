@@ -1,3 +1,5 @@
+-- The definitions of this crate: lists and numbers, the strings and the plan of `tr`, the jobs of the tools, and
+-- results of parsing functions. `Calls` is for contracts, `Laws` for theorems, `Private` for private functions.
 pub mod Calls
 pub mod CutLists
 pub mod DelimLists

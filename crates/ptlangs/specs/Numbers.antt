@@ -1,4 +1,5 @@
--- Decimal numbers, and lists of elements between separators.
+-- Decimal numbers, and lists of elements between separators: the elements, and the values of all of them or the
+-- first fault.
 use Rattle.std.specs.Prelude.{ℕ, ◌==◌, ◌||◌, ◌&&◌, List, [], ◌∷◌, Bool, true, false, not, Option, Some, None}
 use Rattle.std.specs.Prelude.{Result, Ok, Err, if◌then◌else◌, nat_le}
 use Rattle.std.specs.Char.{is_ascii_digit}

@@ -1,4 +1,5 @@
--- The output list of `join`, option `-o` (POSIX.1-2017, XCU, `join`).
+-- The output list of `join`, option `-o` (POSIX.1-2017, XCU, `join`), as a parse: the field that each element
+-- denotes, or its fault. Its grammar is in Laws/OutLists.
 use Rattle.std.specs.Prelude.{ℕ, ◌==◌, List, [], ◌∷◌, not, Result, Ok}
 use Rattle.std.specs.Prelude.{Err, if◌then◌else◌, nat_lt}
 use Rattle.std.specs.Str.{byte}

@@ -1,4 +1,5 @@
--- Definitions that only private functions and proofs use.
+-- Definitions that only private functions and proofs use: intervals that are sorted, the jobs of `uniq` and `comm`
+-- without options, and how the strings of `tr` are read and their arrays paired.
 pub mod CutLists
 pub mod Jobs
 pub mod TrClasses

@@ -1,4 +1,5 @@
-//! The delimiter list of `paste` (option `-d`), as `ptopts` reads it and `ptflow` uses it.
+//! The delimiter list of `paste` (option `-d`), as `ptopts` reads it and `ptflow` uses it: `Delims`, its faults, and
+//! the law that a list is read as the grammar says.
 ghost use Rattle.std.specs.Prelude.{◌≡◌, ◌<◌, [], ◌∷◌, length, None, Err, IfOk, MatchResult};
 ghost use Rattle.std.specs.Result.{result_err};
 ghost use Rattle.ptlangs.specs.Calls.Results.{ValidatedParsePost};

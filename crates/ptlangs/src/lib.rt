@@ -1,6 +1,6 @@
 //! The small languages in the options and operands of `cut`, `paste`, `uniq`, `comm`, `join` and `tr` (lists, numbers,
 //! the strings of `tr`), and the jobs of the tools, which are their options as plain values. `ptopts` parses command
-//! lines with these; `ptflow` and `ptmerge` run the jobs.
+//! lines with these; `ptflow` and `ptmerge` run the jobs. Some functions do nothing: they state theorems about these.
 #![tactic(auto)]
 
 pub mod delims;

@@ -1,4 +1,5 @@
-//! The output list of `join` (option `-o`), as `ptopts` reads it and `ptmerge` uses it.
+//! The output list of `join` (option `-o`), as `ptopts` reads it and `ptmerge` uses it: `OutList`, its fields and
+//! faults, and the law that a list is read as the grammar says.
 ghost use Rattle.std.specs.Prelude.{◌≡◌, None, MatchResult};
 ghost use Rattle.std.specs.Result.{result_err};
 ghost use Rattle.ptlangs.specs.Calls.Results.{ValidatedParsePost};

@@ -1,4 +1,5 @@
-//! The list of `cut` (options `-b`, `-c` and `-f`), as `ptopts` reads it and `ptflow` uses it.
+//! The list of `cut` (options `-b`, `-c` and `-f`), as `ptopts` reads it and `ptflow` uses it: `Ranges`, the set
+//! that a list selects, as merged intervals; its faults; and the law that a list is read as the grammar says.
 ghost use Rattle.std.specs.Prelude.{◌≡◌, ◌≤◌, ◌<◌, ◌∷◌, [], None, Some, IfOk, IsTrue, MatchResult, Ok};
 ghost use Rattle.std.specs.Result.{result_err};
 ghost use Rattle.ptlangs.specs.Calls.Results.{ValidatedParsePost};

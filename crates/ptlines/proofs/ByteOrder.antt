@@ -1,4 +1,6 @@
--- Big-endian numbers of equally many bytes compare as the bytes do, since the first digit that differs decides.
+-- Byte order by words of 1, 4 or 8 bytes: read as big-endian numbers, two words compare as their bytes do. Words at
+-- one index of two strings, which are equal before it, decide the order if they differ; otherwise the strings are
+-- equal up to the end of the words. If one string is a prefix of the other, the lengths decide.
 use Rattle.ptlines.proofs
 use proofs.Common.{◌≡◌, ℕ, zero, suc, ◌+◌, ◌*◌, ◌<◌, ◌≤◌, List, [], ◌∷◌, length, take, drop, min, refl, sym, ◌∙◌, ap}
 use proofs.Common.{arith, get_or, Fits, take-add, take-take, chunk-fits, length-chunk, Each1, usual}

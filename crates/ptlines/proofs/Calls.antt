@@ -1,5 +1,6 @@
--- The ends of a call of any engine: the output had failed before, a first slot could not be added, or there was
--- progress.
+-- How a call of any engine meets its postcondition (`CallPost`): if the output had failed before, if one of the
+-- first slots could not be added, and otherwise from the progress that the call made (`CallProgress`). If a call
+-- meets it from the state in which the terminator of the readers was set, it also does from the state before that.
 use Rattle.ptlines.proofs
 use Rattle.ptlines.specs
 use proofs.Common.{◌≡◌, ℕ, ◌<◌, ◌≤◌, true, false, List, [], Option, length, max, refl, sym, ◌∙◌, ap, arith, Reader}

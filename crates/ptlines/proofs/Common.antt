@@ -1,4 +1,5 @@
--- Names that many proofs here use.
+-- The names that many proofs of this crate use, imported from other files so that a proof imports them from here.
+-- And `usual`, the rules that most searches take.
 use Rattle.ptlines.specs
 use Rattle.std.proofs.lemmas
 pub use Rattle.std.proofs.Common.{Bool, Err, Fits, List, None, Ok, OnErr, OnOk, Option, Result, Some, [], ap, arith}

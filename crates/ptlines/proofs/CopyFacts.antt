@@ -1,5 +1,5 @@
--- A copy of a whole vector copies its first bytes too; the others do not matter. Two vectors that overlap copy all
--- bytes.
+-- Copies by vectors. A copy of a whole vector copies its first bytes too; the others do not matter. Two vectors that
+-- overlap copy all bytes. The bytes after a stored vector do not change, nor those after the last of two.
 use Rattle.ptlines.proofs
 use proofs.Common.{◌≡◌, ℕ, ◌+◌, ◌≤◌, List, length, take, drop, ◌++◌, sym, ◌∙◌, ap, arith, length-take-le, take-take}
 use proofs.Common.{put_chunk, take-append-add, usual, drop-drop, length-append, ◌-◌}

@@ -1,4 +1,5 @@
--- Appending twice is appending the concatenation, also to bytes that may be unknown.
+-- Bytes that may be unknown: appending twice, or prepending twice, is doing it once with the concatenation, and
+-- appending nothing changes nothing. Also, whether a sink has unflushed bytes after two writes.
 use Rattle.ptlines.proofs
 use proofs.Common.{◌≡◌, ℕ, Bool, List, [], ◌++◌, Option, append_known, prepend_known, unflushed_after, arith, rules}
 use proofs.Common.{usual}

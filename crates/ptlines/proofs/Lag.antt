@@ -1,4 +1,6 @@
--- All output that was pushed while no write had failed, except for at most one block of 8,192 bytes, is in the sink.
+-- The bounded lag of output: all output that was pushed while no write had failed, except for at most one block of
+-- 8,192 bytes, is in the sink. So the lag is bounded after such a push (`bounded_lag_now`), and still is after
+-- another one that may fail (`bounded_lag_after`).
 use Rattle.ptlines.proofs
 use proofs.Common.{◌≡◌, ℕ, ◌+◌, ◌≤◌, false, List, ◌++◌, Option, None, Some, length, max, sym, ◌∙◌, ap, arith}
 use proofs.Common.{length-append, append_known, Received, IsPrefix, Output, IsKnownPrefix, PushEffect, rules, usual}

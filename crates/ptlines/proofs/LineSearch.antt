@@ -1,4 +1,6 @@
--- The bytes before the first terminator are a line; if there is none, all bytes are a part of one.
+-- The bytes before the first terminator are a line; if there is none, all bytes are a part of one. Two parts of a
+-- line, one after the other, are a part of one. What is taken and dropped at the terminator. And a reader that has
+-- taken the first of its buffered bytes has advanced by these.
 use Rattle.ptlines.proofs
 use proofs.Common.{◌≡◌, ℕ, suc, ◌+◌, ◌<◌, ◌≤◌, List, [], ◌∷◌, ◌++◌, None, Some, length, get_or, take, drop, arith}
 use proofs.Common.{IsFirstByte, is_byte, IsLine, Reader, AdvanceOk, usual}

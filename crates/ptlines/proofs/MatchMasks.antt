@@ -1,4 +1,6 @@
--- The trailing zeros of a match mask count the bytes before the first match; a mask of zero means that there is none.
+-- The match masks of chunks. The trailing zeros of a mask count the bytes before the first match; a mask of zero
+-- means that there is none. A search that goes on after bytes without a match; the masks of adjacent chunks, put
+-- together; and the first match among 64 bytes.
 use Rattle.ptlines.proofs
 use Rattle.std.proofs.lemmas
 use proofs.Common.{◌≡◌, ℕ, ◌+◌, ◌*◌, ◌^◌, ◌%◌, ◌<◌, ◌≤◌, Bool, not, List, [], ◌∷◌, ◌++◌, rules, Option, Some, length}

@@ -1,4 +1,5 @@
--- The length of the longest line is the maximum over parts.
+-- The length of the longest line: of two lists of lines together it is the maximum of both, and a piece at the
+-- beginning of a text, without a terminator, is not longer.
 use Rattle.ptlines.proofs.Common.{◌≡◌, ℕ, ◌+◌, ◌≤◌, List, [], ◌∷◌, ◌++◌, length, max, arith, onto_first}
 use Rattle.ptlines.specs.Text.{lines, max_length}
 use Rattle.ptlines.specs.Calls.Text.{IsLine}

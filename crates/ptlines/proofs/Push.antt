@@ -1,4 +1,6 @@
--- Two pushes are one push of the concatenation, and after a failed write nothing changes any more.
+-- The effect of a push on an output (`PushEffect`): of nothing; of two pushes, which are one push of the
+-- concatenation; after a failed write, when nothing changes any more; of a block that is written out; of bytes that
+-- go directly to the sink; and of a write that fails.
 use Rattle.ptlines.proofs
 use Rattle.ptlines.specs
 use proofs.Common.{◌≡◌, ℕ, true, false, List, [], ◌++◌, Option, arith, Result, Ok, OnOk, OnErr, append_known, Output}

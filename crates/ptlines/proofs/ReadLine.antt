@@ -1,5 +1,5 @@
--- A line is read piece by piece: what several calls consumed is the concatenation of what each consumed. A line whose
--- terminator is among the next 64 bytes is copied at once.
+-- A line is read piece by piece (`LineSoFar`), up to its terminator or the end of input: what several calls consumed
+-- is the concatenation of what each consumed. A line whose terminator is among the next 64 bytes is copied at once.
 use Rattle.ptlines.proofs
 use proofs.Common.{◌≡◌, ℕ, ◌+◌, ◌-◌, ◌^◌, ◌<◌, ◌≤◌, None, Some, take, List, [], ◌∷◌, ◌++◌, length, sym, ◌∙◌, ap}
 use proofs.Common.{subst, arith, length-append, set-set, Slots, line, with_line, not, ◌==◌, Ok, IsLine, Reader}

@@ -1,5 +1,5 @@
 -- One read into an empty block: the bytes that the source gives become the buffered ones, so nothing is consumed or
--- lost.
+-- lost. If the source has given 2^63 bytes or more, the read is reported as a fault.
 use Rattle.ptlines.proofs
 use proofs.Common.{◌≡◌, ℕ, ◌+◌, ◌<◌, ◌≤◌, Bool, List, [], Option, take, refl, arith, length-take-le, take-take}
 use proofs.Common.{SourceState, PullOk, ◌^◌, true, Some, Ok, Err, inr, slice_range, LineFault, Read, Reader}

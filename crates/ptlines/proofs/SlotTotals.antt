@@ -1,5 +1,6 @@
--- The total length of the lines in a store, and the bounds of lines and buffers, after one slot is set, added or
--- exchanged. The total changes by the difference of two lengths, and always fits 128 bits.
+-- The lines of a store, their total length, and the bounds of lines and buffers, after one slot is set, two are
+-- exchanged, or the line of one is appended or copied to another. The total changes by the difference of two
+-- lengths, and always fits 128 bits. `store_of` is the model of a store with these slots.
 use Rattle.ptlines.proofs
 use Rattle.std.proofs.lemmas
 use proofs.Common.{◌≡◌, ◌≢◌, ℕ, zero, suc, ◌+◌, ◌*◌, ◌^◌, ◌<◌, ◌≤◌, List, [], ◌∷◌, ◌++◌, length, take, drop, get_or}

@@ -1,5 +1,6 @@
 -- Splitting the text of lines gives these lines, and the text of the lines of a text is that text, perhaps with one
--- more terminator.
+-- more terminator. Also for the complete lines of a text. So a text has one list of lines (`the_lines`), and its
+-- complete lines are those up to the last terminator (`the_complete_lines`).
 use Rattle.ptlines.proofs
 use proofs.Common.{◌≡◌, ◌≢◌, ◌⊎◌, inl, inr, ℕ, ◌==◌, ◌<◌, Bool, true, false, cond, List, [], ◌∷◌, ◌++◌, length, drop}
 use proofs.Common.{get_or, refl, sym, ◌∙◌, ap, arith, onto_first, eq-eqb, eqb-false, append-nil, lines}

@@ -1,4 +1,5 @@
-//! The order of lines by byte value, used by the merging tools.
+//! `compare`: the order of lines by byte value, used by the merging tools. Few bytes are compared as big-endian
+//! numbers of 8 or 4 bytes at a time or byte by byte, and many with the standard library.
 
 ghost use Rattle.std.specs.Prelude.{◌≡◌, ◌≤◌, ◌<◌, ◌+◌, length, take, drop, min};
 ghost use Rattle.std.specs.Int.{w32, w64, from_be_bytes};

@@ -1,5 +1,5 @@
 //! Reading lines, a counted store for lines, and buffered output. The tools of `ptflow` and `ptmerge` use it for all
-//! input and output.
+//! input and output. Here is the list of its modules, and the theorem that a text has one list of lines.
 #![tactic(auto)]
 
 ghost use Rattle.ptlines.specs.Laws.Text.{LinesAreUnique, CompleteLinesAreLines};

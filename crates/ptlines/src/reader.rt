@@ -1,4 +1,5 @@
-//! `LineReader`, which reads an input line by line or block by block. All tools read through it.
+//! `LineReader`, which reads an input line by line or block by block. All tools read through it. With
+//! `write_out_before_blocking`, buffered output is written before a read that may block.
 
 ghost use Rattle.std.specs.Prelude.{◌≡◌, ◌<◌, ◌≤◌, ℕ, true, false, None, [], IfSome, IfOk, OnOk, OnErr, length, take};
 ghost use Rattle.std.specs.Prelude.{drop, if◌then◌else◌};

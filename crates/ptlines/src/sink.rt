@@ -1,4 +1,4 @@
-//! The trait `Sink` for everything that bytes are written to.
+//! The trait `Sink` for everything that bytes are written to, and `Failed`, the error of a read, a write or a flush.
 
 ghost use Rattle.std.specs.Prelude.{◌≡◌, false, length, ◌<◌};
 ghost use Rattle.ptlines.specs.Sinks.{SinkState};

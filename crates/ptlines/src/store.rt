@@ -1,5 +1,6 @@
 //! `Store`: numbered slots, each of which holds a line. A store counts the bytes of all its lines. The tools keep
-//! the lines that they need in it (`uniq` keeps one beside it).
+//! the lines that they need in it (`uniq` keeps one beside it). Also `LineFault`, the reason why a line could not be
+//! read or stored.
 
 ghost use Rattle.std.specs.Prelude.{◌≡◌, ℕ, ◌<◌, ◌≤◌, ◌≢◌, true, false, [], ◌∷◌, ◌++◌, length, take, ◌+◌, replicate};
 ghost use Rattle.std.specs.Prelude.{swap, slice_set, slice_index_or, vec_len, vec_capacity, IfOk, OnOk, OnErr};

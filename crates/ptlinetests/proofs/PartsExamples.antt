@@ -1,4 +1,5 @@
--- Examples of the theorem about the lines of two parts, with both terminators and an empty first part.
+-- Examples of the theorem about the lines of two parts, with both terminators and an empty first part. And a text
+-- that is cut inside a line, which shows that the condition of the theorem is needed.
 use Rattle.std.proofs.Common.{◌≡◌, inl, inr, ℕ, List, [], ◌∷◌, ◌++◌, length, refl, ap, arith, codes}
 use Rattle.ptlines.specs.Text.{lines}
 use Rattle.ptlines.specs.Laws.Parts.{HasOnlyCompleteLines}

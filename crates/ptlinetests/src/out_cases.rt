@@ -1,4 +1,4 @@
-//! Tests of `Out` with sinks that accept few bytes at a time, or fail.
+//! Tests of `Out` and of `write_out` with sinks that accept few bytes at a time, run out of room, or fail.
 
 use crate::asserts::{holds_of, same, same_of};
 use ptfakes::texts::{is_line, text_of};

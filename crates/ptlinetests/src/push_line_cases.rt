@@ -1,4 +1,5 @@
-//! Tests of `push_line`: a line with a prefix and a terminator, at every fill level of the block.
+//! Tests of `push_line`: a line with a prefix and a terminator, at many fill levels of the block, and after
+//! a failed write.
 
 use crate::asserts::{holds_of, same};
 use ptfakes::VecSink;

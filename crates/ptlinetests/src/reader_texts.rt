@@ -1,4 +1,5 @@
-//! Tests of a reader over texts of known lengths: lines and blocks in chunks, a line that grows, and a very long line.
+//! Tests of a reader over texts of known lengths: lines and blocks in chunks, a very long line, and a line that
+//! grows while each request for memory fails in turn.
 
 use crate::asserts::{holds_of, same, same_of};
 use crate::reader_steps::{Input, Reader, SIZES, current, ends, next, reader_of, shows};

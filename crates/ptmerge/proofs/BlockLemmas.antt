@@ -1,4 +1,6 @@
--- The lines that are merged in the blocks of their readers, without a copy in the store.
+-- The merge of lines in the blocks of their readers, without a copy in the store: the next line of a block, the lines
+-- passed, and the steps of the merge, of any tool and of `comm`. Also why the invariant of a merge holds after the
+-- lines passed, and why both inputs can go on from there.
 use Rattle.ptmerge.proofs
 use Rattle.ptmerge.specs
 use proofs.Common.{◌≡◌, inl, inr, ⊎_elim, ℕ, ◌+◌, ◌<◌, ◌≤◌, ◌^◌, List, [], ◌∷◌, ◌++◌, refl, sym, ◌∙◌, ap, arith}

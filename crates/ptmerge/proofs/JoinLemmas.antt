@@ -1,6 +1,7 @@
--- The invariants of the loops of `join`. Between groups it is that of the merge. An iteration there writes an unpaired
--- line, ends the loop, or runs the loops of a group: one reads the second input's lines of the key, and one writes the
--- pairs of the first input's lines. Each reads a line, so the reads that are left decrease.
+-- The loops of `join`: its output by lines and by pairs, the invariants of the loops, and what each iteration and each
+-- fault does to them. Between groups the invariant is that of the merge. An iteration there writes an unpaired line,
+-- ends the loop, or runs the loops of a group: one reads the second input's lines of the key, and one writes the pairs
+-- of the first input's lines. Each reads a line, so the reads that are left decrease.
 pub mod Group
 pub mod Fields
 use Rattle.ptmerge.proofs

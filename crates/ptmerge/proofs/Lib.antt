@@ -1,3 +1,5 @@
+-- The modules of lemmas: for a merge, for lines merged in blocks, for `comm` and `join`, and for the laws of their
+-- output.
 pub mod Common
 pub mod BlockLemmas
 pub mod CommLemmas

@@ -1,5 +1,7 @@
--- The steps of a merge. A line that precedes everything in the other input is processed, and its input advances; the
--- next line has no lesser key, so the invariant holds again. A fault ends the loop with a prefix of the output.
+-- The loop of a merge: its invariant at the start, after each step, and at its exits. A line that precedes everything
+-- in the other input is processed, and its input advances; the next line has no lesser key, so the invariant holds
+-- again. A fault ends the loop with a prefix of the output. Also the reads that are left, which decrease, and the
+-- contract of the cursor's `next`.
 pub mod Exits
 use Rattle.ptmerge.proofs
 use Rattle.ptmerge.specs

@@ -1,4 +1,5 @@
--- The lines that `join` pairs in the blocks of its readers.
+-- `join` in the blocks of its readers: an unpaired line, or a pair of lines that are the only ones of their key, is a
+-- step of the merge of the blocks. And that merge keeps the invariant of the loop of `join`.
 use Rattle.ptmerge.proofs
 use Rattle.ptmerge.specs
 use proofs.Common.{◌≡◌, ◌∷◌, [], ℕ, List, refl, subst, arith, false, true, Output, PushEffect, unlines, Side, First}

@@ -1,4 +1,6 @@
--- An input of a merge after lines that were passed in its block.
+-- The inputs of a merge after lines that were passed in their blocks: the invariants of one input, of its cursor and
+-- of the store hold again. So the merge of two blocks keeps the loop invariant of a merge and that of `comm`, and
+-- never adds to the reads that are left; or a write has failed, and the call ends.
 use Rattle.ptmerge.proofs
 use proofs.Common.{◌≡◌, ℕ, ◌-◌, false, List, [], ◌∷◌, ◌++◌, refl, sym, ◌∙◌, ap, subst, arith, length, drop, append_assoc, Some}
 use proofs.Common.{unlines, unlines-append, IsLine, AreLines, Lines, Cmp, Key, Reader, length-append, length_push}

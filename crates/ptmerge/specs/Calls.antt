@@ -1,4 +1,4 @@
--- The contracts of public calls.
+-- The contracts of public calls: of `comm` and `join`, of a merge and its steps, and of the cursor of one input.
 pub mod Comm
 pub mod Cursor
 pub mod Join

@@ -1,3 +1,3 @@
--- Laws of the definitions, which public functions state.
+-- Laws of the definitions, which public functions state: of the output for whole inputs, and of inputs in parts.
 pub mod Outputs
 pub mod Parts

@@ -1,4 +1,5 @@
-//! The faults of a merge of two inputs, which `comm` and `join` return.
+//! `MergeFault`, the faults of a merge of two inputs, which `comm` and `join` return; and the one that a failed write
+//! becomes.
 
 use crate::key_order::Side;
 use ptlines::WriteFault;

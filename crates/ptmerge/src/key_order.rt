@@ -1,5 +1,6 @@
-//! `Side`, which names one of the two inputs of a merge, and `KeyOrder`, an order of lines by keys. `comm` compares
-//! whole lines; the order of `join` is `FieldKeys`, in `tools`. `Descending` is the reverse of either.
+//! `Side`, which names one of the two inputs of a merge; `Span`, where a key is in its line; and `KeyOrder`, an order
+//! of lines by keys. `comm` compares whole lines (`WholeLine`); the order of `join` is `FieldKeys`, in `tools`.
+//! `Descending` is the reverse of either.
 
 ghost use Rattle.std.specs.Prelude.{◌≡◌, ◌≤◌, ℕ, List, length};
 ghost use Rattle.std.specs.List.{slice_range};

@@ -1,5 +1,6 @@
-//! Two laws for `comm` and for `join`, so that a caller can run them on parts of the inputs, one after another or in
-//! parallel. After them laws of their output for whole inputs, by which a reader can judge the definitions.
+//! Laws of `comm` and `join`, each the contract of a function that does nothing. By some a caller can run both tools
+//! on parts of the inputs, one after another or in parallel. The others are of their output for whole inputs, by which
+//! a reader can judge the definitions, and of the merge that their contracts name.
 
 ghost use Rattle.ptmerge.specs.Laws.Outputs.{CommIsMerge, CommOfItself, CommOfSorted, CommSharesFirst, CommSwapped};
 ghost use Rattle.ptmerge.specs.Laws.Outputs.{JoinCounts, JoinIsMerge, JoinOfSorted};

@@ -3,6 +3,7 @@
 //! - `merging` is the merge itself, which reads both inputs and selects the least key.
 //! - `key_order` has what an order of lines is, and that of `comm`.
 //! - `tools` has a module for each tool, with its engine and its private functions, and the order of `join`.
+//! - `faults` has the faults that both return.
 //! - `laws` states how both tools may be run on parts of their inputs, and laws of their output.
 #![tactic(auto)]
 

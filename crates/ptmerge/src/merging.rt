@@ -1,4 +1,6 @@
-//! The merge of two inputs, on which `comm` and `join` are built: it selects the current line with the least key.
+//! The merge of two inputs (`Merge`), on which `comm` and `join` are built: its start, its steps (`Step`), which
+//! select the current line with the least key, and the calls that advance an input. It can also go on after lines that
+//! were merged in the blocks of the readers.
 //!
 //! `cursor` is one input of the merge, with its order check; `block_lines` are lines that are merged in the blocks of
 //! the readers; `four_slots` manages the store slots that both inputs use.

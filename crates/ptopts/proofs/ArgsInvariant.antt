@@ -1,4 +1,5 @@
--- The loop over the words: the options so far and the parse of the remaining words are the parse of all words.
+-- The loop over the words: the options so far and the parse of the remaining words are the parse of all words
+-- (`ArgsRead`). The steps of the loop: a word of options is read, or has a fault; and fewer words are left.
 use Rattle.ptopts.proofs
 use proofs.Common.{Bool, Bor, Fault, GroupPost, List, OnSome, Option, ParsedOption, Token, Tool, [], arith, usual}
 use proofs.Common.{is_end_of_options, is_option_arg, length, options, parse_fault, parsed_args, slice_get, tokens_of}

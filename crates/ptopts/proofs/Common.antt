@@ -1,4 +1,4 @@
--- Names that many proofs of this crate use.
+-- The names that many proofs of this crate use, imported from other files so that a proof imports them from here.
 use Rattle.ptopts.specs
 use Rattle.std.proofs.lemmas
 pub use Rattle.ptlangs.proofs.Common.{usual}

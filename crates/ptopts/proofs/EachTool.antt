@@ -1,4 +1,5 @@
--- Facts about the syntax of each tool, by computation.
+-- Facts about each tool: no option is both with and without a value, and none is a dash (`IsSyntaxOf`, by
+-- computation); and how many inputs its job has if the operands have no fault (`AreInputsOf`).
 use Rattle.ptopts.proofs
 use proofs.Common.{Comm, Cut, Input, Job, Join, List, None, ParsedOption, Paste, RunComm, RunJoin, RunPaste, RunUniq}
 use proofs.Common.{Tool, Tr, Uniq, false, input_operands, is_flag, job, length, list_all, nat_le, nat_lt, not}

@@ -1,5 +1,5 @@
 -- The loop over the letters of one word: the options so far and the tokens of the remaining letters are those of the
--- word.
+-- word (`GroupRead`). The steps of the loop: an option without a value, one with a value, and a fault.
 use Rattle.ptopts.proofs
 use proofs.Common.{Fault, GroupPost, List, None, OnSome, Option, ParsedOption, Token, Tool, Valid, [], add-one, arith}
 use proofs.Common.{usual, drop, drop-cons, false, flag, is_flag, length, nat_eq, option_view, options_of_tokens}

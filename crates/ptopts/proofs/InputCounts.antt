@@ -1,4 +1,5 @@
--- The number of inputs if the operands have no fault. Each operand is one input.
+-- The number of inputs if the operands have no fault: one of `uniq`, at most 512 of `paste`, and two of `comm` and
+-- `join`, which differ. Each operand is one input.
 use Rattle.ptopts.proofs
 use proofs.Common.{Input, List, None, Operands, ParsedOption, Paste, Some, StandardTwice, [], arith, cond}
 use proofs.Common.{is_standard, is_within, length, list_all, nat_le, operands_fault, or_stdin, order_from, refl, take}

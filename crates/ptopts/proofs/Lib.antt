@@ -1,3 +1,4 @@
+-- The list of the modules of lemmas in this folder, which the proofs of the functions use.
 pub mod Common
 pub mod CommandGrammar
 pub mod EachTool

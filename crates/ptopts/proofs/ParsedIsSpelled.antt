@@ -1,5 +1,6 @@
 -- A parse without a faulty token is one of the grammar: each word of options is flags, perhaps with an option that
--- takes the rest of the word or the next word as its value.
+-- takes the rest of the word or the next word as its value. So the parse and the grammar agree (`read_as_spelled`),
+-- and the grammar accepts words whose parse has no fault (`spelled_if_fine`).
 use Rattle.ptopts.proofs
 use Rattle.std.proofs.lemmas
 use proofs.Common.{AreFlags, Bool, EndOfOptions, FaultlessIsSpelled, Flags, List, None, OperandsAlone}

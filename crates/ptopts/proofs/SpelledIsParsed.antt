@@ -1,5 +1,6 @@
--- A dash is not an option, and no option is both with and without a value, so for words of the grammar only one case of
--- the parse applies.
+-- If the grammar gives options and operands to words, their parse gives the same (`spelled`). A dash is not an
+-- option, and no option is both with and without a value, so only one case of the parse applies to each word. Also
+-- the tokens of a word that begins with options without a value.
 use Rattle.ptopts.proofs
 use proofs.Common.{AreFlags, Bool, EndOfOptions, Flags, IsTrue, List, OperandsAlone, Option, ParsedOption, Spells}
 use proofs.Common.{Token, Tool, Valid, ValueAttached, ValueNext, [], ap, append-nil, arith, usual, false, flag, is_flag}

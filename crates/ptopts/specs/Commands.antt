@@ -1,4 +1,5 @@
--- The command that the words of a command line specify, or the first fault.
+-- The command that the words of a command line specify, or the first fault: the job that the options of each tool
+-- give, its inputs and its output. Also the words and the commands of the code, as values of these definitions.
 use Rattle.std.specs.Prelude.{ℕ, ◌||◌, ◌+◌, List, [], ◌∷◌, Bool, false, not, Option, Some, None, Result, Ok, Err}
 use Rattle.std.specs.Prelude.{if◌then◌else◌, option_and_then, slice_get, unwrap_or, option_map, codes, bytes_eq, filter}
 use Rattle.std.specs.Prelude.{take, map}

@@ -1,3 +1,4 @@
+-- The list of the modules of definitions of this crate.
 pub mod Args
 pub mod Commands
 pub mod Faults

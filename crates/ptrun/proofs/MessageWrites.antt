@@ -1,4 +1,5 @@
--- Texts written to a sink one after another: together they are one text, of which a failure leaves a prefix.
+-- Texts written to a sink one after another: together they are one text, of which a failure leaves a prefix. And a
+-- message as its parts so far, each of which goes on with the next one.
 use Rattle.ptrun.proofs
 use proofs.Common.{Bool, Bor, HasSaid, List, SayPost, SinkState, WriteOutOk, [], ap, append-nil, append_assoc, usual}
 use proofs.Common.{append_known, arith, drop, false, false≢true, flat_map, flat_map-append, get_or}

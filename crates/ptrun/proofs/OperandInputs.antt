@@ -1,6 +1,6 @@
--- One input: what was received from it, the output that was decided two blocks earlier, and how much of that reached
--- the sink. Two calls receive the concatenation of what each receives, and at most one block of the output is buffered.
--- Then the operands of a command, by induction on their list.
+-- Lemmas about the operands of a command, by induction on their list: their inputs and positions, the messages about
+-- them, and the output that is decided. And about one input: what was received from it, the output that was decided
+-- two blocks earlier, and how much of that has reached the sink, of which at most one block is still buffered.
 use Rattle.ptrun.proofs
 use Rattle.ptrun.specs
 use proofs.Common.{All, AllWritten, Any-from_list_any, AreInputsConsistent, Bool, BoundedLag, BufferLag, CommandSpec}

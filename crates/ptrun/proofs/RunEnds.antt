@@ -1,6 +1,7 @@
 -- Runs that have ended are runs as specified (`IsRun`), whether they read nothing or processed their inputs. The main
 -- theorem is that the result of such a run is exact unless a call failed: the bytes that the readers have are
--- consistent with the bytes received, and each cause of a failure contradicts a premise. Then the same for arguments.
+-- consistent with the bytes received, and each cause of a failure contradicts a premise. Then the same for arguments,
+-- and that a run which only says a message is one over any inputs.
 use Rattle.ptrun.proofs
 use Rattle.ptrun.specs
 use proofs.Common.{All, All-map, AreInputsConsistent, AreReadToEnd, Bool, CommandPost, CommandSpec, Completion, Err}

@@ -1,5 +1,6 @@
--- The requirements on one command, in terms of the bytes of its inputs. The inputs have positions: 0 is standard input,
--- and `i` + 1 the `i`-th file.
+-- The requirements on one command, in terms of the bytes of its inputs. The inputs have positions: 0 is standard
+-- input, and `i` + 1 the `i`-th file. And what they say of a run: its messages, the operands that it has read to
+-- their ends, and when something was left to do.
 use Rattle.std.specs.Prelude.{◌≡◌, ◌≢◌, ◌⊎◌, ℕ, ◌==◌, Option, List, [], ◌++◌, Bool, true, flat_map, is_none, length}
 use Rattle.std.specs.Prelude.{take, if◌then◌else◌}
 use Rattle.ptflow.specs.ToolSpec.{ToolSpec}

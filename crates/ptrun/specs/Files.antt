@@ -1,5 +1,6 @@
 -- The inputs of a command by position, and what was received from them. Position 0 is standard input, and `i` + 1 is
--- the `i`-th file.
+-- the `i`-th file. Then the inputs of operands, and the readers by position: new, read to their ends, failed, or with
+-- these bytes to give.
 use Rattle.std.specs.Prelude.{◌≡◌, ℕ, ◌+◌, ◌<◌, ◌≤◌, ◌^◌, List, [], ◌∷◌, ◌++◌, Bool, true, false, Option, Some}
 use Rattle.std.specs.Prelude.{None, IfSome, if◌then◌else◌, slice_index_or, option_map, filter_map, is_none, length, ⊤, All}
 use Rattle.ptlines.specs.Engines.{is_in}

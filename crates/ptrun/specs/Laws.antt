@@ -1,2 +1,2 @@
--- Theorems about the definitions, which public functions state.
+-- Theorems about the definitions, which public functions state: when a run has no message.
 pub mod Silence

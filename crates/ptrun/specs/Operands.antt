@@ -1,5 +1,5 @@
 -- Tools that read their operands one after another: `cut`, `paste -s` and `tr`. A file that could not be opened is
--- reported and skipped.
+-- reported and skipped. And the positions of the operands, for any tool.
 use Rattle.std.specs.Prelude.{Some, ℕ, ◌+◌, true, false, List, [], ◌∷◌, map, flat_map, max, take, if◌then◌else◌}
 use Rattle.std.specs.List.{list_any}
 use Rattle.ptlines.specs.Received.{Received, empty_input}

@@ -1,4 +1,5 @@
-//! The tools that merge two sorted inputs by their keys: `comm` and `join`.
+//! The tools that merge two sorted inputs by their keys, as a run drives them: `comm` and `join`. They borrow the
+//! readers of two operands at once, and report positions in place of sides.
 
 ghost use Rattle.std.specs.Borrow.{Array, LendsBoth, sem};
 ghost use Rattle.std.specs.Prelude.{◌≡◌, ◌<◌, length, set, slice_index_or};

@@ -1,4 +1,5 @@
-//! Writes messages to a sink. Used by every module that reports something; `say` is public.
+//! Writes messages to a sink: `say`, which is public, and `Messages`, a sink of messages that is used up to its first
+//! failure. Used by every module that reports something.
 
 ghost use Rattle.std.specs.Prelude.{◌≡◌, IfSome, true, false};
 ghost use Rattle.ptlines.specs.Sinks.{SinkState};

@@ -1,4 +1,6 @@
-//! The two traits of tools, by which `driver` runs each of them. `tools` and `merge` implement them.
+//! The two traits of tools, by which `driver` runs them: `Sequential` for a tool that reads one operand after another,
+//! and `Joint` for one that reads its operands together, and may report a line that is out of order (`Disorder`). The
+//! modules `tools` and `merge` implement them.
 
 ghost use Rattle.std.specs.Prelude.{◌≡◌, ℕ, List};
 ghost use Rattle.ptflow.specs.Calls.Passes.{PassPre, PassPost};

@@ -1,4 +1,5 @@
--- A room holds a text and the bytes that are added to it, as far as they fit.
+-- A room holds a text and the bytes that are added to it, as far as they fit. So does one to which a name and byte 0
+-- are added, and with them the list of names up to this one.
 use Rattle.std.proofs.Common.{◌≡◌, ◌<◌, ◌≤◌, ◌+◌, ◌-◌, ℕ, suc, List, [], ◌∷◌, ◌++◌, ap, sym, ◌∙◌, arith, length, min, take}
 use Rattle.std.proofs.Common.{⊎_elim, subst, append_assoc, length-append, get_or}
 use Rattle.std.proofs.lemmas.Grind.{flat_map-append}

@@ -1,5 +1,6 @@
 -- A run that returns a sink to which it has added bytes has returned the sink of the same room: the state of a sink
--- begins with the ghost name of its room. And what the room has is what the state says.
+-- begins with the ghost name of its room. Then what it means for a room that a file is appended, and that a room has
+-- what the state of its sink says: all of a text, or its beginning if the room is full.
 use Rattle.std.proofs.Common.{◌≡◌, ℕ, ◌<◌, ◌⊎◌, Bool, true, false, List, [], ◌∷◌, ◌++◌, Option, Some, None, ap, sym, ◌∙◌, refl}
 use Rattle.std.proofs.Common.{arith, inl, inr, length, take, length-append, append_assoc, ⊎_elim}
 use Rattle.std.proofs.lemmas.Bool.{true≢false}

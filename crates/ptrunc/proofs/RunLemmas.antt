@@ -1,5 +1,6 @@
--- A run over memory is a run over files whose contents are known and of which no read fails. So it is exact unless memory
--- runs out.
+-- A run over memory is a run over files whose contents are known and of which no read fails. So it is exact unless
+-- memory runs out. By steps: what was received, which sink or created file has the output, how the run ended, and its
+-- answer. At the end, that the run returned the sinks that fill the rooms of the output and of the messages.
 use Rattle.std.proofs.Common.{◌≡◌, ◌⊎◌, ◌<◌, ◌≤◌, ◌^◌, ℕ, zero, suc, Bool, true, false, List, [], ◌∷◌, ◌++◌, Option}
 use Rattle.std.proofs.Common.{Some, None, All, ap, sym, ◌∙◌, refl, arith, inl, inr, length, map, subst}
 use Rattle.std.proofs.Common.{append_assoc, codes, take, length-append, option_map, ⊎_elim, ◌||◌, if◌then◌else◌}

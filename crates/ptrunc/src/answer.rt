@@ -1,4 +1,5 @@
-//! `Answer`, the result of a call beside the bytes that it writes. Used by `lib`, `naming` and `running`.
+//! `Answer`, the result of a call beside the bytes that it writes, with a `Part` for each text; and `refuse`, the
+//! answer of a call that ran nothing, with its message. Used by `lib`, `naming` and `running`.
 
 ghost use Rattle.std.specs.Prelude.{◌≡◌};
 ghost use Rattle.ptrunc.specs.Calls.Answers.{IsRefused, StatusPost};

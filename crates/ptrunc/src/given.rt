@@ -1,4 +1,5 @@
-//! The arguments of a call as C gives them. Used by `lib`.
+//! The files of a call as C gives them: whether their ends are in order, and how their bytes are split there. Used by
+//! `lib`.
 
 ghost use Rattle.std.specs.Prelude.{◌≡◌, IfOk, length, true};
 ghost use Rattle.ptrunc.specs.Calls.Given.{are_ascending, cut_at};

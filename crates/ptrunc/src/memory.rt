@@ -1,4 +1,5 @@
-//! Room for bytes as a sink. Used by `files`, `running` and `naming`.
+//! Room for bytes, and the sinks in memory: `Kept` keeps its bytes, `Counted` counts them, and `Filling` fills a room
+//! and counts what does not fit. Used by `files`, `running` and `naming`.
 
 ghost use Rattle.std.specs.Prelude.{◌≡◌, ◌+◌, ◌-◌, ◌≤◌, ◌<◌, ◌^◌, false, [], ◌++◌, length, min, take};
 

@@ -1,5 +1,6 @@
--- Examples of `comm`: the output, the messages and the exit status that the specification gives for some arguments and
--- inputs. Each is computed.
+-- Examples of `comm`: the output, the messages and the exit status that the specification gives for some arguments
+-- and inputs (in order, out of order, or not opened), the output that is decided if a read fails, and the bound on
+-- the memory. Each is computed. The definitions by which an example is stated serve those of `join` too.
 use Rattle.std.proofs.Common.{◌≡◌, ℕ, List, [], ◌∷◌, ◌++◌, Some, None, refl, codes, map, true, false}
 use Rattle.std.specs.Prelude.{Option}
 use Rattle.std.specs.Fmt.{digits}

@@ -1,5 +1,6 @@
--- Examples of `join`: the output, the messages and the exit status that the specification gives for some arguments and
--- inputs. Each is computed.
+-- Examples of `join`: the output, the messages and the exit status that the specification gives for some arguments
+-- and inputs (in order, out of order, or not opened), the output that is decided if a read fails, and the bound on
+-- the memory. Each is computed.
 use Rattle.std.proofs.Common.{◌≡◌, ℕ, List, [], ◌∷◌, ◌+◌, ◌*◌, Some, None, refl, codes, map}
 use Rattle.std.specs.Fmt.{digits}
 use Rattle.ptfakes.proofs.SplitWords.{words}

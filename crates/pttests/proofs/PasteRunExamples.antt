@@ -1,5 +1,6 @@
--- Examples of `paste`: the output, the messages and the exit status that the specification gives for some arguments and
--- inputs. Each is computed.
+-- Examples of `paste`: the output, the messages and the exit status that the specification gives for some arguments
+-- and inputs, the output that is decided if a read fails, the bounds on the memory, and the output of 512 columns.
+-- Each is computed.
 use Rattle.std.proofs.Common.{◌≡◌, ℕ, List, [], ◌∷◌, ◌++◌, Some, None, true, false, refl, codes, map, replicate}
 use Rattle.ptlines.specs.Received.{Received}
 use Rattle.ptfakes.proofs.SplitWords.{words}

@@ -1,6 +1,7 @@
--- How far a run went, for three commands. Each lemma holds for every run that meets `IsRun`. So it refuses a body that
--- goes on after a failure, one that does not read its input, and one that runs out of memory when nothing is left to
--- read.
+-- How far a run went, for some commands: where it stopped, that it read its input to the end, and when memory may
+-- have run out. Each lemma holds for every run that meets `IsRun`. So it refuses a body that goes on after a failure,
+-- one that does not read its input, and one that runs out of memory when nothing is left to read. And examples of the
+-- number of slots that a command needs.
 use Rattle.std.specs.List.{list_any}
 use Rattle.std.proofs.Common.{◌≡◌, ℕ, zero, suc, ◌+◌, ◌==◌, ◌∙◌, ◌||◌, ⊎_elim, Bool, true, false, List, [], ◌∷◌, Option}
 use Rattle.std.proofs.Common.{Some, None, refl, sym, ap, subst, arith, codes, map, take}

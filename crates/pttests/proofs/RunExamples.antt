@@ -1,5 +1,6 @@
 -- Examples of `cut` and `uniq`: the output, the messages and the exit status that the specification gives for some
--- arguments and inputs. Each is computed.
+-- arguments and inputs, the output that is decided if a read fails, the message about one operand, and the bound on
+-- the memory. Each is computed.
 use Rattle.std.proofs.Common.{◌≡◌, ℕ, List, [], ◌∷◌, Some, None, refl, codes, false, ◌++◌, map}
 use Rattle.std.specs.Fmt.{digits}
 use Rattle.ptfakes.proofs.SplitWords.{words}

@@ -1,4 +1,5 @@
--- Examples of `tr`: the output that the specification gives for some arguments and inputs. Each is computed.
+-- Examples of `tr`: the output that the specification gives for some arguments and inputs, without a message and with
+-- status 0, and the output that is decided if a read fails. Each is computed.
 use Rattle.std.proofs.Common.{◌≡◌, ℕ, List, [], ◌∷◌, Some, refl, codes, false, map}
 use Rattle.ptlangs.specs.TrClasses.{all_bytes}
 use Rattle.ptfakes.proofs.SplitWords.{words}

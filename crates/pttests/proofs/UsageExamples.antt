@@ -1,4 +1,5 @@
--- Examples of arguments that are no command: the message for each tool and each fault, with status 2.
+-- Examples of arguments that are no command: the message for each tool and each fault, with status 2. And a list of
+-- words with `or`, which a message may contain.
 use Rattle.std.proofs.Common.{◌≡◌, ℕ, List, [], ◌∷◌, ◌++◌, refl, codes, map, replicate}
 use Rattle.ptfakes.proofs.SplitWords.{words}
 use Rattle.ptopts.specs.Syntax.{tools}

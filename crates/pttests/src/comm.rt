@@ -1,4 +1,5 @@
-//! Tests of whole runs of `comm`.
+//! Tests of whole runs of `comm`: files in order and out of order, files that cannot be opened, truncated messages,
+//! and failures of reads, writes and allocations.
 
 use crate::harness::Input::{Failing, Text, Unopened};
 use crate::harness::{

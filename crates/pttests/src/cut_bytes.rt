@@ -1,4 +1,5 @@
-//! Tests of whole runs of `cut` by bytes.
+//! Tests of whole runs of `cut` by bytes: selected bytes, files that cannot be opened, lines across the blocks in
+//! which input is read, and failures of reads, writes and allocations.
 
 use crate::harness::Input::{Failing, Text, Unopened};
 use crate::harness::{

@@ -1,4 +1,5 @@
-//! Tests of whole runs of `cut` by fields.
+//! Tests of whole runs of `cut` by fields: selected fields, several files, lines across the blocks in which input is
+//! read, and failures of reads, writes and allocations.
 
 use crate::harness::Input::{Failing, Text, Unopened};
 use crate::harness::{

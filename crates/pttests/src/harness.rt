@@ -1,4 +1,6 @@
-//! Runs whole commands and compares the results. Used by most tests of the crate.
+//! Runs whole commands and compares the results: cases with their inputs and the limits of their sinks, and functions
+//! that run tables of them, let each write or allocation fail in turn, count calls and allocations, or expect that
+//! nothing is done. Used by most tests of the crate.
 
 ghost use Rattle.std.specs.Prelude.{◌≡◌, ◌+◌, false, All, IfOk, IfSome, vec_len};
 ghost use Rattle.ptrun.specs.SpecOfArgs.{file_count};

@@ -1,4 +1,5 @@
-//! Tests of whole runs of `join`.
+//! Tests of whole runs of `join`: files in order and out of order, files that cannot be opened, and failures of
+//! reads, writes and allocations.
 
 use crate::harness::Input::{Failing, Text, Unopened};
 use crate::harness::{

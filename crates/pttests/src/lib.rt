@@ -1,4 +1,5 @@
-//! Tests of whole runs, over sources and sinks of `ptfakes`.
+//! Tests of whole runs, over sources and sinks of `ptfakes`: of each tool, of the memory of a run, of calls that
+//! fail, and of arguments that are no command.
 #![tactic(auto)]
 
 #[cfg(test)]

@@ -1,4 +1,5 @@
-//! Tests of whole runs of `paste`.
+//! Tests of whole runs of `paste`, with `-s` and without: rows of several inputs, lines across the blocks in which
+//! input is read, operands that cannot be opened, and failures of reads, writes and allocations.
 
 use crate::harness::Input::{Failing, Text, Unopened};
 use crate::harness::{

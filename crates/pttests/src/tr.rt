@@ -1,4 +1,4 @@
-//! Tests of whole runs of `tr`.
+//! Tests of whole runs of `tr`: bytes that are translated, deleted and squeezed, and a read or a write that fails.
 
 use crate::harness::Input::{Failing, Text};
 use crate::harness::{

@@ -1,4 +1,5 @@
-//! Tests of whole runs of `uniq`.
+//! Tests of whole runs of `uniq`: runs of equal lines, lines and runs across the blocks in which input is read, a
+//! file that cannot be opened, and failures of reads, writes and allocations.
 
 use crate::harness::Input::{Failing, Text, Unopened};
 use crate::harness::{

@@ -1,4 +1,5 @@
-//! Arguments that are no command: the message about each fault of each tool, and status 2.
+//! Arguments that are no command: the message about each fault of each tool, and status 2. And the limit of 512
+//! operands: a command may have as many, and not one more.
 
 use crate::harness::Input::Text;
 use crate::harness::{case_over, expect, expect_usage_error};

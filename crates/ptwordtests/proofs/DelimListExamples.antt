@@ -1,4 +1,5 @@
--- Examples of lists of `paste`: the delimiters of each, or its fault. They hold by computation.
+-- Examples of lists of `paste`: the delimiters of each, or its fault; and that a list is used again from its
+-- beginning. They hold by computation.
 use Rattle.std.proofs.Common.{◌≡◌, ℕ, List, [], ◌∷◌, refl, codes, map, Option, Some, None, Result, Ok, Err}
 use Rattle.ptlangs.specs.DelimLists.{delim_list, delim_at}
 use Rattle.ptlangs.specs.declared.delims.DelimFault.{DelimFault}

@@ -1,3 +1,4 @@
+-- The list of the modules of proved examples in this folder.
 mod CutListExamples
 mod DelimListExamples
 mod CommandExamples

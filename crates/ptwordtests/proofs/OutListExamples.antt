@@ -1,4 +1,4 @@
--- Examples of output lists: the fields of each, or its fault. They hold by computation.
+-- Examples of output lists of `join`: the fields of each, also by index, or its fault. They hold by computation.
 use Rattle.std.proofs.Common.{◌≡◌, ℕ, List, [], ◌∷◌, refl, codes, map, Some, None, Result, Ok, Err}
 use Rattle.ptlangs.specs.OutLists.{out_list}
 use Rattle.ptlangs.specs.Calls.OutLists.{field_at}

@@ -1,5 +1,6 @@
-//! Examples of command lines, for every tool: one function parses, and others compare the command. A function that owns
-//! values drops them at each of its exits, and each exit costs a proof.
+//! What is expected of a command line of any tool (`Expected`), and its test: one function parses the words,
+//! and others compare the command. A function that owns values drops them at each of its exits, and each exit
+//! costs a proof.
 
 use crate::asserts::{assert_for, assert_same};
 use crate::join_words::{Join, check_join};

@@ -1,4 +1,4 @@
-//! The default jobs of the tools.
+//! A test of the default jobs of `paste`, `uniq`, `comm` and `join`, and of the one of `paste` if memory runs out.
 
 use crate::asserts::assert_same;
 use ptfakes::FailingAlloc;

@@ -1,4 +1,5 @@
-//! Examples of the strings of `tr`.
+//! Tests of the strings of `tr`: accepted ones, with some input and the output; rejected ones, with the fault; each
+//! class over all bytes; and the stretches and tables of a plan.
 
 use crate::asserts::{assert_for, assert_same_for};
 use ptlangs::{

@@ -1,4 +1,5 @@
-//! Examples of command lines of each tool; those of `join` and `tr` are in modules of their own.
+//! Tests of command lines: examples of each tool (those of `join` and `tr` are in modules of their own), an example
+//! of each fault, the line terminator and the order of lines, and the limits on the number of operands.
 
 use crate::asserts::{assert_for, assert_same};
 use crate::expected::{Example, Expected, Files, Job, expect_command};

@@ -1,4 +1,6 @@
--- The contract of a run over numbered streams: 0 is standard input, 1 the output, 2 the messages, 3 + i the file i.
+-- Runs over numbered streams: 0 is standard input, 1 the output, 2 the messages, 3 + i the file i. The streams as
+-- files, the status, and the contracts of a run whose words are a list (`RunStreamsPost`) and of one whose words are
+-- bytes (`GivenStreamsPost`), which may be refused.
 use Rattle.std.specs.Prelude.{◌≡◌, ◌⊎◌, ◌+◌, ℕ, Bool, not, List, [], Option, Some, None, All, ◌||◌, ◌==◌}
 use Rattle.std.specs.Prelude.{codes, ◌∷◌, if◌then◌else◌, option_map, slice_index_or}
 use Rattle.std.specs.Str.{IsUtf8}

@@ -1,4 +1,5 @@
--- The state of an `Output`: that of its file, or that of a closed sink.
+-- The state of an `Output`: that of its file, or that of a closed sink. A mark before the accepted bytes tells
+-- which.
 use Rattle.std.specs.Prelude.{◌∷◌, option_map}
 use Rattle.ptfiles.specs.Outputs.{closed_state}
 use Rattle.ptfiles.specs.declared.output.Output.{Output}

@@ -1,4 +1,5 @@
--- The contracts of the private functions of `shell`: the inputs are opened, and the command is run over them.
+-- The contracts of the private functions of `shell`: the inputs are opened, the place that the command writes to is
+-- found, and the command is run over its inputs.
 use Rattle.std.specs.Prelude.{◌≡◌, ◌⊎◌, ℕ, true, false, List, [], ◌∷◌, Option, Some, None, Result, Ok, Err}
 use Rattle.std.specs.Prelude.{All, length}
 use Rattle.ptfiles.specs.Files.{AreContents, FilesState, Input, IsNewInput, new_readers, with_opened}

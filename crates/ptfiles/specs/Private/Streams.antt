@@ -1,4 +1,5 @@
--- The streams of a host as files.
+-- For the streams of a host as files: what it means that an output is the stream with a state (`IsStream`), and the
+-- postcondition of opening a stream (`OpenedPost`).
 use Rattle.std.specs.Prelude.{◌≡◌, Option, Some, option_map}
 use Rattle.ptfiles.specs.Files.{Content, Input, IsContent, IsNewInput}
 use Rattle.ptlines.specs.Sinks.{SinkState}

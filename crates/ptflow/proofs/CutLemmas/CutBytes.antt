@@ -1,5 +1,7 @@
--- The output of `cut` by bytes for the rest of a text. It depends on the line offset; at offset 0 the rest is a text of
--- its own.
+-- The output of `cut` by bytes. First what intervals select: slices, one after another, with the invariant of the loop
+-- that copies them. Then the output for the rest of a text, which depends only on the line offset: for a line, a piece
+-- of one, or 64 empty lines, and what of it is decided. Last byte shuffles: how the row and the counts of a piece are
+-- made, and that they copy the selected bytes of a line piece by piece.
 use Rattle.ptflow.proofs
 use Rattle.ptflow.specs
 use proofs.Common.{◌≡◌, ℕ, ◌+◌, ◌-◌, ◌≤◌, ◌^◌, Bool, false, List, [], ◌∷◌, ◌++◌, map, length, take, drop, Some, refl}

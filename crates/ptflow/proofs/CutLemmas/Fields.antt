@@ -1,6 +1,7 @@
 -- The output of `cut` by fields. The fields after the first n start after the n-th delimiter. The fields of an
--- interval, with the delimiter before each, are one slice of the line; so the output is these slices, the first without
--- the delimiter before it. No state is carried from line to line.
+-- interval are one slice of the line, so the output of a line is slices, one for each step of the cursor. It is not
+-- longer than the line. Lines without the delimiter are kept or dropped, at the front of a block all at once. Last,
+-- the law of `cut` of a text in parts (`CutOfParts`).
 use Rattle.ptflow.proofs
 use proofs.Common.{usual, ◌≡◌, ℕ, zero, suc, ◌+◌, ◌<◌, ◌==◌, ◌-◌, ◌≤◌, Bool, true, false, List, [], ◌∷◌, ◌++◌, length}
 use proofs.Common.{take, drop, refl, sym, ap, arith, join_with_byte, append-nil, take-take, take-add, take_all}

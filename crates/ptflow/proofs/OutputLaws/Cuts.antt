@@ -1,5 +1,6 @@
--- Theorems about the output of `cut`. If all is selected, a line is what it was split into, joined again. The fields of
--- a row of `paste` are what the row is split into.
+-- The laws of the output of `cut`, with their lemmas. If all bytes or all fields are selected, the lines are written
+-- as they are (`CutOfAll`). `cut -f` takes a column out of the rows that `paste` writes, since the fields of a row are
+-- what the row is split into (`CutAfterPaste`).
 use Rattle.ptflow.specs
 use Rattle.std.proofs.Common.{◌≡◌, ◌≢◌, ℕ, ◌+◌, ◌<◌, ◌≤◌, ◌==◌, Bool, true, false, List, [], ◌∷◌, ◌++◌, refl, ap, sym}
 use Rattle.std.proofs.Common.{◌∙◌, arith, zero, suc, length, map, append_assoc, Some}

@@ -1,4 +1,5 @@
--- If no input is named twice, a column of `paste` has all lines of its input.
+-- The law of the output of `paste` without `-s` if no input is named twice: each column has all lines of its input, so
+-- each row has the line of each input with its number (`PasteOfDifferent`).
 use Rattle.ptflow.proofs
 use Rattle.ptflow.specs
 use Rattle.std.proofs.Common.{◌≡◌, ℕ, ◌+◌, ◌≤◌, ◌<◌, ◌==◌, List, [], ◌∷◌, refl, ap, sym, ◌∙◌, arith, length, map, take}

@@ -1,4 +1,6 @@
--- Theorems about the output of `tr` for plans of one or two arrays: what the tables of a plan have for each byte.
+-- The laws of the output of `tr`: translation keeps the number of bytes (`TranslationKeepsLength`), and `tr -d` and
+-- `tr -cd` share out the bytes (`DeletedOrKept`). Their lemmas say what the tables of a plan have for a byte: its
+-- image, and whether it is deleted or squeezed.
 use Rattle.ptflow.proofs
 use Rattle.ptflow.specs
 use Rattle.std.proofs.Common.{◌≡◌, ℕ, ◌<◌, Bool, false, List, [], ◌∷◌, refl, ◌∙◌, ap, sym, arith, map, filter, not, get_or, None}

@@ -1,5 +1,6 @@
--- Theorems about the output of `uniq`. A line that is put before some runs adds one to their counts. What it joins has
--- its key, so adjacent runs have different keys, and the first lines of the runs are runs of their own.
+-- The laws of the output of `uniq`: the counts of the runs add up to the number of lines (`CountsAddUp`); each line
+-- that `uniq` writes is written by exactly one of `uniq -d` and `uniq -u` (`RepeatedOrSingle`); and `uniq` leaves its
+-- own output as it is, since adjacent runs have different keys (`UniqTwice`).
 use Rattle.ptflow.specs
 use Rattle.std.proofs.Common.{◌≡◌, ℕ, ◌+◌, ◌<◌, true, false, List, [], ◌∷◌, ◌++◌, refl, ap, ◌∙◌, arith, map}
 use Rattle.std.specs.Prelude.{sum_by, if◌then◌else◌}

@@ -1,7 +1,7 @@
 -- The exits of a pass over one input, for every tool: the call did nothing, a slot was refused, a read, a write or an
--- allocation failed, or the input ended. Between two steps the pushed bytes, followed by the output for the rest, are
--- the output for every continuation of the input. So the output is exact at the end of the input, it is a
--- prefix of the output for each consistent input, and decided output is written.
+-- allocation failed, or the input ended. At each, the pushed bytes and the output for the rest are together that for
+-- every continuation. Besides: facts about readers, several pushes as one, the state of the loop over blocks, the
+-- lines of a text that was read in part, and the output that is decided two blocks earlier.
 use Rattle.ptflow.proofs
 use Rattle.ptflow.specs
 use proofs.Common.{◌≡◌, ℕ, ◌≤◌, ◌<◌, ◌^◌, true, false, List, [], ◌++◌, length, None, Result, Ok, Err, max, arith, Slots}

@@ -1,6 +1,7 @@
--- Rows that are copied from the buffers of the readers. If all n columns read one input, a row takes n of its lines;
--- with their terminators replaced by the cycle (the delimiters of the row, then its terminator) these are the row. So
--- bytes that end with a terminator, and in which there are count * n terminators, are `count` rows.
+-- Rows that are copied from the buffers of the readers: column by column, or many rows at once if all n columns read
+-- one input. Then a row takes n of its lines; with their terminators replaced by the cycle (the delimiters of the row,
+-- then its terminator) these are the row. So bytes that end with a terminator, and in which there are count * n
+-- terminators, are `count` rows.
 pub mod Rows
 use Rattle.ptflow.proofs
 pub use proofs.Common.{ne_eqb, append_assoc, nat_tests, mod-mul-add, count_by, is_byte, advance_ok_take, usual}

@@ -1,4 +1,6 @@
--- Bytes whose terminators are replaced: 64 at a time, where the terminators are the bits of a mask, then byte by byte.
+-- Bytes whose terminators are replaced in turn by given texts: of two parts of a text, of 64 bytes, where the
+-- terminators are the bits of a mask, and byte by byte. Then the output of `paste -s` from a position on: pieces that
+-- are copied one after another, and what of the output is decided.
 use Rattle.ptflow.proofs
 use Rattle.ptflow.specs
 use proofs.Common.{◌≡◌, ◌≢◌, ℕ, zero, suc, ◌+◌, ◌-◌, ◌%◌, ◌^◌, ◌==◌, ◌<◌, ◌≤◌, Bool, cond, List, [], ◌∷◌, ◌++◌, length}

@@ -1,5 +1,6 @@
--- The columns of a segment are copied one by one: each column after the first has an empty field, and its reader stays
--- as it is.
+-- Segments of a row of `paste`: a column, and the columns after it whose inputs have ended. They are appended to a
+-- list, and taken from its front, one by one, and stay valid when bytes are consumed. To copy a segment is to copy its
+-- columns one by one: each after the first has an empty field, and its reader stays as it is.
 use Rattle.ptflow.proofs
 use proofs.Common.{◌<◌, ◌≤◌, suc, zero, replicate, false, set-get_or, sum_by, sum_by-cons, append-nil, append_assoc, usual, length-append, ap, ◌-◌, cases_lt, inl, inr, drop_all, ◌∙◌, drop, subst}
 use proofs.PasteLemmas.BufferedRows.{IsFieldCopied, sound_after_consume, AreConsumed, IsSound, take, sym, Bool, ◌||◌, List, ℕ, [], ◌∷◌, ◌++◌, ◌+◌, ◌≡◌, length, get_or, set, Reader, reader_at, RowShape, BegunText, BufferedRowsPre, CopyColumnsPost, after_cell, cells_text, cells_text-append, columns_more, consumed_trans, arith, refl}

@@ -1,4 +1,5 @@
--- The flags of a set, counted byte by byte: one that is set alone is the last one.
+-- The loop invariant of `FilterSet::of` (`IsCounted`), and its two steps, for a flag that is set or clear: at most
+-- `count` of the first flags are set. If `count` is 0, none is, and if it is 1, only the flag at index `last` is.
 use Rattle.ptflow.proofs
 use proofs.Common.{◌≡◌, ◌≤◌, ◌<◌, ◌+◌, ℕ, Bool, true, false, List, get_or, eqb, arith, ⊎_elim}
 use proofs.Common.{cases_eq, eq-eqb, ne_eqb}

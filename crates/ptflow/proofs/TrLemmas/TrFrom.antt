@@ -1,5 +1,7 @@
--- The output of `tr` for the rest of a text, and for one that is cut anywhere. The last output byte is the only state,
--- since squeezing looks back no further.
+-- The output of `tr` for the rest of a text, block by block, and what of it is decided. The last output byte is the
+-- only state, since squeezing looks back no further. If nothing is deleted or squeezed, all bytes stay. Then the laws
+-- of a text that is cut in two (`TrOfParts`, `TrOfAnyParts`, `TrAfterByte`, `TrMeetsTwice`), and tests that agree on
+-- all bytes.
 use Rattle.ptflow.proofs
 use proofs.Common.{usual, ◌≡◌, ℕ, ◌-◌, not, Bool, false, List, [], ◌∷◌, ◌++◌, Option, None, Some, length, refl}
 use proofs.Common.{ap, arith, filter, slice_get, last_or, option_or, append-nil, map-append, filter-append, IsPrefix}

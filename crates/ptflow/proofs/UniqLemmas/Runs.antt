@@ -1,6 +1,7 @@
--- The runs of lines, from the first line on, and in a block line by line. A line adds to the count of the current run
--- or ends it. Output that is contiguous in the block is deferred, so the output so far is the pushed bytes and then the
--- deferred ones.
+-- The runs of lines, from the first line on, and in a block line by line, with the invariant of the loop over its
+-- lines. A line, or many copies of it at once, adds to the count of the current run, or ends it. Output that is
+-- contiguous in the block is deferred, so the output so far is the pushed bytes and then the deferred ones. Last, that
+-- `uniq` works line by line, and the laws of inputs in parts (`UniqOfParts`, `UniqByKey`).
 use Rattle.ptflow.proofs
 use Rattle.ptflow.specs
 use proofs.Common.{◌≡◌, ℕ, ◌+◌, ◌&&◌, Bool, true, false, cond, List, [], ◌∷◌, ◌++◌, refl, ap, arith, usual, nat_lt}

@@ -1,6 +1,6 @@
 -- Compression: a row has the indices of the set flags of a mask, in order, so a shuffle by it moves the selected lanes
--- to the front. Then filters: a byte is kept or removed by itself and the byte that it is compared with, so a text can
--- be processed in pieces.
+-- to the front. A row is made index by index, and a mask of 16 flags is two halves. Then filters: a byte is kept or
+-- removed by itself and the byte that it is compared with, so a text can be processed in pieces (`FilterInvariant`).
 use Rattle.ptflow.proofs
 use proofs.Common.{usual, ◌≡◌, ℕ, zero, suc, ◌+◌, ◌*◌, ◌^◌, ◌/◌, ◌%◌, ◌<◌, ◌≤◌, Bool, true, false, cond, List, []}
 use proofs.Common.{◌∷◌, ◌++◌, map, length, take, drop, set, get_or, length-drop, drop-cons, append_assoc, add-one}

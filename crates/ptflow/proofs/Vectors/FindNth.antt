@@ -1,5 +1,6 @@
--- The n-th item of a list that passes a test: the lowest set bit of a mask of which the lowest n were cleared. The
--- terminators in 64 bytes are processed in order by clearing the lowest bit.
+-- The n-th item of a list that passes a test: the lowest set bit of a mask of which the lowest n were cleared. Then
+-- counts of such items, and the n-th of them, in a chunk and in the first bytes, and by the first match. The
+-- terminators in 64 bytes are processed in order by clearing the lowest bit (`NextTerminator`).
 use Rattle.ptflow.proofs
 use Rattle.std.proofs.lemmas
 use proofs.Common.{◌≡◌, ℕ, zero, suc, ◌+◌, ◌-◌, ◌/◌, ◌%◌, ◌^◌, ◌<◌, ◌≤◌, Bool, true, false, cond, not}

@@ -1,6 +1,7 @@
--- Vector operations. Each is a `map` over the lanes, so facts about one byte carry over. A flag of a byte set is one
--- bit of one entry: the low nibble of a byte gives the entry, the high one the table and the bit. Images are looked up
--- in every row of a table; then each step halves the rows, and the lowest bit of a lane's row picks one of two vectors.
+-- Vector operations. Each is a `map` over the lanes, so facts about one byte carry over: for bytes that are mapped,
+-- ranges that are shifted, sets of bytes, and tables of images. A flag of a byte set is one bit of one entry: the low
+-- nibble of a byte gives the entry, the high one the table and the bit. Images are looked up in every row of a table;
+-- then each step halves the rows, and the lowest bit of a lane's row picks one of two vectors.
 use Rattle.ptflow.proofs
 use Rattle.ptflow.specs
 use Rattle.std.proofs.lemmas

@@ -1,5 +1,6 @@
--- Few bytes are removed of 64: all are stored, and after each removed byte again those after it. So the bytes up to the
--- last removed one are those that are kept, and after them are all that follow it.
+-- The bytes that a filter removes of 64, by a mask. If they are few, all are stored, and after each removed byte again
+-- those after it: the bytes up to the last removed one are those that are kept, and after them are all that follow it
+-- (`IsCopied`). Then this mask as four of 16 bits, and the flags of the bytes that a filter keeps.
 use Rattle.ptflow.proofs
 use proofs.Common.{arith, rules, ◌≡◌, ℕ, ◌+◌, ◌-◌, ◌*◌, ◌/◌, ◌%◌, ◌^◌, ◌<◌, ◌≤◌, Bool, true, false, not}
 use proofs.Common.{List, ℤ, [], ◌∷◌, ◌++◌, map, length, take, drop, refl, sym, ◌∙◌, ap, chunk, put_chunk, mask_l, cond}

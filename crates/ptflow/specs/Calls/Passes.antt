@@ -1,4 +1,5 @@
--- The precondition and the postcondition of an engine that is called on one input.
+-- The precondition and the postcondition of an engine that is called on one input: with a store (`PassPost`), or
+-- without one (`StorelessPost`).
 use Rattle.std.specs.Prelude.{◌≡◌, ℕ, true, false, [], None, Result, Ok, Err}
 use Rattle.ptflow.specs.Passes.{pass_engine}
 use Rattle.ptflow.specs.ToolSpec.{ToolSpec}

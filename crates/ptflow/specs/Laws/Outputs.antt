@@ -1,5 +1,5 @@
--- Laws of the output for a whole input, which a reader can judge without computing it. They are about the
--- definitions, so they show that these mean what one expects.
+-- Laws of the output for a whole input, which a reader can judge without computing it: of `cut`, `uniq`, `tr`,
+-- `paste`, and `cut` after `paste`. They are about the definitions, so they show that these mean what one expects.
 use Rattle.std.specs.Prelude.{◌≡◌, ◌≢◌, ◌≤◌, ◌<◌, ℕ, ◌+◌, ◌==◌, true, false, List, [], ◌∷◌, ◌++◌, length, map, filter}
 use Rattle.std.specs.Prelude.{not, sum_by, slice_index_or, Some, All, if◌then◌else◌}
 use Rattle.std.specs.List.{flat_map}

@@ -1,4 +1,6 @@
--- The output of the tools for a text that is cut into two parts.
+-- Laws of the output for a text that is cut into two parts: where the cut has to be, so that the output of `cut`,
+-- `tr`, `uniq` or `paste` is that for each part, one after the other. For `tr` also what happens elsewhere, and for
+-- `uniq` the output for lines that are chosen by their keys.
 use Rattle.std.specs.Prelude.{◌≡◌, ◌≢◌, ◌⊎◌, ◌≤◌, ◌<◌, ◌*◌, ℕ, Bool, true, false, List, [], ◌∷◌, ◌++◌, length, filter}
 use Rattle.std.specs.List.{AllByRecursion}
 use Rattle.ptflow.specs.Cuts.{cut}

@@ -1,4 +1,6 @@
-//! Sets of bytes that test 16 bytes at once. `filter` and `tr` use them.
+//! Sets of bytes that test 16 bytes at once: the trait `ByteTest`, the set of one byte, and sets of any bytes as two
+//! bit tables. `filter` and `tr` use them. Also look-ups in a table of 16 by the nibbles of bytes, of which `table`
+//! uses one.
 
 ghost use Rattle.std.specs.Prelude.{◌≡◌, ◌/◌, ◌%◌, ℕ, Bool, map, slice_index};
 ghost use Rattle.memchr.specs.Find.{is_byte};

@@ -1,6 +1,6 @@
 //! Appends the selected bytes of a vector of 16 bytes to an output buffer (`compress16`), or a chunk of 64 bytes of
-//! which all are selected (`copy_chunk`). `filter` uses both. The rows of the `CompressTable`, which `tr`
-//! makes, are byte shuffles that move the selected bytes of eight to the front.
+//! which all are selected (`copy_chunk`), or nearly all (`copy_without`). `filter` uses these. The rows of the
+//! `CompressTable`, which `tr` makes, are byte shuffles that move the selected bytes of eight to the front.
 
 ghost use Rattle.std.specs.Prelude.{◌≡◌, ◌≤◌, ◌+◌, ◌++◌, ℕ, List, Bool, length, take};
 ghost use Rattle.std.specs.Simd.Lanes.{mask_l, chunk, put_chunk};

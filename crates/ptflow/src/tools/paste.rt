@@ -1,5 +1,8 @@
-//! `paste`: the engine that merges corresponding lines of several inputs, row by row. The module `serial` has the
-//! engine of `paste -s`, which `ptrun` runs over one input after the other.
+//! `paste`: the engine that merges corresponding lines of several inputs, row by row. Rows that are complete in the
+//! buffers of the readers are copied by `buffered_rows`, or by `shared_input` if there is one input. The functions
+//! here finish a row with the store: they read lines into slots, and write the row.
+//!
+//! The module `serial` has the engine of `paste -s`, which `ptrun` runs over one input after the other.
 
 ghost use Rattle.std.specs.Prelude.{◌≡◌, ◌<◌, ◌≤◌, length, take, false, None, [], ◌++◌, All};
 ghost use Rattle.ptlines.specs.Calls.Outputs.{PushPost, PushEffect};

@@ -1,5 +1,5 @@
--- The byte map of a plan of `tr` as shifts: a stretch is a range of successive byte values to which the same number is
--- added. `src/tr/shifts.rt` makes the stretches of a table of images.
+-- The byte map of a plan of `tr` as shifts: a stretch is a range of successive byte values to which the same number
+-- is added. The stretches of a table of images, which `src/tr/shifts.rt` makes, and the images that stretches give.
 use Rattle.std.specs.Prelude.{◌≡◌, ◌<◌, ℕ, ◌+◌, ◌-◌, ◌%◌, ◌==◌, ◌&&◌, List, [], ◌∷◌, nat_le, sum_by, if◌then◌else◌}
 use Rattle.ptlangs.specs.TrTables.{Tables, image}
 use Rattle.ptlangs.specs.declared.tr.shifts.Stretch.{Stretch}

@@ -35,7 +35,7 @@ pub data SpellsChars : List ℕ → List SetChar → Type 0 where
   AChar : (bs rest : List ℕ) (u : SetChar) (us : List SetChar) → SpellsChar bs u rest → SpellsChars rest us
       → SpellsChars bs (u ∷ us)
 
--- ---- functions that compute the grammar
+-- ---- the law
 
 -- `chars` gives the characters of the grammar, and only those
 abbrev pub CharsMatchGrammar : Type 0

@@ -67,7 +67,7 @@ abbrev pub AreElements : List SetChar → List SetElement → Type 0
 AreElements us [] = us ≡ []
 AreElements us (p ∷ ps) = (rest : List SetChar) × StartsElement us p rest × AreElements rest ps
 
--- ---- functions that compute the grammar: the first element, and the rest after it
+-- ---- the law
 
 -- `set_elements` gives the elements of the grammar, all without a fault, and only those
 abbrev pub ElementsMatchGrammar : Type 0

@@ -1,5 +1,5 @@
-//! The characters of a string of `tr`: plain bytes and escapes (POSIX.1-2017, XCU, `tr`, "EXTENDED DESCRIPTION").
-//! `elements` reads a string with it.
+//! The characters of a string of `tr`: plain bytes and escapes (POSIX.1-2017, XCU, `tr`, "EXTENDED DESCRIPTION"),
+//! and the value of digits in a base. `elements` reads a string with it.
 ghost use Rattle.std.specs.Prelude.{◌≡◌, ◌+◌, ◌*◌, ◌^◌, ◌<◌, ◌≤◌, ◌∷◌, length, drop, take, nat_le, Some, None};
 ghost use Rattle.std.specs.Prelude.{if◌then◌else◌, All, IfOk};
 ghost use Rattle.std.specs.Char.{digit_value};

@@ -1,4 +1,5 @@
-//! Which bytes the array of a string of `tr` contains, and how many bytes it has. `plan` makes its tables with it.
+//! Which bytes the array of a string of `tr` contains, and how many bytes it has; also of its complement. `plan`
+//! makes its tables with it.
 ghost use Rattle.std.specs.Prelude.{◌≡◌, ◌+◌, ◌^◌, ◌<◌, ◌≤◌, ◌++◌, ◌∷◌, [], ℕ, List, IfOk, length, replicate};
 ghost use Rattle.ptlangs.specs.declared.tr.segments.Segment.{Segment};
 ghost use Rattle.ptlangs.specs.TrPlan.{array, complement_of, string_segments};

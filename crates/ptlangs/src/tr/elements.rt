@@ -1,6 +1,6 @@
-//! Reads one element of a string of `tr` at a given index: a single character, a range, or one of the bracketed forms
-//! `[x*n]`, `[:class:]` and `[=x=]` (POSIX.1-2017, XCU, `tr`, "EXTENDED DESCRIPTION"). `bytes` reads a whole string by
-//! calls of `element_at`.
+//! Reads one element of a string of `tr` at a given index: a single character, a range, or one of the bracketed
+//! forms `[x*n]`, `[:class:]` and `[=x=]` (POSIX.1-2017, XCU, `tr`, "EXTENDED DESCRIPTION"). `bytes` reads a whole
+//! string by calls of `element_at`. And the law that characters and elements are those of the grammar.
 ghost use Rattle.std.specs.Prelude.{◌≡◌, ◌≢◌, ◌+◌, ◌<◌, ◌≤◌, ◌∷◌, [], ℕ, List, Some, length, drop, option_map};
 ghost use Rattle.std.specs.Prelude.{IfSome, IfOk, slice_range};
 ghost use Rattle.std.specs.List.{take_while, list_all, AllPass};

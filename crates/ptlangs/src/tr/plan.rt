@@ -1,5 +1,6 @@
 //! The plan of `tr`: for each byte, what happens to it (POSIX.1-2017, XCU, `tr`). `ptopts` makes a plan from the
-//! strings of a command line; `ptflow` applies it to the input.
+//! form and the strings of a command line; `ptflow` applies it to the input. And laws: the tables of a plan agree
+//! with its arrays, and reading the strings never fails for lack of memory.
 ghost use Rattle.std.specs.Prelude.{◌≡◌, ◌^◌, ◌<◌, [], ℕ, List, Ok, IfOk, IfSome, MatchOption, length, false, true};
 ghost use Rattle.std.specs.Prelude.{is_some, option_copied};
 ghost use Rattle.ptlangs.specs.declared.faults.SetFaultKind.{SetFaultKind};

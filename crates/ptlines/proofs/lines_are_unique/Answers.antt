@@ -1,3 +1,4 @@
+-- `lines_are_unique`: the two theorems that its contract states are those proved in `TextLaws`.
 use Rattle.ptlines.proofs
 use proofs.TextLaws.{the_lines, the_complete_lines}
 use proofs.lines_are_unique.Goals as goal

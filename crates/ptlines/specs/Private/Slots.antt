@@ -1,4 +1,5 @@
--- The invariants of `Store` and `Slot`: all bytes are counted, and buffers are not much longer than lines.
+-- The invariants of `Store` and `Slot`: all bytes are counted, and buffers are not much longer than lines. And what
+-- it means that missing slots were added to a store.
 use Rattle.std.specs.Prelude.{All, ℕ, ◌+◌, ◌*◌, ◌≡◌, ◌≤◌, ◌^◌, false, List, length}
 use Rattle.std.specs.Prelude.{map, max}
 use Rattle.ptlines.specs.Slots.{Slots, total_bytes}

@@ -1,6 +1,7 @@
--- Fields of a line of `join`: how they are found and written. A line is split by repeatedly taking the bytes before the
--- first separator, so a field starts where the split finds it. Joining undoes splitting, so the fields of a canonical
--- line give the line back, and the fields after a field are the bytes after it.
+-- Fields of a line of `join`: how they are found, by a split or by masks of blanks and separators, where they are in
+-- the line, and how they are written, in several writes of which one may fail. A line is split by repeatedly taking
+-- the bytes before the first separator. Joining undoes splitting, so a canonical line is written unchanged: its fields
+-- give the line back, and the fields after a field are the bytes after it.
 use Rattle.ptmerge.proofs
 use Rattle.ptmerge.specs
 use Rattle.std.proofs.lemmas

@@ -1,6 +1,7 @@
--- The group of one key: its lines are read, paired and then closed. Lesser keys are complete and the pairs of the group
--- are written in their final order, so output during a group is a prefix of the output for all inputs. Once both inputs
--- are past the key, the group counts as processed.
+-- The group of one key: the slots of its lines, how they are copied and emptied, and the largest group, which bounds
+-- the store; and tools that write pairs. The lines are read, paired and then closed. Lesser keys are complete and the
+-- pairs of the group are written in their final order, so output during a group is a prefix of the output for all
+-- inputs. Once both inputs are past the key, the group counts as processed.
 use Rattle.ptmerge.proofs
 use Rattle.ptmerge.specs
 use Rattle.std.proofs.lemmas

@@ -1,5 +1,7 @@
--- Each input of a merge, and the exits of a tool. At an exit the lines read, the processed ones and a bound on the
--- others are known for each input; the contract of the tool follows from these and from the output.
+-- The invariant of one input of a merge, which holds again after its next line; the bound of the lag, by which all
+-- output is written that was decided two blocks earlier; and the exits of a tool. At an exit the lines read, the
+-- processed ones and a bound on the others are known for each input; the contract of the tool follows from these and
+-- from the output.
 pub mod Invariant
 pub mod SlotLines
 use Rattle.ptmerge.proofs

@@ -1,5 +1,6 @@
--- The columns of `comm`. Sorted lines are those of each key, one key after another, so an input and itself have it in
--- the third column. Two lists in order with the same members are the same, so the keys of exchanged inputs are.
+-- The laws of the columns of `comm`. An input and itself have all lines in the third column, since sorted lines are
+-- those of each key, one key after another. Exchanged inputs have exchanged columns, since two lists of keys in order
+-- with the same members are the same.
 use Rattle.ptmerge.proofs
 use Rattle.ptmerge.specs
 use Rattle.std.proofs.Common.{◌≡◌, inl, inr, ℕ, ◌-◌, Bool, true, false, List, [], ◌∷◌, ◌++◌, refl, ap, sym}

@@ -1,4 +1,4 @@
--- `join` as a merge, in any order of its join fields.
+-- The join field of a line, as its key; and `join` as a merge, in any order of its join fields.
 use Rattle.std.specs.Prelude.{ℕ, ◌+◌, ◌*◌, Option, if◌then◌else◌}
 use Rattle.ptlines.specs.ByteOrder.{Cmp}
 use Rattle.ptlines.specs.Text.{max_length}

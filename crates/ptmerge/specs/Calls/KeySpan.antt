@@ -1,4 +1,4 @@
--- The span of the key in a line.
+-- The span of the key in a line, and what it means that the values stored by a cursor are correct (`IsValidCursor`).
 use Rattle.std.specs.Prelude.{◌≡◌, ◌≤◌, ℕ, List, length}
 use Rattle.std.specs.List.{slice_range}
 use Rattle.ptlines.specs.Calls.Slots.{line}

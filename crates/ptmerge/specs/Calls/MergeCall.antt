@@ -1,4 +1,5 @@
--- The precondition and the postcondition of a tool that merges two inputs, such as `comm` and `join`.
+-- The precondition and the postcondition of a tool that merges two inputs, such as `comm` and `join`: its state, how a
+-- call ends, and the order of the first reads of both inputs.
 use Rattle.std.specs.Prelude.{◌≡◌, ◌≤◌, ◌++◌, ℕ, Bool, true, false, List, None, Result, Ok, Err, length}
 use Rattle.ptlines.specs.Calls.Engines.{CallEnd, CallPost, CallState, Complete, InputNames, MemoryFault, OutOfOrder}
 use Rattle.ptlines.specs.Calls.Engines.{ReadFault, WriteFault, call_state}

@@ -1,4 +1,5 @@
--- The contracts of `Merge::start` and `Merge::step`.
+-- The contracts of `Merge::start` and `Merge::step`, and the conditions of all calls of a merge: valid cursors, and
+-- each input's own reader. Also the precondition of the cursor's `next`.
 use Rattle.std.specs.Prelude.{◌≡◌, ◌⊎◌, ℕ, ◌+◌, ◌^◌, ◌<◌, ◌≤◌, List, None, true, false, length}
 use Rattle.std.specs.Ordering.{is_gt}
 use Rattle.ptlines.specs.ByteOrder.{Cmp}

@@ -1,4 +1,4 @@
--- Values that belong to the two inputs of a merge.
+-- Values that belong to the two inputs of a merge, the opposite side, and keys that are whole lines.
 use Rattle.ptmerge.specs.Orders.{Key}
 use Rattle.ptmerge.specs.declared.key_order.Side.{Side}
 use Rattle.ptmerge.specs.declared.key_order.Side.TheVariants.{First, Second}

@@ -1,4 +1,5 @@
--- Laws of the output of `comm` and `join` for two lists of lines, which a reader can judge without computing it.
+-- Laws of the output of `comm` and `join` for two lists of lines or two sorted texts, which a reader can judge without
+-- computing it. Also the laws that the merge which each contract names is the engine of `comm` or `join`.
 use Rattle.std.specs.Prelude.{◌≡◌, ℕ, ◌+◌, Bool, true, false, List, [], ◌++◌, length, map, filter, None, bytes_eq}
 use Rattle.std.specs.Prelude.{sum_by, if◌then◌else◌}
 use Rattle.std.specs.List.{flat_map}

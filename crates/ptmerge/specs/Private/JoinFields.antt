@@ -1,5 +1,6 @@
--- The fields of a line as `join` reads them one by one: the rest of the line after a field, and lines that are written
--- unchanged.
+-- The fields of a line as `join` finds and writes them: the rest of the line after a field, the span of the field with
+-- a number, the masks by which blanks and separators are found, words with single spaces between them, and lines that
+-- are written unchanged.
 use Rattle.std.specs.Prelude.{◌≡◌, ◌≤◌, ◌++◌, ℕ, length, map, take, drop, IfSome, MatchOption, ◌==◌, List, [], ◌∷◌}
 use Rattle.std.specs.Prelude.{Option, Some, None, Bool, false, true, not, ◌||◌, ◌&&◌, ◌-◌, if◌then◌else◌, unwrap_or}
 use Rattle.std.specs.List.{flat_map, join_with_byte, slice_range, slice_split}

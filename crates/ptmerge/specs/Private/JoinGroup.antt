@@ -1,6 +1,7 @@
--- The group of `join`: the second input's lines of one key. If pairs are written, several are copied to the slots 4 and
--- up; a single one stays in the slot into which it was read. The slot `end` is the one after the copied lines, and is 4
--- if there are none.
+-- The contracts of the functions of the group of `join`, which is the second input's lines of one key, and the
+-- preconditions of the steps of `join`. If pairs are written, several lines are copied to the slots 4 and up; a single
+-- one stays in the slot into which it was read. The slot `end` is the one after the copied lines, and is 4 if there
+-- are none.
 use Rattle.std.specs.Prelude.{◌≡◌, ◌⊎◌, ℕ, ◌==◌, if◌then◌else◌, ◌+◌, ◌-◌, ◌≤◌, ◌<◌, true, false, Bool, List, length}
 use Rattle.std.specs.Prelude.{take, drop, max, Result, Ok, Err}
 use Rattle.ptlangs.specs.Jobs.{Join}

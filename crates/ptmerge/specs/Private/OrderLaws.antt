@@ -1,4 +1,4 @@
--- The law that keys which compare as equal have the same bytes, for byte order and for the reverse of an order.
+-- If keys that compare as equal have the same bytes in an order, that also holds in its reverse.
 use Rattle.std.specs.Prelude.{◌≡◌, ℕ, List}
 use Rattle.std.proofs.Common.{sym}
 use Rattle.std.specs.declared.cmp.Ordering.TheVariants.{Equal}

@@ -1,4 +1,5 @@
--- An input of a merge after lines that were passed in the block of its reader, and never were in a slot of the store.
+-- The contracts of calls by which an input of a merge, or both, goes on after lines that were passed in the blocks of
+-- the readers, and never were in a slot of the store; and of the merge of both blocks as a whole (`BlocksPost`).
 use Rattle.std.specs.Prelude.{◌≡◌, ◌⊎◌, ℕ, ◌+◌, ◌-◌, ◌<◌, ◌≤◌, false, List, length, drop, if◌then◌else◌, Result, Ok, Err}
 use Rattle.std.specs.List.{slice_range}
 use Rattle.ptlines.specs.Calls.Outputs.{Output}

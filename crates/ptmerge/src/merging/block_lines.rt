@@ -1,5 +1,6 @@
-//! The lines of the inputs of a merge that end in the blocks of their readers: they are merged where they are, without
-//! a copy in the store.
+//! Lines of the inputs of a merge that end in the blocks of their readers, and are merged there without a copy in the
+//! store. `BlockLine` is the line reached in one block, with its key and the step to the next line; `BlockRun` is
+//! where a merge of two blocks ended. The loops of that merge are in `tools`.
 
 ghost use Rattle.std.specs.Prelude.{◌≡◌, IfSome};
 ghost use Rattle.ptmerge.specs.Calls.Sides.{both};

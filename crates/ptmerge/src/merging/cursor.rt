@@ -1,4 +1,5 @@
-//! One input of a merge: its current and previous line, and the check that its keys are in order.
+//! One input of a merge (`Sorted`): its current and previous line, its status, the step to the next line, which checks
+//! that its keys are in order, and how it goes on after lines that were merged in the block of its reader (`Reached`).
 
 ghost use Rattle.std.specs.Prelude.{◌≡◌, ◌<◌, length, if◌then◌else◌, OnOk};
 ghost use Rattle.ptlines.specs.Calls.Readers.{IsSound};

@@ -1,4 +1,5 @@
--- Postconditions of the private functions that parse and check words.
+-- Postconditions of the private functions that parse words, check them and make inputs. Also the options and
+-- operands of the code, as values of the definitions.
 use Rattle.std.specs.Prelude.{◌≡◌, ℕ, List, [], ◌∷◌, ◌++◌, Bool, true, false, Option, None, Result, Ok, Err, IsSome}
 use Rattle.std.specs.Prelude.{OnSome, option_map, map, filter_map, drop, slice_index, ◌+◌}
 use Rattle.std.specs.Borrow.{Bor}

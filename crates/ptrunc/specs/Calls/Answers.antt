@@ -1,4 +1,4 @@
--- The contracts of calls that run nothing.
+-- The status of an answer, by the exit status of a run; and the contract of calls that run nothing.
 use Rattle.std.specs.Prelude.{◌≡◌, ◌⊎◌, ◌<◌, ℕ, List, Option, Some, None}
 use Rattle.ptrunc.specs.Results.{Holds}
 use Rattle.ptrunc.specs.declared.answer.Answer.{Answer}

@@ -1,4 +1,4 @@
--- Streams of the caller.
+-- Streams of the caller: that nothing is known of their bytes, and their state before the first write.
 use Rattle.std.specs.Prelude.{ℕ, false, List, Option, None}
 use Rattle.ptlines.specs.Sinks.{SinkState}
 

@@ -1,4 +1,5 @@
--- The model of a room that is filled, as a sink.
+-- The sinks in memory (`Kept`, `Counted`, `Filling`): the state of each as a sink, and when it is new. And what it
+-- means that bytes, or those of a file, were added to a room.
 use Rattle.std.specs.Prelude.{◌≡◌, ◌⊎◌, ℕ, Bool, true, false, List, [], ◌∷◌, ◌+◌, ◌++◌, Option, Some, None, take}
 use Rattle.ptlines.specs.Received.{IsPrefix}
 use Rattle.ptlines.specs.Sinks.{SinkState}

@@ -1,3 +1,5 @@
+-- Answers for `perform`: standard output is returned unchanged unless the words mean a command that writes to it,
+-- and the run has the postcondition `PerformPost`. Both are lemmas of `Performed`.
 use Rattle.ptext.proofs.Performed.{out_is_unused, performed}
 use Rattle.ptext.proofs.perform.perform.Goals as goal
 

@@ -1,5 +1,6 @@
--- A reader is what its model shows of some fields. That is known of each reader in the slice, so the body, which
--- does nothing, is walked only for this fact.
+-- The proof that an opened reader has failed only if the source in it says so. The model of a reader is what it
+-- shows of some fields, and that is known of each reader in the slice. So the body, which does nothing, is walked
+-- only for this fact.
 use Rattle.std.proofs.Common.{◌≡◌, Bool, false, ℕ, ◌<◌, [], ◌∷◌, refl, sym, ap, ◌∙◌, ◌⊎◌, inl, inr, get_or, length}
 use Rattle.std.proofs.lemmas.Bool.{true≢false}
 use Rattle.std.proofs.raw_atomic.Walks.{proved}

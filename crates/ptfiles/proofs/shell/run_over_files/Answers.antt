@@ -1,4 +1,5 @@
--- The store is empty at first.
+-- Answer for `run_over_files`: its contract is that of `run_over_files_in_store` with a store that is empty at
+-- first.
 use Rattle.ptfiles.proofs.Runs.{in_own_store}
 use Rattle.ptfiles.proofs.shell.run_over_files.Goals as goal
 

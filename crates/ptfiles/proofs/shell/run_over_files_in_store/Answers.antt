@@ -1,4 +1,6 @@
--- The names of the parsed command are those that the words mean, so what was opened is what they name.
+-- Answers for `run_over_files_in_store`: the inputs of the run are new. The names of the parsed command are those
+-- that the words mean, so what was opened is what they name, and the run is one that they mean. A read fails only if
+-- a source of its type can fail.
 use Rattle.ptopts.specs.Commands.{words_view}
 use Rattle.ptfiles.proofs.FailedReads.{failed_reads}
 use Rattle.ptfiles.proofs.Runs.{fresh_inputs, run_over_files}

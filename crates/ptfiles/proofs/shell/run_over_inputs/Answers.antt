@@ -1,4 +1,5 @@
--- The sink of the run is where the words say. A file that is created is the one that they name.
+-- Answers for `run_over_inputs`: the sink of the run is where the words say, which is standard output, the file that
+-- they name, or a closed sink. If that file cannot be created, this is reported and nothing is run.
 use Rattle.std.proofs.Common.{false, [], inl, inr, refl, sym, ◌∙◌, ap}
 use Rattle.ptopts.specs.Commands.{words_view}
 use Rattle.ptrun.specs.Runs.{outcome}

@@ -1,4 +1,5 @@
--- The streams are files of which none was used before.
+-- Answer for `run_streams`: its contract, from the run over the streams as files, of which none was used before.
+-- Each file that was created is the stream of the output.
 use Rattle.std.proofs.Common.{◌≡◌, Some, option_map}
 use Rattle.std.proofs.lemmas.List.Elements.{All-map}
 use Rattle.ptfiles.proofs.StreamLemmas.{streamed}

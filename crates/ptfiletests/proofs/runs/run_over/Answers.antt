@@ -1,4 +1,5 @@
--- Standard input and both sinks are new.
+-- Answer for `run_over`: its contract, from that of `run_over_files`. Standard input and both sinks are new, and no
+-- file was used before.
 use Rattle.std.proofs.Common.{ap}
 use Rattle.ptfakes.specs.FakeSink.{sink_state}
 use Rattle.ptfiletests.proofs.NamedLemmas.{named_run}

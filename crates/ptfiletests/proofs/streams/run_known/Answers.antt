@@ -1,4 +1,5 @@
--- All bytes of the streams are known, and no read of them fails.
+-- Answer for `run_known`: its contract, from that of `run_given_streams`. All bytes of the streams are known, and no
+-- read of them fails.
 use Rattle.std.proofs.Common.{ℕ, List, Option, Some, ap}
 use Rattle.ptfiletests.proofs.KnownLemmas.{known_given}
 use Rattle.ptfiletests.proofs.NamedLemmas.{no_read_fails}

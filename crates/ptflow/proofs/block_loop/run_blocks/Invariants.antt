@@ -1,4 +1,5 @@
--- The tool's counters grow by at most the bytes that it processed.
+-- The loop over blocks: the bytes pushed so far, and the output for the rest (`BlockLoopState`). The tool's counters
+-- grow by at most the bytes that it processed. The reader's budget decreases.
 use Rattle.ptflow.proofs
 use proofs.Common.{◌≤◌, ◌-◌, length, budget}
 use proofs.Passes.Exits.{BlockLoopState}

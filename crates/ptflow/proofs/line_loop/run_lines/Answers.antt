@@ -1,4 +1,6 @@
--- The buffered output is written before each read, so each exit comes after that, and is an outcome of a pass.
+-- The loop over lines: its invariant at the start and after an iteration, what the calls of the tool require, and each
+-- exit, which is an outcome of a pass. The buffered output is written before each read, so each exit comes after that.
+-- Beside the goals: the states after the write and after the line in the last slot, and the line that was read.
 use Rattle.ptflow.proofs
 use proofs.Passes.LineLoop.{run_starts, run_unslotted, run_sent, run_count, run_room, run_flush_failed, run_line}
 use proofs.Passes.LineLoop.{run_line_halts, Run, run_read, run_memory, run_done, run_unended, run_block}
@@ -10,7 +12,7 @@ use Rattle.ptflow.proofs.line_loop.run_lines.Goals.{After-fill, In-Ok-true}
 use Rattle.ptflow.proofs.line_loop.run_lines.Goals.{In_ok-process_line-in-Ok-true}
 use proofs.Common.{refl, rules, arith, usual, ◌∙◌, ◌-◌, FillLine}
 
--- the states after the write, and after the line in the last slot
+-- the state after the write
 written_out : (g : given.Over) (c : After-fill g)
     → Run c.requires.tool c.args.reader.now c.reading.reader c.args.out.now c.write_out_before_blocking.new.out
     c.args.store.now c.reading.store (g.T.LineFilter.model c.reading.tool c.reading.store)
@@ -24,6 +26,7 @@ line_read : (g : given.Over) (c : In-Ok-true g)
 line_read g c = rw (c.in-Ok-true.field-0-test, c.requires.slots) at
     (c.in-Ok-true.ensures.fills c.reading.invariant.run.reached.advance_ok.fault)
 
+-- the state after the line in the last slot
 line_taken : (g : given.Over) (c : In_ok-process_line-in-Ok-true g)
     → Run c.requires.tool c.args.reader.now c.fill.new.self c.args.out.now c.process_line.new.out c.args.store.now
     c.process_line.new.store (g.T.LineFilter.model c.process_line.new.self c.process_line.new.store)

@@ -1,4 +1,6 @@
--- The output of `cut` for the rest of a text, and for a line that begins in an earlier block.
+-- The output of `cut -b` for the rest of a text, if its first line begins in an earlier block, and the contracts of
+-- the functions that cut the lines of a block: what was cut so far, and the line that is next. For `cut -f` the
+-- output for some lines, and the contract of the function that copies it.
 use Rattle.std.specs.Prelude.{◌≡◌, ◌<◌, ◌≤◌, ℕ, ◌+◌, ◌^◌, ◌==◌, List, [], ◌∷◌, ◌++◌, Bool, length, map, take, drop}
 use Rattle.std.specs.Prelude.{if◌then◌else◌}
 use Rattle.std.specs.List.{count_by}

@@ -1,4 +1,4 @@
--- The start of each field of a line.
+-- The fields of a line, also with a delimiter before each, and the index at which a field starts (`IsFieldOffset`).
 use Rattle.std.specs.Prelude.{◌≡◌, ℕ, ◌+◌, ◌≤◌, ◌==◌, List, ◌∷◌, length, take, drop, min}
 use Rattle.std.specs.List.{flat_map, slice_split}
 

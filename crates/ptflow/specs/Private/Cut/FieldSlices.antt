@@ -1,4 +1,5 @@
--- The slices of a line that are its selected fields, one after another.
+-- The slices of a line that are its selected fields, one after another: the cursor that gives them (`IsFieldCursor`),
+-- the output that is left from it on, and the next slice of this output (`IsNextSlice`).
 use Rattle.std.specs.Prelude.{◌≡◌, ℕ, ◌+◌, ◌-◌, ◌<◌, ◌≤◌, List, ◌++◌, length, take, drop, min}
 use Rattle.ptlangs.specs.Calls.CutLists.{AreSeparated}
 use Rattle.ptlangs.specs.CutLists.{is_selected}

@@ -1,4 +1,5 @@
--- Tools that work block by block, and keep nothing in the store.
+-- Tools that work block by block, and keep nothing in the store: what makes a tool one (`IsBlockFilter`), and the
+-- contract of `run_blocks`, which runs it. Also the room that is left in a counter and in the output of a block.
 use Rattle.std.specs.Prelude.{◌≡◌, ◌<◌, ◌≤◌, ◌+◌, ◌^◌, ℕ, List, ◌++◌, false, None, Result}
 use Rattle.ptlines.specs.Received.{IsPrefix}
 use Rattle.ptlines.specs.Calls.Engines.{terminator_after}

@@ -1,4 +1,5 @@
--- Tools that work line by line. X is the state carried from line to line, and E the items that are made of lines.
+-- Tools that work line by line: what `run_lines` requires of one (`IsLineFilter`), and the contracts of its calls,
+-- for the output and for the slots. X is the state carried from line to line, and E the items that are made of lines.
 use Rattle.std.specs.Prelude.{◌≡◌, ◌⊎◌, ◌+◌, ◌-◌, ◌*◌, ◌<◌, ◌≤◌, ◌^◌, ℕ, List, ◌++◌, true, false, length, take, drop}
 use Rattle.std.specs.Prelude.{max, swap}
 use Rattle.ptlines.specs.Received.{Received, IsPrefix, known_lines}

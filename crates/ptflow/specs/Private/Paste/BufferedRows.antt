@@ -1,4 +1,6 @@
--- Rows of `paste` whose lines are all complete in the buffers of their readers, or missing because the input has ended.
+-- Rows of `paste` whose lines are all complete in the buffers of their readers, or missing because the input has
+-- ended: what it means that they were taken from the readers (`RowsTaken`), and the contracts of the functions that
+-- copy a field, some columns, or rows (`CopyCellPost`, `CopyColumnsPost`, `CopyRowsPost`), or write rows.
 use Rattle.std.specs.Prelude.{◌≡◌, ℕ, ◌+◌, ◌*◌, ◌<◌, ◌≤◌, Bool, true, false, List, [], ◌++◌, None, Some, All, length}
 use Rattle.std.specs.Prelude.{map, take, drop, sum_by}
 use Rattle.memchr.specs.Find.{IsFirstByte, is_byte}

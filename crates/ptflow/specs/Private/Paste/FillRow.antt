@@ -1,5 +1,6 @@
 -- A row of `paste` that is finished with the store: a line that is not complete in the buffer of its reader is read
--- into the slot of its column.
+-- into the slot of its column. The state in between (`RowAmid`), the bytes in the slots (`SlotsBound`), and the
+-- contracts of `fill_cell`, `fill_row` and `clear_slots`, with their faults. Also that of `set_terminators`.
 use Rattle.std.specs.Prelude.{◌≡◌, ◌≢◌, ℕ, ◌<◌, ◌≤◌, Bool, true, false, List, [], Result, Ok, Err, length, take, drop}
 use Rattle.std.specs.Prelude.{max, sum_by, slice_index_or}
 use Rattle.ptlines.specs.Readers.{Reader, reader_at}

@@ -1,4 +1,6 @@
--- Bytes of which each terminator is replaced: by a delimiter, which may be empty, or by a byte of a cycle.
+-- Bytes of which each terminator is replaced: by a delimiter, which may be empty, by one byte, or by the bytes of a
+-- cycle in turn. What it means that this is done for the first bytes of a copy (`IsReplacedTo`), and the cycle of the
+-- delimiters.
 use Rattle.std.specs.Prelude.{◌≡◌, ◌≤◌, ◌==◌, ℕ, ◌+◌, ◌%◌, List, [], ◌∷◌, ◌++◌, Option, length, take}
 use Rattle.std.specs.Prelude.{slice_index_or, if◌then◌else◌}
 use Rattle.std.specs.List.{count_by}

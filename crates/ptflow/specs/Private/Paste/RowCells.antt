@@ -1,4 +1,6 @@
--- A row of `paste`, column by column: the field of each column, and the byte after it.
+-- A row of `paste`, column by column: its shape (`RowShape`), its text, which is the field of each column and the
+-- byte after it, and a begun row in a buffer (`BegunText`). And what it means that the first columns took their
+-- fields from the readers (`CellsTaken`, `CellsFilled`).
 use Rattle.std.specs.Prelude.{◌≡◌, ◌==◌, ℕ, ◌+◌, ◌<◌, ◌≤◌, Bool, true, false, List, [], ◌∷◌, ◌++◌, Option, length, take}
 use Rattle.std.specs.Prelude.{drop, sum_by, slice_index_or, if◌then◌else◌}
 use Rattle.ptlines.specs.Readers.{Reader, reader_at}

@@ -1,4 +1,5 @@
--- The output of `paste -s` from a position on.
+-- The output of `paste -s` from a position on, and the contract of the functions that copy bytes of a row and replace
+-- their terminators by delimiters (`CopyCellsPre`, `CopyCellsPost`).
 use Rattle.std.specs.Prelude.{◌≡◌, ◌<◌, ◌≤◌, ℕ, ◌+◌, ◌%◌, List, [], ◌∷◌, ◌++◌, Option, length, if◌then◌else◌}
 use Rattle.std.specs.List.{count_by}
 use Rattle.memchr.specs.Find.{is_byte}

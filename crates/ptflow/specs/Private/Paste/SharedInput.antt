@@ -1,4 +1,5 @@
--- `paste` when all columns read one input: its terminators are replaced by a repeating cycle.
+-- `paste` when all columns read one input: its terminators are replaced by a repeating cycle, which has the byte
+-- after each column (`IsSharedCycle`). And what it means that bytes are complete rows (`IsWholeRows`).
 use Rattle.std.specs.Prelude.{◌≡◌, ℕ, ◌*◌, ◌<◌, List, All, length, slice_index_or}
 use Rattle.ptlines.specs.Text.{unlines}
 use Rattle.ptlines.specs.Laws.Text.{AreLines}

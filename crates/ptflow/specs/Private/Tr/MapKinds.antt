@@ -1,4 +1,5 @@
--- The ways to compute the images of a plan with vectors.
+-- The ways to compute the images of a plan with vectors: when one of them has the images of a table (`IsMapKind`),
+-- and a lemma for the ghost field that states this.
 use Rattle.std.specs.Prelude.{◌≡◌, ◌<◌, ℕ, List, slice_index, if◌then◌else◌}
 use Rattle.std.proofs.Props.{props}
 use Rattle.ptlangs.specs.Calls.TrShifts.{image_of_shifts}

@@ -1,4 +1,5 @@
--- The output of `tr` for the rest of a text, which depends on the last byte of the output so far.
+-- The output of `tr` for the rest of a text, which depends on the last byte of the output so far. Also the set of the
+-- bytes that a pass deletes or squeezes (`IsFilterSet`), and a lemma for the ghost fields that state it.
 use Rattle.std.specs.Prelude.{◌≡◌, ◌<◌, ℕ, List, Bool, false, Option, None, Some, slice_index_or}
 use Rattle.std.proofs.Props.{props}
 use Rattle.ptlangs.specs.TrPlan.{ByteMap}

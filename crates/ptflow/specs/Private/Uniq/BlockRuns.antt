@@ -1,4 +1,6 @@
--- The runs of the lines of a block: their output that was pushed, and that which is deferred.
+-- The runs of the lines of a block: their output that was pushed, and that which is deferred, as the contracts of the
+-- functions that write runs state it. Also ranges of a block (its lines, and the deferred output), and lines that are
+-- repeated.
 use Rattle.std.specs.Prelude.{◌≡◌, ℕ, ◌-◌, ◌≤◌, ◌<◌, List, [], ◌∷◌, ◌++◌, Option, None, Some, IfSome, length}
 use Rattle.std.specs.Prelude.{slice_range, zero, suc}
 use Rattle.ptlines.specs.Calls.Outputs.{Output, PushEffect}

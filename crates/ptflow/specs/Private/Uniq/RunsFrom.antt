@@ -1,4 +1,5 @@
--- The current run of `uniq`, and the runs that follow.
+-- The current run of `uniq`, the runs that follow, and the output of a run: whether it has any, the count before its
+-- line, and the line.
 use Rattle.std.specs.Prelude.{ℕ, ◌+◌, ◌==◌, List, [], ◌∷◌, ◌++◌, Bool, nat_lt, decimal, if◌then◌else◌}
 use Rattle.ptlangs.specs.declared.jobs.Show.{Show}
 use Rattle.ptlangs.specs.declared.jobs.Show.TheVariants.{All, Counts, Repeated, Single}

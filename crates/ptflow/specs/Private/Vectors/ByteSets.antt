@@ -1,4 +1,5 @@
--- Sets of bytes as two bit tables.
+-- Sets of bytes as two bit tables (`set_has`, `IsSetOf`), and the lane mask of the bytes that pass a test. Also the
+-- bytes that a filter keeps: all but those of the set that are equal to the bytes they are compared with.
 use Rattle.std.specs.Prelude.{◌≡◌, ◌<◌, ◌≤◌, ℕ, ◌+◌, ◌/◌, ◌%◌, ◌==◌, Bool, false, List, nat_lt, length, map, filter, zip}
 use Rattle.std.specs.Prelude.{slice_index, slice_index_or, if◌then◌else◌, ℤ, pos, negsuc}
 use Rattle.std.specs.Int.{bit_at}

@@ -1,4 +1,5 @@
--- Compression: the items whose flag is set are moved together.
+-- Compression: the items whose flag is set are moved together (`select_by`). The rows of the table for this, each of
+-- which has the indices of the flags of a mask, and the room that a chunk of 64 bytes needs.
 use Rattle.std.specs.Prelude.{◌≡◌, ◌<◌, ◌≤◌, ◌+◌, ℕ, List, [], ◌∷◌, Bool, All, length, map, not, take, slice_index_or}
 use Rattle.std.specs.Prelude.{if◌then◌else◌}
 use Rattle.std.specs.List.{range_with_len}

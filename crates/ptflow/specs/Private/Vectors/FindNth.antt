@@ -1,4 +1,5 @@
--- The n-th item of a list that passes a test.
+-- The n-th item of a list that passes a test, or that there is none, and a lemma for a ghost field with a first
+-- match.
 use Rattle.std.specs.Prelude.{◌≡◌, ℕ, ◌<◌, ◌≤◌, Bool, true, List, Option, length, take, slice_index_or, MatchOption}
 use Rattle.std.specs.Prelude.{None, Some}
 use Rattle.std.specs.List.{count_by}

@@ -1,4 +1,5 @@
--- Byte maps of at most four ranges, each with a shift.
+-- Byte maps of at most four ranges, each with a shift. And what it means that the first bytes of a slice are mapped,
+-- by any byte map (`IsMappedTo`).
 use Rattle.std.specs.Prelude.{◌≡◌, ◌≤◌, ℕ, ◌+◌, ◌-◌, ◌%◌, List, Option, None, Some, nat_le, length, map, take, sum_by}
 use Rattle.std.specs.Prelude.{if◌then◌else◌}
 use Rattle.ptlangs.specs.Calls.TrShifts.{shift_at}

@@ -1,4 +1,5 @@
--- Byte maps as tables of images.
+-- Byte maps as tables of images: the image of a byte by rows of 16 images, how a lane is looked up in several rows,
+-- and tables of which no byte, or only those of a range, differ from their images.
 use Rattle.std.specs.Prelude.{◌≡◌, ◌<◌, ◌≤◌, ℕ, ◌-◌, ◌/◌, ◌%◌, ◌⊎◌, List, [], nat_lt}
 use Rattle.std.specs.Prelude.{slice_index, slice_index_or, if◌then◌else◌}
 use Rattle.ptflow.specs.declared.simd.table.MovedRange.{MovedRange}

@@ -1,4 +1,6 @@
-//! `cut -f`: selects fields of each line, line by line. `cut` calls it.
+//! `cut -f`: selects fields of each line, line by line (`FieldCut`, which `run_lines` runs). A cursor gives the
+//! selected slices of a line. The output for the lines that end in a block is copied to one buffer; adjacent lines
+//! without the delimiter are copied together. `cut` calls it.
 
 ghost use Rattle.std.specs.Prelude.{◌≡◌, ◌+◌, ◌-◌, ◌<◌, ◌≤◌, ◌++◌, ◌⊎◌, length, take, drop, slice_index, true, false};
 ghost use Rattle.std.specs.Prelude.{[], ◌∷◌, Some, OnOk, OnErr, MatchOption};

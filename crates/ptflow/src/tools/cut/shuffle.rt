@@ -1,4 +1,5 @@
-//! Cuts lines by byte shuffles, one for each 16 bytes. `bytes` uses it.
+//! The byte shuffles, one for each 16 bytes, by which `bytes` cuts lines that are not long: makes them for a list of
+//! ranges, and decides up to which length of a line they are used.
 
 ghost use Rattle.std.specs.Prelude.{◌≡◌, ◌<◌, ◌≤◌, ◌^◌, ℕ, false};
 ghost use Rattle.ptlangs.specs.CutLists.{is_selected};

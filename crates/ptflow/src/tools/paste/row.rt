@@ -1,4 +1,6 @@
-//! A row of `paste`: the shape that all rows have, how much of one is copied, and the buffer for its output.
+//! A row of `paste`: the shape that all rows have, and how much of one, or of some rows, is copied. Also functions
+//! for delimiters, which `serial` and `shared_input` use, too: copying one that may be empty, the index of the next
+//! one, and the list of them as bytes if none is empty.
 
 ghost use Rattle.std.specs.Prelude.{◌≡◌, ◌<◌, ◌≤◌, ◌+◌, ◌%◌, ◌++◌, IfSome, length, option_to_list, take};
 ghost use Rattle.ptflow.specs.Private.Paste.Unrolled.{AreDelimiterBytes};

@@ -1,4 +1,5 @@
-//! The ways to compute the images of bytes for `tr`, with vectors if the plan allows it.
+//! The ways to compute the images of bytes for `tr` with vectors (`MapKind`), and the choice of the fastest one for a
+//! plan. Also one of them: the map of a set of bytes to one byte (`MapSetToByte`). The others are in `simd`.
 
 ghost use Rattle.std.specs.Prelude.{◌≡◌, ◌<◌, ℕ, IfSome, slice_index};
 ghost use Rattle.ptflow.specs.Private.Tr.MapKinds.{IsMapKind, set_to_byte};

@@ -1,4 +1,6 @@
-//! The runs of the lines of a block: counts and writes them. `uniq` uses it.
+//! The runs of the lines of a block: counts and writes them. Output that is contiguous in the block is deferred, and
+//! pushed at once. Repeats of a short line are skipped by one comparison each. `uniq` uses it, also for the last run
+//! of the input.
 
 ghost use Rattle.std.specs.Prelude.{◌≡◌, ◌<◌, ◌≤◌, ◌++◌, length, take, drop, true, IfOk, IfSome, OnErr};
 ghost use Rattle.ptlines.specs.Calls.Outputs.{PushEffect, PushPost};

@@ -1,4 +1,5 @@
-//! The key of a line: the part that `uniq` compares.
+//! The key of a line: the part that `uniq` compares, after the fields and bytes that a job skips. The ends of fields
+//! are found with vectors, 31 bytes at a time, or byte by byte.
 
 ghost use Rattle.std.specs.Prelude.{◌≡◌, ◌<◌, ◌≤◌, ◌+◌, take, drop, map, length};
 ghost use Rattle.std.specs.Simd.Lanes.{chunk, mask_l};

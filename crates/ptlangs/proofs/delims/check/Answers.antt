@@ -1,3 +1,5 @@
+-- Answers for `check`: a fault of the next delimiter is the fault of the list; without one, the fault of the list is
+-- that of the rest after it.
 use Rattle.ptlangs.proofs
 use proofs.Common.{rules}
 use proofs.DelimGrammar.{left_fault, left_without_fault}

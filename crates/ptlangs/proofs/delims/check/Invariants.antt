@@ -1,4 +1,5 @@
--- The delimiters so far have no fault.
+-- The loop of `check`: the delimiters so far have no fault, so the fault of the list is that of the rest, which gets
+-- shorter.
 use Rattle.ptlangs.proofs
 use proofs.Common.{delim_list, length, result_err, ◌≡◌}
 use proofs.delims.check.Given as goal

@@ -1,4 +1,5 @@
--- A checked operation fails only if the number is too large, which further digits do not change.
+-- Answers for `decimal`: each digit is added to the value. A checked operation fails only if the number is too
+-- large, which further digits do not change. A text that is no number has no value.
 use Rattle.ptlangs.proofs
 use proofs.Common.{usual, rules}
 use proofs.ListElements.{digit_at, too_large_at}

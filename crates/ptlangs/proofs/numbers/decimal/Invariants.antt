@@ -1,3 +1,4 @@
+-- The loop of `decimal`: the value so far fits into 64 bits, and with the digits that are left it gives the number.
 use Rattle.ptlangs.proofs
 use proofs.Common.{digits_value_after, drop, max_u64, value, ◌≡◌, ◌≤◌}
 use proofs.numbers.decimal.Given as goal

@@ -1,3 +1,4 @@
+-- Answer for `is_decimal`: a text that is not empty is a number if all of its bytes are digits.
 use Rattle.ptlangs.proofs
 use proofs.Common.{YieldsList-from_slice, rules, sym, ◌∙◌}
 use proofs.ListElements.{is_empty_by_length}

@@ -1,4 +1,5 @@
--- The next interval extends the current one if they overlap or are adjacent; otherwise there is a gap between them.
+-- Answers for `merge`: the next interval extends the current one if they overlap or are adjacent; otherwise there is
+-- a gap between them. So the merged intervals are separated, and select the same numbers.
 use Rattle.ptlangs.proofs
 use proofs.Common.{usual, drop_all, drop_more, refl, rules}
 use proofs.ListElements.{absorbs, starts_next}

@@ -1,3 +1,5 @@
+-- The loop of `merge`: the merged intervals are separated, and with the current one and the rest they select the
+-- same numbers as all.
 use Rattle.ptlangs.proofs
 use proofs.Common.{drop}
 use proofs.ListElements.{Merges}

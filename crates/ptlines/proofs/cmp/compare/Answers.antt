@@ -1,3 +1,4 @@
+-- `compare`: the first 8 bytes, as numbers, decide if they differ. If not, they are equal, as `compare_tail` requires.
 use Rattle.ptlines.proofs
 use proofs.Common.{◌∙◌, refl, arith}
 use proofs.ByteOrder.{word_8, words_differ, words_same}

@@ -1,3 +1,4 @@
+-- The loop of `compare_bytewise`: the bytes before the index are equal.
 use Rattle.std.proofs.Common.{◌≡◌, take}
 use Rattle.ptlines.proofs.cmp.compare_bytewise.Given as goal
 

@@ -1,3 +1,5 @@
+-- The loop of `compare_tail`: the bytes before the index are equal, and fewer bytes of the shorter slice are left
+-- after each turn.
 use Rattle.std.proofs.Common.{◌≡◌, ◌-◌, ◌≤◌, take}
 use Rattle.ptlines.proofs.cmp.compare_tail.Given as goal
 

@@ -1,3 +1,4 @@
+-- `copy_chunk`: the stored vector has the bytes to be copied, and the bytes after it do not change.
 use Rattle.ptlines.proofs
 use proofs.Common.{arith, take_more_put_chunk, length-chunk}
 use proofs.CopyFacts.{behind_chunk}

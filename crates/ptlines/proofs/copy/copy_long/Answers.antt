@@ -1,3 +1,4 @@
+-- `copy_long`: the bytes after the copied ones do not change.
 use Rattle.ptlines.proofs
 use proofs.Common.{usual}
 use Rattle.std.proofs.lemmas.Slice.{drop-put_mid}

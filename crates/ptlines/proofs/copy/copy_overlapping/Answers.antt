@@ -1,3 +1,4 @@
+-- `copy_overlapping`: the two vectors together copy all bytes, and change none after these.
 use Rattle.ptlines.proofs
 use Rattle.std.proofs.Common.{arith}
 use proofs.CopyFacts.{behind_both, copied_ends}

@@ -1,3 +1,4 @@
+-- `copy_short`: a vector of 16 bytes that is copied begins with the bytes asked for; and `copy_long` copies just these.
 use Rattle.ptlines.proofs
 use Rattle.std.proofs.Common.{arith, rules}
 use proofs.CopyFacts.{copied_prefix}

@@ -1,3 +1,4 @@
+-- `find_in_chunk`: a match mask of zero means that the chunk has no match; otherwise its lowest bit is the first one.
 use Rattle.ptlines.proofs
 use proofs.Common.{rules}
 use proofs.MatchMasks.{none_if_zero_mask, first_at_lowest_bit}

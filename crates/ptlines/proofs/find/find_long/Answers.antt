@@ -1,3 +1,5 @@
+-- `find_long`: the first 64 bytes have no match, so the first match is the one that `memchr` finds after them,
+-- or there is none.
 use Rattle.ptlines.proofs
 use proofs.Common.{None, Some, is_byte, take_rest}
 use proofs.MatchMasks.{first_in_rest}

@@ -1,3 +1,4 @@
+-- The loop of `write_out`: the bytes that the sink has accepted and the rest are all bytes, and the rest gets shorter.
 use Rattle.ptlines.proofs
 use proofs.Common.{◌≡◌, ℕ, List, ◌++◌, length, WriteOutOk}
 use proofs.out.write_out.Given as goal

@@ -1,4 +1,5 @@
--- The slots are split at the greater of the two numbers, so source and target lie in different parts.
+-- `append_slot`: the slots are split at the greater of the two numbers, so source and target lie in different parts.
+-- In both orders the line is appended or nothing changes, and lines and buffers stay bounded.
 use Rattle.ptlines.proofs
 use proofs.Common.{◌<◌, Result, Ok, Err, OnErr, arith, usual}
 use proofs.SlotTotals.{append_to_back, bounded_back, buffers_back, append_to_front, bounded_front, buffers_front}

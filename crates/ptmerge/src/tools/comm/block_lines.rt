@@ -1,5 +1,5 @@
-//! The lines of `comm` that end in the blocks of both readers: they are merged where they are, without a copy in the
-//! store.
+//! The columns of the output of `comm` (`Column`), and the merge of its lines that end in the blocks of both readers
+//! (`merge_blocks`): they are merged where they are, without a copy in the store.
 
 ghost use Rattle.std.specs.Prelude.{◌≡◌, ◌++◌, ℕ, List, false};
 ghost use Rattle.ptlangs.specs.Jobs.{comm_job};

@@ -1,4 +1,5 @@
-//! The second input's lines of one key, with each of which `join` pairs the first input's lines of that key.
+//! `Group`, the second input's lines of one key, with each of which `join` pairs the first input's lines of that key.
+//! The lines are read and, if there are several, copied to slots of the store, which are emptied at the end.
 ghost use Rattle.std.specs.Prelude.{◌≡◌, ◌≤◌, ◌<◌, ◌+◌, ◌-◌, [], false, length, IfOk, OnOk, OnErr};
 ghost use Rattle.ptlines.specs.Calls.Outputs.{PushEffect};
 ghost use Rattle.ptlines.specs.Calls.Slots.{with_denied};

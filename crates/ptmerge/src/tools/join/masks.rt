@@ -1,5 +1,6 @@
-//! Masks of two bytes among at most 64: bit i is set if and only if byte i is the one that is searched for. `words`
-//! searches for both blanks at once, and `separators` for one byte, which it gives twice: equal masks are computed once.
+//! Two masks of at most 64 bytes (`Masks`), one for each of two bytes that are searched for: bit i is set if and only
+//! if byte i is that one. Two vectors, which may overlap, cover the bytes. The module `words` searches for both blanks;
+//! the module `separators` gives one byte twice, and equal masks are computed once.
 ghost use Rattle.std.specs.Prelude.{◌≤◌, length};
 ghost use Rattle.std.specs.Simd.Lanes.{chunk};
 ghost use Rattle.ptlines.specs.Private.Bounds.{HasChunk, IsCoveredByEnds};

@@ -1,4 +1,5 @@
-//! Writes the output lines of `join`, for a pair of lines or for an unpaired line.
+//! Writes the output lines of `join`, for a pair of lines or for an unpaired line: by an output list, by the join
+//! field and the other fields, or, if the fields are written as they are in the line, without splitting it.
 
 ghost use Rattle.std.specs.Prelude.{◌≡◌, ◌≤◌, ◌++◌, IfSome, length, ◌∷◌, [], None, Some, option_copied, true};
 ghost use Rattle.std.proofs.Props.{props};

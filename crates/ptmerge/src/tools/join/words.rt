@@ -1,5 +1,6 @@
-//! Masks of the blanks of a line of `join`: bit i is set if and only if byte i is a blank. The words of a short line
-//! are found by one mask of the whole line, and those of a long line by a mask of each 64 bytes.
+//! Blanks and words of a line of `join`, by masks in which bit i is set if and only if byte i is a blank: finds the
+//! first blank and, in a short line, the word with a number, and checks whether a line is words with a single space
+//! between them.
 ghost use Rattle.std.specs.Prelude.{◌≡◌, ◌≢◌, ◌≤◌, ◌<◌, ◌+◌, ◌==◌, ◌-◌, ◌^◌, ℕ, List, bit_or, None, true, length};
 ghost use Rattle.std.specs.Simd.Lanes.{chunk};
 ghost use Rattle.memchr.specs.Find.{IsFirst, IsFirstByte, Passes};

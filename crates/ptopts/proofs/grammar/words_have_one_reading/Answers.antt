@@ -1,3 +1,5 @@
+-- `words_have_one_reading`: the grammar is unambiguous, since the options and operands that it gives to words are
+-- always those of their parse.
 use Rattle.ptopts.proofs
 use proofs.ParsedIsSpelled.{options-map}
 use proofs.grammar.words_have_one_reading.Goals as goal

@@ -1,3 +1,4 @@
+-- `all_standard`: the check of every operand by the code gives what the definition gives.
 use Rattle.ptopts.proofs
 use proofs.Common.{Bor, List, YieldsList-from_slice, all_from_yields_List, is_standard, rules, sym, ℕ, ◌∙◌}
 use Rattle.std.proofs.lemmas.List.Folds.{list_all-map}

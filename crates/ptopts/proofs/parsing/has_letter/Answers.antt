@@ -1,3 +1,4 @@
+-- `has_letter`: the code finds the letter among its options if and only if the definition does.
 use Rattle.ptopts.proofs
 use proofs.Common.{YieldsList-from_slice, any_from_yields_List, rules, ◌==◌, ◌∙◌}
 use proofs.OptionViews.{has_option-view}

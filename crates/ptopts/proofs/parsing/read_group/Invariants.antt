@@ -1,3 +1,5 @@
+-- The loop of `read_group`: the options so far and the tokens of the remaining letters are those of the
+-- word (`GroupRead`).
 use Rattle.ptopts.proofs
 use proofs.Common.{drop, option_map, options_view}
 use proofs.GroupInvariant.{GroupRead}

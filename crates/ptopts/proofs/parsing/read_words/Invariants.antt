@@ -1,3 +1,5 @@
+-- The loop of `read_words`: the options so far and the parse of the remaining words are the parse of all words
+-- (`ArgsRead`), and fewer words remain after each turn.
 use Rattle.ptopts.proofs
 use proofs.Common.{length, options_view, words_view}
 use proofs.ArgsInvariant.{ArgsRead}

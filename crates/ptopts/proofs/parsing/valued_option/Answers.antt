@@ -1,3 +1,4 @@
+-- `valued_option`: the word may be cut after the letter of the option, since that is at the boundary of a character.
 use Rattle.ptopts.proofs
 use proofs.Common.{arith}
 use Rattle.std.proofs.lemmas.Str.{IsCharBoundary-after_ascii}

@@ -1,3 +1,6 @@
+-- Each operand whose file could not be opened adds its message to those so far, and every other adds nothing. Each
+-- position has a reader and a name. After the last operand, all were reported, and the result says whether there was
+-- one.
 use Rattle.ptrun.proofs
 use proofs.Common.{IsSound, ap, arith, get_or_default, is_reader_unopened, no_reader, positions, reader_at, subst, sym}
 use proofs.Common.{take, words_view, ◌∙◌, usual}

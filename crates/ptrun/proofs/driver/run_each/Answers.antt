@@ -1,4 +1,5 @@
--- If an operand fails, the run stops there, and the operands after it are unchanged.
+-- Each operand in turn is processed, or reported if it could not be opened; its position has a reader and a name. If
+-- an operand fails, the run stops there, and the operands after it are unchanged. After the last one, all are done.
 use Rattle.ptrun.proofs
 use proofs.Common.{arith, length, refl, scaled_Fits, sym, ◌∙◌, usual}
 use proofs.OperandInputs.{OperandStep, operand_step, position_in_range, positions_end}

@@ -1,3 +1,5 @@
+-- The operands were processed, the output was finished and the last message was said: together that is a run. No
+-- message comes before those about the operands.
 use Rattle.ptrun.proofs
 use proofs.Common.{false≢true, outcome}
 use proofs.MessageWrites.{said_nothing}

@@ -1,3 +1,4 @@
+-- The line with one part more: it holds the parts so far and this one. In the end it holds all of them and a newline.
 use Rattle.ptrun.proofs
 use proofs.Common.{usual, rules}
 use proofs.MessageWrites.{joined_more}

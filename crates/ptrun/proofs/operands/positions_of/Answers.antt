@@ -1,3 +1,4 @@
+-- There is room for each position that is pushed, since there are at most 512 operands.
 use Rattle.ptrun.proofs
 use proofs.Common.{arith, length-map, length-take-le}
 use proofs.operands.positions_of.Goals as goal

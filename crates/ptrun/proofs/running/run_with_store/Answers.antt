@@ -1,4 +1,5 @@
--- If the arguments are no command, the message about them is the whole run. Otherwise the run is that of the command.
+-- If the arguments are no command, the message about them is the whole run. Otherwise the run is that of the command,
+-- whose inputs meet the precondition of `run_command`. Either is exact unless a call failed.
 use Rattle.ptrun.proofs
 use proofs.Common.{arith, command_spec, command_view, spec_of_parsed, words_view, ◌≡◌}
 use proofs.RunEnds.{exact_for_args, message_only_run, spec_of_fault, inputs_pre_of_spelled}

@@ -1,3 +1,4 @@
+-- The message names two options, each by the UTF-8 code of its letter.
 use Rattle.ptrun.proofs
 use proofs.Common.{ap, encode_utf8, ◌∙◌}
 use proofs.usage.say_conflict.Goals as goal

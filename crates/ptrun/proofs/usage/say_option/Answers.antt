@@ -1,3 +1,4 @@
+-- The message names one option, by the UTF-8 code of its letter.
 use Rattle.ptrun.proofs.usage.say_option.Goals as goal
 
 pub returns : goal.returns

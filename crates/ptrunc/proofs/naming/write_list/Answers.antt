@@ -1,3 +1,5 @@
+-- The room with one name more: `append_name` adds this name and byte 0 to the names so far, and what does not fit is
+-- added to the count.
 use Rattle.std.proofs.Common.{◌∙◌}
 use Rattle.ptrunc.proofs.NamingLemmas.{next_list}
 use Rattle.ptrunc.proofs.naming.write_list.Goals as goal

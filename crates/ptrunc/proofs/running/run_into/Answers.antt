@@ -1,4 +1,5 @@
--- Both rooms have what the run wrote, since no other sink begins with their ghost names.
+-- Both rooms have what the run wrote, since no other sink begins with their ghost names, and the answer says how much
+-- that is. A created file is appended only to an output that has not failed.
 use Rattle.std.proofs.Common.{ap, refl, ◌∙◌}
 use Rattle.ptopts.specs.Commands.{words_view}
 use Rattle.ptrunc.proofs.RunLemmas.{answer_of_run, exit_is, file_leaves_out, same_messages, same_out}

@@ -1,3 +1,5 @@
+-- `readers` makes a reader for standard input and for each file of a case. Each iteration appends the reader of one
+-- file, which is new or could not be opened, as those before it.
 use Rattle.std.proofs.Common.{arith}
 use Rattle.std.proofs.lemmas.List.Elements.{All-push}
 use Rattle.ptrun.specs.Files.{IsNewOrUnopened}

@@ -1,4 +1,6 @@
--- The buffer is filled with the byte, so any number of its first bytes are what the source gives.
+-- Answers for `pull` of `RepeatedByte`: a read has the effect that the model gives it (`fed`), and so one that
+-- `Source` allows (`pulled`). The buffer is filled with the byte, so any number of its first bytes are what the
+-- source gives.
 use Rattle.std.proofs.Common.{◌≡◌, ◌<◌, ◌-◌, length, min, replicate, arith, rules, ap}
 use Rattle.std.specs.Prelude.{◌||◌, ◌==◌}
 use Rattle.ptfakes.specs.FakeSource.{FakeSource}

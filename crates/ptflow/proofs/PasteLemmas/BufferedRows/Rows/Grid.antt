@@ -1,6 +1,7 @@
--- The columns and rows of a grid of lines. If each input gives one line to each of its columns, exactly the first row
--- is removed. So, by induction, the rows of inputs that are split after the same row are those of the first parts, and
--- then those of the second parts.
+-- The columns and rows of a grid of lines, and which columns use an input. If each input gives one line to each of its
+-- columns, exactly the first row is removed. So, by induction, the rows of inputs that are split after the same row
+-- are those of the first parts, and then those of the second parts (`PasteOfParts`). Besides: which rows are
+-- determined, and that only the inputs that columns name decide the output.
 use Rattle.ptflow.proofs
 pub use proofs.Common.{Bool, List, [], ap, arith, cond, drop, false, get_or, inl, inr, length, length-append, usual}
 pub use proofs.Common.{length-drop, map, max, refl, suc, sym, take, true, zero, ℕ, ⊎_elim, ◌%◌, ◌*◌, ◌++◌, ◌+◌, ◌-◌}

@@ -1,3 +1,5 @@
+-- The shuffle of a table by the high nibbles, which are quotients by 16: each is below 16, so the shuffle gives the
+-- entries that they index.
 use Rattle.ptflow.proofs
 use proofs.Common.{◌/◌, ◌^◌, arith, zip2_splat}
 use proofs.Vectors.Lanes.{nibbles_ok, looked_up}

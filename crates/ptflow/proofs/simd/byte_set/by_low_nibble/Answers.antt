@@ -1,3 +1,5 @@
+-- The shuffle of a table by the low nibbles, which are remainders by 16: the indices are in the table, and the lanes
+-- are its entries there.
 use Rattle.ptflow.proofs
 use proofs.Common.{◌%◌, arith}
 use proofs.Vectors.Lanes.{nibbles_ok, looked_up, low_nibbles}

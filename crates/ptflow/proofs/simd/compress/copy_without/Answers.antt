@@ -1,4 +1,6 @@
--- Each copy is 64 bytes long, so the flags of the mask say how many of them are those of the chunk.
+-- The loop that copies again what follows each removed byte: its invariant at the start and after a copy, the bounds
+-- of a copy, and the kept bytes at the end. Each copy is 64 bytes long, so the flags of the mask say how many of them
+-- are those of the chunk.
 use Rattle.ptflow.proofs
 use proofs.Common.{arith, ◌∙◌, ap, ◌++◌, take, drop, sym, refl}
 use proofs.Vectors.Compress.{select_by_prefix}

@@ -1,3 +1,5 @@
+-- The loop over the removed bytes: for the flags of their mask, what is kept of the bytes before `start` was stored up
+-- to `end` (`IsCopied`). Each iteration clears a bit of `rest`.
 use Rattle.ptflow.proofs
 use proofs.Common.{◌≡◌, ◌≤◌, ◌+◌, ◌++◌, Bool, List, length, take, drop}
 use Rattle.ptflow.specs.Private.Vectors.Compress.{removed_mask, select_by}

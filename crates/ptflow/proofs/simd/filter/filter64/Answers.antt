@@ -1,4 +1,6 @@
--- All 64 bytes are kept if none is equal to the one that it is compared with, or the mask of those removed is zero.
+-- The ways to append what is kept of 64 bytes. All are kept if none is equal to the one that it is compared with, or
+-- the mask of those removed is zero. A few removed ones are left out by `copy_without`. Otherwise each 16 bytes are
+-- compressed.
 use Rattle.ptflow.proofs
 use proofs.Common.{◌+◌, usual, arith, ◌∙◌, ap, ◌++◌, sym, take, chunk}
 use proofs.Vectors.Compress.{kept_in_four, none_equal_in_four, select_kept}

@@ -1,3 +1,4 @@
+-- Each iteration appends what is kept of 64 bytes more, and that is at most 64 bytes.
 use Rattle.ptflow.proofs
 use proofs.Common.{arith}
 use proofs.Vectors.Compress.{filter_piece}

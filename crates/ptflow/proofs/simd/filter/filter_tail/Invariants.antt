@@ -1,3 +1,5 @@
+-- The loop over the bytes from `start` on, one by one: what was stored, and then what is kept of the rest, is the
+-- whole output (`FilterInvariant`), and each byte adds at most one.
 use Rattle.ptflow.proofs
 use proofs.Common.{◌≤◌, ◌+◌, ◌++◌, take, drop, kept_bytes}
 use proofs.Vectors.Compress.{FilterInvariant}

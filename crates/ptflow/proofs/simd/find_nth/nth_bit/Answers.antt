@@ -1,3 +1,5 @@
+-- Each iteration clears one more bit. After `count` of them the lowest bit that is left is the match after `count`
+-- others.
 use Rattle.ptflow.proofs
 use Rattle.std.proofs.Common.{◌≡◌, ◌+◌, suc, map, arith}
 use proofs.Vectors.FindNth.{cleared, after_set}

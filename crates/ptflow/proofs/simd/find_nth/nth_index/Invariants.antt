@@ -1,4 +1,5 @@
--- `left` matches are still to be skipped.
+-- The loop over chunks of 64 bytes: `left` matches are still to be skipped after those before the index, and the bytes
+-- after it get fewer.
 use Rattle.ptflow.proofs
 use proofs.Common.{◌≡◌, ◌≤◌, ◌+◌, ◌-◌, length, take, count_by, is_byte}
 use proofs.simd.find_nth.nth_index.Given as goal

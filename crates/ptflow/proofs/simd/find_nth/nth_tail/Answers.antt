@@ -1,3 +1,5 @@
+-- Each byte that matches leaves one match fewer to be skipped. If none is left, the byte is the match that is searched
+-- for.
 use Rattle.ptflow.proofs
 use proofs.Common.{usual}
 use proofs.simd.find_nth.nth_tail.Goals as goal

@@ -1,4 +1,5 @@
--- `left` matches are still to be skipped.
+-- The loop over single bytes: of the matches to be skipped, those from index `from` on were, and `left` are still to
+-- be skipped.
 use Rattle.ptflow.proofs
 use proofs.Common.{◌≡◌, ◌+◌, take, count_by, is_byte}
 use proofs.simd.find_nth.nth_tail.Given as goal

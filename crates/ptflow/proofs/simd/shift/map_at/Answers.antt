@@ -1,3 +1,4 @@
+-- The 16 images that were stored at an index follow the bytes before it.
 use Rattle.ptflow.proofs
 use proofs.Common.{◌+◌, arith, take_more_put_chunk}
 use proofs.simd.shift.map_at.Goals as goal

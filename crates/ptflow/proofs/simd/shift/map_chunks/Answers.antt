@@ -1,3 +1,4 @@
+-- Each iteration maps 32 bytes, by two vectors of 16.
 use Rattle.ptflow.proofs
 use Rattle.std.proofs.Common.{◌+◌, arith}
 use proofs.Vectors.Lanes.{mapped_more}

@@ -1,3 +1,5 @@
+-- The loop over pairs of vectors: of each pair before the index, the lanes were picked by the lowest bits of their
+-- rows (`halved`).
 use Rattle.ptflow.proofs
 use proofs.Common.{◌≡◌, length}
 use proofs.Vectors.Lanes.{IsFilledTo, halved}

@@ -1,3 +1,4 @@
+-- Each iteration looks up the bytes in one more row.
 use Rattle.ptflow.proofs
 use proofs.Common.{usual}
 use proofs.simd.table.look_up_rows.Goals as goal

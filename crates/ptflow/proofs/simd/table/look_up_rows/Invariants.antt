@@ -1,3 +1,5 @@
+-- The loop over the rows of a table: in those so far, the entries at the low nibbles of the bytes were found
+-- (`IsFilledTo`).
 use Rattle.ptflow.proofs
 use proofs.Common.{[], ◌%◌, map, slice_index, slice_index_or}
 use proofs.Vectors.Lanes.{IsFilledTo}

@@ -1,5 +1,5 @@
--- `cut` by fields is a line tool, and `cut` by bytes a block tool. Setting the terminator does not change the input, so
--- the contract of each loop carries over.
+-- `cut` by fields is a line tool, and `cut` by bytes a block tool. Setting the terminator does not change the input,
+-- so the contract of each loop carries over. If the output has failed before, nothing is done.
 use Rattle.ptflow.proofs
 use proofs.Common.{Bool, true, false, ◌≡◌, ◌++◌, refl, sym, ◌∙◌, ap, cond, cut_job, cut_tool, cut_list_from, Reader}
 use proofs.Common.{terminator, arith, rules}

@@ -1,5 +1,6 @@
--- Each line is read into its slot. If the columns before it were all copied, it is copied from there, and the next
--- columns from the buffers.
+-- For `fill_row`: the start, the steps and the exits of its loop over columns. Each line is read into its slot. If
+-- the columns before it were all copied, it is copied from there, and the next columns from the buffers. Lemmas: the
+-- row after a line was read (`filled`, `amid`, `ready`), and that no output was pushed (`sent`).
 use Rattle.ptflow.proofs
 use proofs.Common.{◌≡◌, ◌+◌, List, [], ◌++◌, length, take, get_or, set, ◌∙◌, arith, PushEffect}
 use proofs.Common.{Reader, Slots, push_nothing, push_trans, ◌||◌, BegunText, BufferedRowsPre, RowAmid, after_cell}

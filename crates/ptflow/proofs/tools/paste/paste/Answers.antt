@@ -1,5 +1,7 @@
--- Each iteration takes the complete rows in the buffers, and finishes the next row. If that has no line, all readers
--- are at the end of their inputs.
+-- For `paste`, the engine: the preconditions of its calls, the step of its loop over rows, and each exit (no slot, a
+-- failed read or write, the end). Each iteration takes the complete rows in the buffers, and finishes the next row
+-- and writes it. If that has no line, all readers are at the end of their inputs. Lemmas: the loop has started
+-- (`starts`), and its invariant after each push (`pushed`, `sent`).
 use Rattle.ptflow.proofs
 use proofs.Common.{sym, ap, subst, arith, length, paste_job, job_shape, RowShape, RowAmid, begun_in, shape_of}
 use proofs.Common.{length-take-le, call_on_failed_output, push_nothing, refl, [], ◌∙◌, Ok, Output}

@@ -1,4 +1,5 @@
--- `tr` is a block tool, all of whose output is decided at once. The store is never used, so `Memory` is never returned.
+-- For `tr`, the engine: it is a block tool, all of whose output is decided at once, so `run_blocks` is a pass of it.
+-- A call on an output that has failed before does nothing. The store is never used, so `Memory` is never returned.
 use Rattle.ptflow.proofs
 use proofs.Common.{◌++◌, None, refl, sym, ◌∙◌, ap, no_store, tr_tool, tr_from}
 use Rattle.ptlangs.specs.TrTables.{byte_map_of}

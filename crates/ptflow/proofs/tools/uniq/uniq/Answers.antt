@@ -1,4 +1,5 @@
--- Setting the terminator does not change the input, so the contract of `run_lines` is that of the call.
+-- For `uniq`, the engine: it is a line tool, as `run_lines` requires. Setting the terminator does not change the
+-- input, so the contract of `run_lines` is that of the call. A call on an output that has failed before does nothing.
 use Rattle.ptflow.proofs
 use proofs.Common.{refl, uniq_job, rules, sym, ◌∙◌}
 use proofs.Passes.Exits.{pass_unchanged, pass_set}

@@ -1,3 +1,5 @@
+-- Answers for `Delims::read`: the loop starts with no delimiter, each turn keeps one more, and the rest gets
+-- shorter.
 use Rattle.ptlangs.proofs
 use proofs.Common.{arith, rules}
 use proofs.ListElements.{append_ok-cons_ok, append_ok-nil}

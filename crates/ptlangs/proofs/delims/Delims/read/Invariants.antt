@@ -1,4 +1,5 @@
--- A fault of the rest is the fault of the list.
+-- The loop of `Delims::read`: the delimiters that are kept and those of the rest are together those of the list. A
+-- fault of the rest is the fault of the list. The rest gets shorter.
 use Rattle.ptlangs.proofs
 use proofs.Common.{delim_list, length, ◌≡◌}
 use proofs.ListElements.{append_ok}

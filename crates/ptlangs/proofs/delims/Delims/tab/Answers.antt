@@ -1,3 +1,4 @@
+-- Answer for `Delims::tab`: the list has one delimiter, a tab.
 use Rattle.ptlangs.proofs.delims.Delims.tab.Goals as goal
 
 pub returns : goal.returns

@@ -1,3 +1,4 @@
+-- Answer for `PasteJob::new`: the job is that of `paste` without options, as its list of delimiters is a tab.
 use Rattle.ptlangs.proofs.jobs.PasteJob.new.Goals as goal
 
 pub returns : goal.returns

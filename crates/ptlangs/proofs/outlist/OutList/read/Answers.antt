@@ -1,4 +1,5 @@
--- Without a fault, the values are those of the elements.
+-- Answers for `OutList::read`: the fault that is returned is that of the list. Without a fault, the values are those
+-- of the elements.
 use Rattle.ptlangs.proofs
 use proofs.Common.{YieldsList-at, YieldsList-from_filter_map, YieldsList-from_slice_split, arith, element_field}
 use proofs.Common.{elements, is_list_separator, items_from_extend, result_ok, rules}

@@ -1,3 +1,4 @@
+-- Answer for `Ranges::contains`: a number is selected if one of the intervals contains it.
 use Rattle.ptlangs.proofs
 use proofs.Common.{Interval, YieldsList-from_slice, rules}
 use Rattle.std.specs.Prelude.{nat_le, ◌&&◌}

@@ -1,3 +1,5 @@
+-- Answers for `Ranges::read`: the fault that is returned is that of the list. The intervals are sorted when they are
+-- merged; the merged ones are separated, and select the set of the list.
 use Rattle.ptlangs.proofs
 use proofs.Common.{Interval, IsValidInterval, elements, rules}
 use proofs.ListElements.{each_proper, fault_of_intervals, in_order, selection_is_kept}

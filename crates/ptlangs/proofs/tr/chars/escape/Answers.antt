@@ -1,3 +1,5 @@
+-- Answers for `escape`, if octal digits come after the backslash: their value is the byte that is denoted, or it is
+-- above 255, which is a fault. The digits are octal, as `number` requires, and within the bytes.
 use Rattle.ptlangs.proofs
 use proofs.Common.{None, Some, arith, rules}
 use proofs.TrGrammar.{octal_char, octal_digits, octal_steps}

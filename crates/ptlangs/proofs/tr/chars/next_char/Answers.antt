@@ -1,3 +1,5 @@
+-- Answers for `next_char`, if there is a backslash at the index: the character is that of the escape, or its fault,
+-- and the other characters begin after it.
 use Rattle.ptlangs.proofs
 use proofs.Common.{usual}
 use proofs.TrGrammar.{beyond_escape, char_from-escape}

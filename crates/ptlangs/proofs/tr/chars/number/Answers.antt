@@ -1,3 +1,4 @@
+-- Answer for `number`: a value above the limit stays above it, whatever digits follow.
 use Rattle.ptlangs.proofs
 use proofs.Common.{arith, ◌+◌}
 use proofs.TrGrammar.{number_step, too_large}

@@ -1,3 +1,4 @@
+-- The loop of `number`: the value is that of the digits so far, and is not above the limit.
 use Rattle.ptlangs.proofs
 use proofs.Common.{digits_value, take, ◌≡◌, ◌≤◌}
 use proofs.tr.chars.number.Given as goal

@@ -1,3 +1,5 @@
+-- Answer for `class`: the class is the one with the name between the colons, and the rest comes after the closing
+-- bracket.
 use Rattle.ptlangs.proofs
 use proofs.Common.{arith, chars, drop}
 use proofs.TrGrammar.{class_at-found}

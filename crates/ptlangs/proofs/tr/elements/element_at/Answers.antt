@@ -1,3 +1,5 @@
+-- Answers for `element_at`, if there is no bracketed form: a character with a dash and another character after it
+-- starts a range; any other is a single character.
 use Rattle.ptlangs.proofs
 use Rattle.ptlangs.specs
 use proofs.TrGrammar.{chars-some, first_set_element-range}

@@ -1,3 +1,4 @@
+-- Answer for `identity`: in the table that `from_fn` makes, each byte is its own image.
 use Rattle.ptlangs.proofs
 use proofs.Common.{get_or, rules, ◌≡◌}
 use proofs.TrArrays.{same_table}

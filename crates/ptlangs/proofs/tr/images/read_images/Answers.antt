@@ -1,4 +1,5 @@
--- The first array is that of the string or its complement, and its bytes are paired either way.
+-- Answers for `read_images`: the first array is that of the string or its complement, and its bytes are paired
+-- either way. Before that none is paired (`unpaired`); a class that cannot be paired is the fault.
 use Rattle.ptlangs.proofs
 use proofs.Common.{Bool, HasPaired, List, Member, None, Ok, [], all_bytes, all_paired, ap, bytes_left, contents_of}
 use proofs.Common.{first_array, first_members, image_by, map, member_bytes, rules, ◌∙◌, ◌≡◌, arith}

@@ -1,5 +1,6 @@
--- From byte 255 down: a byte with the shift of the next one extends its stretch, one with another shift starts a new
--- stretch, and one that is its own image is in none.
+-- Answers for `shifts_of`. From byte 255 down: a byte with the shift of the next one extends its stretch, one with
+-- another shift starts a new stretch, and one that is its own image is in none. If a fifth stretch is needed, all
+-- bytes need more than four. The stretches give the images.
 use Rattle.ptlangs.proofs
 use proofs.Common.{List, Stretch, ap, arith, drop_all, get_or, length, prepend_shift, shift_of, stretches_from, sym}
 use proofs.Common.{◌-◌, usual}

@@ -1,4 +1,5 @@
--- The loop goes from the end of the table to its start.
+-- The loop of `shifts_of`, which goes from the end of the table to its start: the stretches so far are those of the
+-- bytes from the index on.
 use Rattle.ptlangs.proofs
 use proofs.Common.{drop, stretches_from, ◌≡◌, ◌≤◌}
 use proofs.tr.shifts.shifts_of.Given as goal

@@ -1,4 +1,5 @@
--- After the block is written, the bytes fit into it, or go directly to the sink.
+-- `push_slow`: if the block cannot be written, the output has failed. After it is written, the bytes fit into it, or
+-- go directly to the sink.
 use Rattle.ptlines.proofs
 use Rattle.std.proofs.Common.{rules, [], ap, refl, arith}
 use proofs.Push.{push_trans, push_written_out, push_broken, push_large}

@@ -1,3 +1,4 @@
+-- `consume`: what the block still has are the bytes that were buffered, without the first ones.
 use Rattle.ptlines.proofs
 use proofs.Common.{rules}
 use proofs.Consume.{rest_of_range}

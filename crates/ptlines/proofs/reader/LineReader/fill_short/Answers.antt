@@ -1,4 +1,5 @@
--- The terminator that was found among 64 bytes lies within the buffered bytes, so it is the first one of them.
+-- `fill_short`: the terminator that was found among 64 bytes lies within the buffered bytes, so it is the first one
+-- of them, and the line before it is in the slot. The reader stays sound.
 use Rattle.ptlines.proofs
 use proofs.Common.{◌≡◌, ◌+◌, ◌-◌, Some, subst, ◌<◌, ◌≤◌, ◌^◌, length, take, drop, ap, arith, take-take, IsFirst, Passes}
 use proofs.Common.{is_byte, usual}

@@ -1,4 +1,5 @@
--- Each turn consumes bytes of the source, of which there are fewer than 2^63.
+-- The loop of `fill_slow`: the bytes consumed so far are in the slot (`LineSoFar`), and the condition of `fill`
+-- still holds. Each turn consumes bytes of the source, of which there are fewer than 2^63.
 use Rattle.ptlines.proofs
 use Rattle.std.proofs.Common.{◌+◌, ◌-◌, ◌^◌, length}
 use proofs.ReadLine.{LineSoFar}

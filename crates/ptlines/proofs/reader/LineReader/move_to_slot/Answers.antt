@@ -1,3 +1,5 @@
+-- `move_to_slot`: the first buffered bytes are appended to the slot, the others stay buffered, and the
+-- reader stays sound.
 use Rattle.ptlines.proofs
 use proofs.Common.{line, with_line, usual}
 use proofs.Consume.{rest_of_range}

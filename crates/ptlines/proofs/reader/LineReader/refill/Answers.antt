@@ -1,4 +1,5 @@
--- Each exit is a result of a read: the end of input, the limit of 2^63 bytes, bytes, or a failed read.
+-- Each exit is a result of a read: the end of input, the limit of 2^63 bytes, bytes, or a failed read. After each of
+-- them the reader is sound.
 use Rattle.ptlines.proofs
 use proofs.Common.{arith, rules, usual}
 use proofs.Refill.{refill_more, refill_long}

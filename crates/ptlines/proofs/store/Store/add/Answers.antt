@@ -1,3 +1,5 @@
+-- `add`: the invariant of the store with one more slot, and the number of that slot, which is the number
+-- of slots before.
 use Rattle.ptlines.proofs
 use proofs.store.Store.add.Goals as goal
 use proofs.Common.{usual, length-map, rules}

@@ -1,4 +1,5 @@
--- The line and the total grow by the appended bytes, unless memory could not be allocated.
+-- `append`: the line and the total grow by the appended bytes, unless memory could not be allocated. The total fits
+-- 128 bits, and the invariant of the store holds in both cases.
 use Rattle.ptlines.proofs
 use proofs.Common.{◌<◌, ◌^◌, length, ◌++◌, ◌∙◌, ap, arith, length-append, length-map, usual}
 use Rattle.ptlines.specs.Private.Slots.{slot_lines}

@@ -1,4 +1,5 @@
--- The line of the slot is part of the total, so the subtraction does not underflow.
+-- `clear`: the line of the slot is part of the total, so the subtraction does not underflow. The model is the one
+-- with an empty line, and the invariant of the store holds.
 use Rattle.ptlines.proofs
 use proofs.Common.{length, ap, arith, usual}
 use proofs.SlotTotals.{line_le_total, counted_after_set, store_after_set, slot_in_range, same_slot, line_of}

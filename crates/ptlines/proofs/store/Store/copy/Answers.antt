@@ -1,4 +1,5 @@
--- The target is emptied and the line of the source appended. If memory ran out, the target stays empty.
+-- `copy`: the target is emptied and the line of the source appended. If memory ran out, the target stays empty. The
+-- total (`copied`) fits 128 bits, and the invariant of the store holds in both cases.
 use Rattle.ptlines.proofs
 use proofs.Common.{◌≡◌, ◌≢◌, ◌<◌, ◌≤◌, ◌+◌, ◌^◌, ℕ, List, [], get_or, length, set, sym, ◌∙◌, ap, subst, arith}
 use proofs.Common.{length-map, with_items_is, total_bytes, usual}

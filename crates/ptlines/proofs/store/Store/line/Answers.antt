@@ -1,3 +1,4 @@
+-- `line`: the line of the slot is the one that the model of the store has there.
 use Rattle.ptlines.proofs
 use proofs.Common.{◌∙◌, rules}
 use proofs.SlotTotals.{line_before, slot_in_range}

@@ -1,3 +1,4 @@
+-- `new`: each turn of the loop adds an empty slot, so the store has as many as are asked for.
 use Rattle.ptlines.proofs
 use proofs.Common.{usual, rules}
 use proofs.store.Store.new.Goals as goal

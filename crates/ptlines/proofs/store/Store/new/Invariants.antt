@@ -1,3 +1,4 @@
+-- The loop of `new`: the store has one empty slot for each turn so far.
 use Rattle.std.proofs.Common.{◌≡◌, [], replicate, false}
 use Rattle.ptlines.proofs.store.Store.new.Given as goal
 

@@ -1,4 +1,5 @@
--- The total changes by the difference of the two lengths; the peak becomes the total if that is greater.
+-- `set_short_line`: the total changes by the difference of the two lengths, without overflow or underflow; the peak
+-- becomes the total if that is greater. The invariant of the store holds in both cases (`put_counted`).
 use Rattle.ptlines.proofs
 use proofs.Common.{◌≡◌, ◌≤◌, ◌<◌, ◌+◌, ◌-◌, ◌^◌, ℕ, List, length, take, get_or, set, ap, arith, length-map}
 use proofs.Common.{length-take-le, usual}

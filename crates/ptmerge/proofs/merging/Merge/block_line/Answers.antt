@@ -1,3 +1,5 @@
+-- The line that `Merge::block_line` returns can be merged in its block: no line is passed yet, and its span is that of
+-- its key.
 use Rattle.ptmerge.proofs
 use proofs.Common.{◌∙◌}
 use proofs.BlockLemmas.{can_merge, valid_side}

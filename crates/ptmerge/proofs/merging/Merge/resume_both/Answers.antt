@@ -1,3 +1,5 @@
+-- Each call of `resume` in `Merge::resume_both` changes one input only, so what holds for the other stays; both inputs
+-- are then at the lines reached, whether a write has failed or not.
 use Rattle.ptmerge.proofs
 use proofs.Common.{First, Second, refl}
 use proofs.merging.Merge.resume_both.Goals as goal

@@ -1,3 +1,4 @@
+-- The calls of `clear_four_slots` empty one slot after the other, so the total loses the bytes of all of them.
 use Rattle.ptmerge.proofs
 use proofs.MergeLemmas.Exits.SlotLines.{four_cleared}
 use Rattle.std.proofs.Common.{rules}

@@ -1,4 +1,6 @@
--- One lemma of `CommLemmas` for each iteration, and one of `CommLemmas` or `MergeLemmas` for each exit.
+-- The loop of `comm`: one lemma of `CommLemmas` for each iteration, and one of `CommLemmas` or `MergeLemmas` for each
+-- exit. Before each step the lines of the blocks are merged (`PassedLemmas`). Also the start, what the calls require,
+-- and the reads that are left, which decrease.
 use Rattle.ptmerge.proofs
 use proofs.Common.{refl, ◌∙◌, comm_job, First, Second}
 use proofs.MergeLemmas.{advance_pre, fails_by, start_fault, start_ok, open_merge, reads_less, between_next, ends_well}

@@ -1,3 +1,5 @@
+-- `merge_in_blocks` of `comm`, if both inputs are at short lines: what `merge_blocks` and `resume_both` require of
+-- both inputs, and that the lines of the blocks are merged then.
 use Rattle.ptmerge.proofs
 use proofs.Common.{First, Second, arith, inr}
 use proofs.BlockLemmas.{can_resume_both}

@@ -1,3 +1,4 @@
+-- What `write_head` of `comm` has pushed is the line in its column, since writing out the buffer pushes nothing more.
 use Rattle.ptmerge.proofs
 use proofs.MergeLemmas.{wrote_and_sent}
 use proofs.tools.comm.write_head.Goals as goal

@@ -1,4 +1,5 @@
--- Both orders have one proof, over the order that the job selects.
+-- `join` does nothing if the output has failed before. Otherwise its contract is that of `join_with_order`, in byte
+-- order or its reverse, since setting the terminator does not change the inputs.
 use Rattle.ptmerge.proofs
 use proofs.Common.{refl, sym, ◌∙◌}
 use proofs.MergeLemmas.Exits.{merge_halted, merge_set}

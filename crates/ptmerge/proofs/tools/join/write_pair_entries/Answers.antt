@@ -1,4 +1,5 @@
--- A write that fails leaves a prefix of the pairs.
+-- `write_pair_entries`: each iteration writes the pair with the next line of the group, whose slot exists
+-- (`ends_within`). A write that fails leaves a prefix of the pairs.
 use Rattle.ptmerge.proofs
 use Rattle.std.proofs.Common.{◌++◌, ◌+◌, ◌<◌, ◌≤◌, ◌≡◌, ◌==◌, Bool, true, false, [], ◌∷◌, List, ℕ, ap, arith, sym, map}
 use Rattle.std.proofs.Common.{⊎_elim, if◌then◌else◌}

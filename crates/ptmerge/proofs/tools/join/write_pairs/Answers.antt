@@ -1,3 +1,5 @@
+-- What `write_pairs` has pushed is the pairs, since writing out the buffer pushes nothing more, whether the call then
+-- succeeds or fails.
 use Rattle.ptmerge.proofs
 use proofs.MergeLemmas.{wrote_and_sent}
 use proofs.tools.join.write_pairs.Goals as goal

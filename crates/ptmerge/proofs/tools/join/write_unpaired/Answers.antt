@@ -1,3 +1,5 @@
+-- What `write_unpaired` has pushed is the output line of the unpaired line, if it is written, since writing out the
+-- buffer pushes nothing more.
 use Rattle.ptmerge.proofs
 use proofs.MergeLemmas.{wrote_and_sent}
 use proofs.tools.join.write_unpaired.Goals as goal

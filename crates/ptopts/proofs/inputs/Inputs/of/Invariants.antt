@@ -1,3 +1,5 @@
+-- The loop of `Inputs::of`: the inputs and the file names so far, with those of the remaining operands, are those
+-- of all operands.
 use Rattle.ptopts.proofs
 use proofs.Common.{drop, file_names, order_from, vec_len, words_view, ◌++◌, ◌≡◌}
 use proofs.inputs.Inputs.of.Given as goal

@@ -1,4 +1,5 @@
--- The operands are the strings of the plan.
+-- `char_plan`: the operands are the strings of the plan (`first_word`), so a fault is the one that the definition
+-- gives (`read_fault`), and so is the map of bytes (`read_map`).
 use Rattle.ptopts.proofs
 use proofs.Common.{Bor, Err, List, Result, Some, [], arith, refl, result_err, Ok, slice_index_or, words_view, ℕ, ◌≡◌}
 use Rattle.ptlangs.specs.Calls.TrParsing.{ok_map}

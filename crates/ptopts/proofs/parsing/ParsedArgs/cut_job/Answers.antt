@@ -1,5 +1,5 @@
--- At most one of the three lists is present. If its allocation fails, the lists read before it have no fault, and those
--- after it are absent.
+-- `cut_job`: at most one of the three lists is present. If its allocation fails, the lists read before it have no
+-- fault, and those after it are absent. If none fails, the job selects the numbers of the list.
 use Rattle.ptopts.proofs
 use proofs.Common.{err_from_is_err_and, fault_view, options_of, selected_set, arith}
 use proofs.CutOptions.{no_fault_beside_b, no_fault_beside_c}

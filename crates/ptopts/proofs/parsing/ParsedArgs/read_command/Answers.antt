@@ -1,3 +1,4 @@
+-- `read_command`: if no check finds a fault, the job of the tool and its inputs are the command of the definition.
 use Rattle.ptopts.proofs
 use proofs.Common.{arith}
 use proofs.CheckedCommand.{checked_command_ok}

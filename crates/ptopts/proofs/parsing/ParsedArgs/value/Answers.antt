@@ -1,3 +1,4 @@
+-- `value`: the search through the options of the code finds the value that the definition finds, or none.
 use Rattle.ptopts.proofs
 use proofs.Common.{Bor, List, YieldsList-from_slice, ap, find_from_yields_List, option_and_then, option_map, rules, sym}
 use proofs.Common.{ℕ, ◌==◌, ◌∙◌}

@@ -1,3 +1,5 @@
+-- `comm` has two operands, at different positions that have readers, so both readers can be borrowed at once. What
+-- the merge has done to them is what its engine does at these positions.
 use Rattle.ptrun.proofs
 use proofs.Common.{arith, rules}
 use proofs.JointRuns.{merge_post, two_apart, two_within}

@@ -1,4 +1,5 @@
--- Each operand is a column.
+-- Each operand is a column of `paste`. So what it has done, whether it failed or not, is what its engine does at the
+-- positions of the operands.
 use Rattle.ptrun.proofs
 use proofs.Common.{err_from_is_err_and, paste_job}
 use proofs.JointRuns.{rows_post}

@@ -1,4 +1,4 @@
--- `GhostBytes` are made with no items.
+-- The proof of `GhostBytes::new`, statement by statement of its body: `GhostBytes` are made with no items.
 use Rattle.std.proofs.Common.{[], ◌∷◌, refl}
 use Rattle.std.proofs.raw_atomic.Walks.{leaves, proved}
 use base.Fml.{ftrue}

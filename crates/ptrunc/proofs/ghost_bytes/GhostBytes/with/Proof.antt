@@ -1,4 +1,5 @@
--- The body does nothing: the walk is for the items, of which the `GhostBytes` that are made may have any.
+-- The proof of `GhostBytes::with`, statement by statement of its body, which does nothing at run time: `GhostBytes`
+-- may be made with any items, and so with those of `self` and the bytes after them.
 use Rattle.std.proofs.Common.{[], ◌∷◌, ◌++◌, refl}
 use Rattle.std.proofs.raw_atomic.Walks.{leaves, proved}
 use base.Logic.{emp}

@@ -1,4 +1,5 @@
--- Each iteration stores the flag of a byte below 128, and of the byte 128 after it.
+-- Each iteration stores the flag of a byte below 128, and of the byte 128 after it. So at the end the two tables are
+-- the set of the flags.
 use Rattle.ptflow.proofs
 use proofs.Common.{false, sym, ap, ◌∙◌, arith, from_bool, get_or-drop}
 use proofs.Vectors.Lanes.{set_of_nibbles, one_more_flag}

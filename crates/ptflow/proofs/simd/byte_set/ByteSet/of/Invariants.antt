@@ -1,3 +1,5 @@
+-- The loop over the bytes below 128: `low` has the flags of those so far, and `high` the flags of the bytes 128 after
+-- them.
 use Rattle.ptflow.proofs
 use proofs.Common.{drop}
 use proofs.Vectors.Lanes.{HasFlags}

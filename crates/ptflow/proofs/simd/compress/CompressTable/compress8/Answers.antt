@@ -1,3 +1,5 @@
+-- The row of the mask has indices below 16, so the shuffle by it is defined. It moves the selected lanes to the front,
+-- so these are the first of the bytes that are stored.
 use Rattle.ptflow.proofs
 use proofs.Common.{◌∙◌, [], refl, slice_index_or, arith, w8, swz_l, length-swz_l, SwzOk-from_below, ones-le, count_ones}
 use proofs.Vectors.Compress.{row_lanes, row_of_mask, row_selects, selected_stored}

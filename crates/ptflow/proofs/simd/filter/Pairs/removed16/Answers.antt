@@ -1,3 +1,5 @@
+-- The mask of the removed bytes among 16: a bit is set if the byte is in the set and equal to the one that it is
+-- compared with. The mask has 16 bits.
 use Rattle.ptflow.proofs
 use proofs.Vectors.Removal.{flags_long, mask_16, removed_mask_is}
 use proofs.simd.filter.Pairs.removed16.Goals as goal

@@ -1,3 +1,4 @@
+-- The mask of the bytes among 16 that are equal to what they are compared with, from the lanes of the comparison.
 use Rattle.ptflow.proofs
 use proofs.Common.{chunk, eqb, arith, mask_l-mod, tops_compared, w8, zip2}
 use proofs.Vectors.Compress.{pairs_long}

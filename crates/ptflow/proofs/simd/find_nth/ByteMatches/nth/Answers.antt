@@ -1,4 +1,6 @@
--- The first match is known. Another one is found by the mask of the first bytes, shifted to those from an index on.
+-- The first match is known. Another one is found by the mask of the first bytes, shifted to those from an index on
+-- (`here`), or, if no match is to be skipped, as the first one after that index. At each exit the index is compared
+-- with the end of the range.
 use Rattle.ptflow.proofs
 use proofs.Common.{ℕ, ◌≡◌, ◌≤◌, ◌-◌, length, take, drop, refl, arith, ones-mask_l, length-drop, take_rest, usual}
 use proofs.Common.{is_byte, IsNth}

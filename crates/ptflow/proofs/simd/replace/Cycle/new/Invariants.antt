@@ -1,3 +1,5 @@
+-- The loop that unrolls a cycle: each entry before `number` is the byte at its index modulo the length. The array
+-- keeps its length.
 use Rattle.ptflow.proofs
 use proofs.Common.{◌≡◌, ◌<◌, ◌%◌, ℕ, length, slice_index_or}
 use proofs.simd.replace.Cycle.new.Given as goal

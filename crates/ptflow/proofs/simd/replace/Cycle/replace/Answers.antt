@@ -1,3 +1,5 @@
+-- A cycle of one byte is a map of bytes. For a longer one, the bytes after the last chunk are copied one by one, and a
+-- terminator is replaced by the next byte of the cycle.
 use Rattle.ptflow.proofs
 use proofs.Common.{◌≡◌, ◌+◌, ◌%◌, ◌<◌, ℕ, [], ◌∷◌, refl, sym, ap, arith, length, length-set, slice_index_or, mod-lt}
 use proofs.Common.{usual, mod-eq_of_lt, count_by, is_byte, take, ◌∙◌}

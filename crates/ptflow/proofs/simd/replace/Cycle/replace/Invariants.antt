@@ -1,3 +1,5 @@
+-- The loop over single bytes: the bytes before the index were copied with their terminators replaced (`IsReplacedTo`),
+-- and those after it get fewer.
 use Rattle.ptflow.proofs
 use proofs.Common.{◌-◌, length, IsReplacedTo}
 use proofs.simd.replace.Cycle.replace.Given as goal

@@ -1,4 +1,5 @@
--- Each iteration replaces the terminator of the lowest bit by the next byte of the cycle.
+-- The loop over the terminators of a chunk: its invariant at the start and after an iteration, which replaces the
+-- terminator of the lowest bit by the next byte of the cycle, and what follows from it at the end.
 use Rattle.ptflow.proofs
 use proofs.Common.{◌≡◌, ◌+◌, ◌<◌, arith, count_ones, chunk, count_by, count_by-le-length, length-chunk, ones-mask_l}
 use proofs.Common.{is_byte, refl}

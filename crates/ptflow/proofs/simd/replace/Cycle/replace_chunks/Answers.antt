@@ -1,3 +1,4 @@
+-- Each iteration adds the 64 bytes that `replace_chunk` copied.
 use Rattle.ptflow.proofs
 use Rattle.std.proofs.Common.{arith}
 use proofs.PasteLemmas.Replaced.{replaced_more}

@@ -1,3 +1,5 @@
+-- The map that replaces the terminator, in 16 lanes: each has the new byte if it is equal to the terminator, and is
+-- unchanged if not.
 use Rattle.ptflow.proofs
 use proofs.Common.{sym, eqb, splat_is_map}
 use proofs.Vectors.Lanes.{sel_maps, tests_are, map-id}

@@ -1,3 +1,4 @@
+-- Each iteration adds the range of one more stretch. At the end the ranges add to each byte what the stretches add.
 use Rattle.ptflow.proofs
 use proofs.Common.{usual, length-set, arith, ap, ◌∙◌, stretch_delta}
 use proofs.Vectors.Lanes.{one_stretch_more}

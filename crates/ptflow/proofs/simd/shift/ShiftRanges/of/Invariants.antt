@@ -1,4 +1,5 @@
--- Past the last stretch a range adds nothing.
+-- The loop over the `N` ranges: those before the index add to each byte what the first stretches add. Past the last
+-- stretch a range adds nothing.
 use Rattle.ptflow.proofs
 use proofs.Common.{◌≡◌, ◌<◌, ℕ, length, take}
 use proofs.Vectors.Lanes.{range_sum, stretch_sum}

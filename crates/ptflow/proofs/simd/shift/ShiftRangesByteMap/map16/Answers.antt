@@ -1,3 +1,4 @@
+-- Each iteration adds to the 16 images what one more range adds to the bytes.
 use Rattle.ptflow.proofs
 use proofs.Common.{arith}
 use proofs.Vectors.Lanes.{one_range_more}

@@ -1,3 +1,5 @@
+-- The loop over the slices of a line: what was copied, and then the output from the cursor on, are its selected
+-- fields. The copy is not longer than the line, and each slice takes an interval.
 use Rattle.ptflow.proofs
 use proofs.Common.{◌≡◌, ◌+◌, ◌≤◌, ◌++◌, length, take, cut_job, cut_fields, IsFieldCursor, output_from_cursor}
 use proofs.tools.cut.fields.copy_fields.Given as goal

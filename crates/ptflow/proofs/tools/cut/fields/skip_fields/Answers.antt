@@ -1,4 +1,5 @@
--- Field n starts after the n-th delimiter.
+-- Field n starts after the n-th delimiter. If there are fewer, the index is after the end of the line. No index
+-- overflows.
 use Rattle.ptflow.proofs
 use proofs.Common.{◌≡◌, ◌+◌, ◌-◌, take, drop, length, arith, usual, length-drop, length-take-le}
 use proofs.CutLemmas.Fields.{offset_start, offset_end, offset_after_nth}

@@ -1,3 +1,5 @@
+-- The loop over the slices of a line: the pushed bytes, and then the output from the cursor on, are its selected
+-- fields (`WrittenPrefix`). No write has failed, and each slice takes an interval.
 use Rattle.ptflow.proofs
 use proofs.Common.{◌≡◌, false, length, take, cut_job, cut_fields, IsFieldCursor, output_from_cursor}
 use proofs.Passes.Exits.{WrittenPrefix}

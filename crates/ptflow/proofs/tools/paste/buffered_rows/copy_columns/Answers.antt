@@ -1,4 +1,6 @@
--- A field that cannot be copied ends the loop, and nothing of it was consumed.
+-- The loop over columns: its invariant at the start and after one more field, and that the reader of a column is in
+-- the slice. A field that cannot be copied ends the loop, and nothing of it was consumed. So does the last column,
+-- which has the terminator after it.
 use Rattle.ptflow.proofs
 use proofs.Common.{◌≡◌, take, take_more_set, length, set, get_or, arith, set-get_or, mod-add-mod, rules, eq-eqb, ne_eqb}
 use proofs.Common.{refl, ◌∙◌, ap, ◌+◌, ◌%◌}

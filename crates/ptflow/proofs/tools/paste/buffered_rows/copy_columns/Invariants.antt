@@ -1,4 +1,6 @@
--- In the loop `begun` is a tuple: the number of copied columns, the end of their copy, and whether one has a line.
+-- The loop over columns: the text of those so far (`CopyColumnsPost`) and its bounds. `begun` is a tuple: the number
+-- of copied columns, the end of their copy, and whether one has a line. `index` is that of the next delimiter. Each
+-- iteration copies a column.
 use Rattle.ptflow.proofs
 use proofs.Common.{◌≡◌, ◌≤◌, ◌%◌, ◌-◌, length, take, CopyColumnsPost, begun_in, shape_of}
 use proofs.tools.paste.buffered_rows.copy_columns.Given as goal

@@ -1,3 +1,5 @@
+-- The vector is stored whole, so the line that was found in it was copied, and the bytes before it stay. Without a
+-- terminator in the vector nothing is changed.
 use Rattle.ptflow.proofs
 use proofs.Common.{◌-◌, arith, rules, usual, take-append-add, take_more_put_chunk}
 use Rattle.ptlines.proofs.CopyFacts.{copied_prefix}

@@ -1,3 +1,5 @@
+-- For `copy_row`: after its segments are copied the readers can still be read. The columns that were copied by
+-- segments, and those that were copied one by one after them, are one copy of columns.
 use Rattle.ptflow.proofs
 use proofs.PasteLemmas.BufferedRows.{still_readable}
 use proofs.PasteLemmas.Segments.{columns_trans}

@@ -1,4 +1,6 @@
--- The loop ends at a row that is not complete, or has no line.
+-- For `copy_rows_by_columns`: the start, the steps and the end of its loop over rows. At the start no row is taken. A
+-- complete row is added to those before it, takes a line, and leaves readers that can be read. The loop ends at a row
+-- that is not complete, or has no line.
 use Rattle.ptflow.proofs
 use Rattle.std.proofs.Math.Bool.{not-not}
 use proofs.Common.{◌≡◌, take, take-take, take-append-le, length-take-le, ◌∙◌, ap, not, [], sym, arith, rules, length}

@@ -1,3 +1,5 @@
+-- For `copy_rows_by_segments`: the start, the steps and the end of its loop over rows. After some rows the readers
+-- can still be read, and the segments are still right. A complete row is added to those before it, and takes a line.
 -- The loop ends at a row that is not complete, or has no line.
 use Rattle.ptflow.proofs
 use Rattle.std.proofs.Math.Bool.{not-not}

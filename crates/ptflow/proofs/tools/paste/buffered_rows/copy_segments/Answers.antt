@@ -1,4 +1,7 @@
--- A field that cannot be copied ends the loop, and nothing of it was consumed.
+-- For `copy_segments`. Facts about the first segment that is left (`segment`, `first`, `low`): which columns it has,
+-- and that its reader exists. By these, each copied segment is added to the columns before it. A field that cannot be
+-- copied ends the loop, and nothing of it was consumed; so does a segment that may not fit, of which the first column
+-- is copied.
 use Rattle.ptflow.proofs
 use proofs.Common.{◌≡◌, ◌<◌, [], ◌+◌, drop, set, get_or, arith, set-get_or, ◌∙◌, ap, sym, subst, take_all, length, length-drop, shape_of}
 use borrow.Author.Rules.{scaled_Fits}

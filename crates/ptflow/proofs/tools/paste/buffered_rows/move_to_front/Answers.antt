@@ -1,3 +1,5 @@
+-- For `move_to_front`: the bytes from one index to another, copied to the start of the same bytes, are the first ones
+-- there (lemma `moved`).
 use Rattle.ptflow.proofs
 use proofs.Common.{◌≡◌, ◌+◌, ◌-◌, ◌≤◌, ℕ, List, length, take, drop, arith, length-drop, drop-take, rules}
 use lib.Seq.{paste}

@@ -1,3 +1,5 @@
+-- The invariant of the loop of `delimiter_bytes`: the list has one byte for each column so far, and that is the
+-- delimiter after the column.
 use Rattle.ptflow.proofs
 use proofs.Common.{◌≡◌, ◌<◌, ℕ, [], ◌∷◌, length, slice_index_or, delimiter}
 use proofs.tools.paste.row.delimiter_bytes.Given as goal

@@ -1,4 +1,6 @@
--- The column `next` is added to the segment.
+-- For `segment_at`: the byte after the column `next` is added to the bytes of the segment (lemma `text`). The step of
+-- its loop, if the input of the column after that one has ended, too; and its result, a segment of the columns so
+-- far.
 use Rattle.ptflow.proofs
 use proofs.Common.{◌≡◌, ◌+◌, ◌-◌, ◌∙◌, suc, take, refl, ap, arith, shape_of}
 use proofs.PasteLemmas.BufferedRows.{at_index}

@@ -1,4 +1,6 @@
--- The columns before `next` are done, and that one belongs to the segment.
+-- The invariant of the loop of `segment_at`: the bytes after the columns before `next` are stored, with room for one
+-- more, and `next` belongs to the segment: the inputs of all its columns but the first have ended. Each iteration
+-- leaves fewer columns.
 use Rattle.ptflow.proofs
 use proofs.Common.{◌≡◌, ◌<◌, ◌≤◌, ◌+◌, ◌-◌, length, take, shape_of}
 use proofs.PasteLemmas.Segments.{ends_text}

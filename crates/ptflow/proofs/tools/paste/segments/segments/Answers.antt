@@ -1,3 +1,5 @@
+-- For `segments`, the step of its loop: the segment of the next column is added to the list, and its number of
+-- columns to their sum.
 use Rattle.ptflow.proofs
 use proofs.Common.{◌≡◌, ◌+◌, ◌∷◌, [], arith, sum_by, sum_by-append, sum_by-cons, shape_of}
 use proofs.PasteLemmas.Segments.{segments_more}

@@ -1,5 +1,6 @@
--- Up to `rows_end` the buffer has a multiple of a row's number of terminators and ends with one, so it is complete
--- rows.
+-- For `copy_shared_rows`. Up to `rows_end` the buffer has a multiple of a row's number of terminators and ends with
+-- one, so it is complete rows. The copy of these bytes is the first part of the copy of the whole buffer, with the
+-- terminators replaced.
 use Rattle.ptflow.proofs
 use proofs.Common.{◌+◌, ◌/◌, ◌-◌, length, take, ap, ◌∙◌, arith, get_or-take, take-append-le, length-take-le, count_by}
 use proofs.Common.{is_byte}

@@ -1,4 +1,6 @@
--- Each search moves back to the last terminator before `at`.
+-- For `rows_end`. If no byte from an index on passes a test, those before it have the whole count (lemma
+-- `none_after`). So each search, which moves back to the last terminator before `at`, lowers the count by one; and if
+-- it finds none, no terminator is left.
 use Rattle.ptflow.proofs
 use proofs.Common.{◌≡◌, ℕ, zero, suc, ◌+◌, ◌-◌, ◌<◌, ◌≤◌, Bool, true, List, length, take, get_or, sym, ◌∙◌, ap, arith}
 use proofs.Common.{get_or-take, count_by, false_from_ne_true, length-take-le, take_all, take-take, count_by_more_no}

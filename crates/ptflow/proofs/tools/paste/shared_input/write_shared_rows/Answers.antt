@@ -1,4 +1,6 @@
--- The complete rows at the start of the buffer are copied and pushed.
+-- For `write_shared_rows`: without a cycle, or if no row was copied, nothing is written. With a cycle there is a
+-- first column, and the index of its reader is in bounds. The complete rows at the start of the buffer are copied and
+-- pushed.
 use Rattle.ptflow.proofs
 use proofs.Common.{get_or, arith, set-get_or}
 use proofs.PasteLemmas.BufferedRows.{copied_rows, no_rows_written, next_reader}

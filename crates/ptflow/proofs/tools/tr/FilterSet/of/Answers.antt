@@ -1,3 +1,5 @@
+-- For `FilterSet::of`, the step of its loop: a byte whose flag is set is counted and becomes the last one; any other
+-- byte changes nothing.
 use Rattle.ptflow.proofs
 use proofs.Common.{arith}
 use proofs.TrLemmas.FilterSet.{after_set, after_clear}

@@ -1,3 +1,5 @@
+-- The invariant of the loop of `FilterSet::of` (`IsCounted`): `count` of the flags so far are set, and `last` is the
+-- index of the last of them.
 use Rattle.ptflow.proofs
 use proofs.TrLemmas.FilterSet.{IsCounted}
 use proofs.tools.tr.FilterSet.of.Given as goal

@@ -1,4 +1,5 @@
--- The map kind has the images of the plan.
+-- For `Translation::mapped`: the map kind has the images of the plan. With `Identity` these are the bytes themselves,
+-- so the bytes are returned as they are.
 use Rattle.ptflow.proofs
 use proofs.Common.{sym, ◌∙◌, rules}
 use proofs.Vectors.Lanes.{map-id, images_same}

@@ -1,5 +1,6 @@
--- A line with another key ends the current run, whose output is pushed, and becomes the first line of the next one by a
--- swap of the two slots.
+-- For `process_line` of `LineUniq`. A line with the key of the current run only adds to its count. A line with
+-- another key ends the run, whose output is pushed, and becomes the first line of the next one by a swap of the two
+-- slots. Lemmas: what the test of the keys means (`test`), and the steps before the line (`before`).
 use Rattle.ptflow.proofs
 use proofs.Common.{[], ◌∷◌, ◌&&◌, ◌≡◌, refl, sym, subst, usual, line, nat_lt, is_same, uniq_job, first_line}
 use proofs.Common.{RunsWritten, current_run_of, run_of, push_nothing, rules}

@@ -1,4 +1,5 @@
--- The rest begins with one more copy of the line.
+-- For `skip_repeats`, the step of its loop: the rest begins with one more copy of the line. Lemmas about a repeated
+-- line: a copy after the others is one more (`one_more`), and so is one at the start of the rest (`copied`).
 use Rattle.ptflow.proofs
 use proofs.Common.{◌≡◌, ℕ, ◌+◌, List, ◌++◌, zero, suc, take, drop, arith, usual, append_assoc, append-nil}
 use proofs.Common.{take-append-drop}

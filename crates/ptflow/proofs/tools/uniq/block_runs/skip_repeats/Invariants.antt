@@ -1,3 +1,5 @@
+-- The invariant of the loop of `skip_repeats`: after the line come `count` copies of it, and then `rest`; so the
+-- count is at most the number of bytes. Each iteration makes `rest` shorter.
 use Rattle.ptflow.proofs
 use proofs.Common.{◌≡◌, ◌≤◌, ◌+◌, ◌++◌, length, take, drop}
 use Rattle.ptflow.specs.Private.Uniq.BlockRuns.{repeated}

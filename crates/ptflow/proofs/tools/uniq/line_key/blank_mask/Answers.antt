@@ -1,3 +1,4 @@
+-- For `blank_mask`: the lanes that are equal to a space or a tab are those of the blanks among the 32 bytes.
 use Rattle.ptflow.proofs
 use proofs.Common.{chunk, length-chunk}
 use proofs.UniqLemmas.Keys.{blanks_are}

@@ -1,4 +1,5 @@
--- `left` field ends are still to be skipped.
+-- The invariant of the loop of `skip_fields_cold`: `left` field ends are still to be skipped in the line from index
+-- `at` on, which gives the result for the whole line. Each iteration leaves fewer bytes.
 use Rattle.ptflow.proofs
 use proofs.Common.{◌≡◌, ◌<◌, ◌≤◌, ◌-◌, length, take, drop}
 use proofs.UniqLemmas.Keys.{suffix_at}

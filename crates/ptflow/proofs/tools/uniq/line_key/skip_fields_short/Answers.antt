@@ -1,3 +1,5 @@
+-- For `skip_fields_short`: the result if no field is left to be skipped, the step of its loop at a byte that ends a
+-- field, and the result at the end of the line, where nothing is left.
 use Rattle.ptflow.proofs
 use proofs.Common.{arith, nil_from_length, usual}
 use proofs.UniqLemmas.Keys.{next_byte, suffix_is, suffix_none, suffix_zero}

@@ -1,3 +1,5 @@
+-- The invariant of the loop of `skip_fields_short`: skipping `left` more fields in `rest` gives the result for the
+-- whole line. Each iteration takes a byte from `rest`.
 use Rattle.ptflow.proofs
 use Rattle.std.proofs.Common.{◌≡◌, length}
 use proofs.UniqLemmas.Keys.{suffix_at}

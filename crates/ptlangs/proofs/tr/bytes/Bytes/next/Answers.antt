@@ -1,4 +1,6 @@
--- A segment without a byte at the index is passed.
+-- Answers for `Bytes::next`: the next byte is that at the index of the segment; a segment without a byte there is
+-- passed, and the next one is read. The fault of an element or of its segment is that of the bytes left. After the
+-- last segment there is no byte.
 use Rattle.ptlangs.proofs
 use proofs.Common.{Ok, arith, chars, usual, drop, sym, is_fill, length}
 use proofs.Common.{member_results, segments, set_elements, ◌||◌, ◌≡◌, drop_all}

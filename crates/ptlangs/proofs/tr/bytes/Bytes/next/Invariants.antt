@@ -1,4 +1,5 @@
--- The segments that were passed have no bytes left.
+-- The loop of `Bytes::next`: the segments that were passed have no bytes left, so the bytes left are the same, and
+-- the bound on their number has not grown. The text that is left gets shorter.
 use Rattle.ptlangs.proofs
 use proofs.Common.{bytes_left, length, most_left, ◌-◌, ◌≡◌, ◌≤◌}
 use proofs.tr.bytes.Bytes.next.Given as goal

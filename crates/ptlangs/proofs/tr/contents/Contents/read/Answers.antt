@@ -1,4 +1,6 @@
--- The fault of a byte is that of the string. At the end all bytes are read.
+-- Answers for `Contents::read`: each turn adds a byte and the copies of it that follow. The fault of a byte is that
+-- of the string. At the end all bytes are read. The length stays within its bound, and fewer bytes are left after
+-- each turn.
 use Rattle.ptlangs.proofs
 use proofs.Common.{List, Ok, Segment, ap, arith, array, usual, contents_of, map-append, member_bytes, ok_map}
 use proofs.Common.{plain_members, refl, replicate, string_segments, sym, ◌++◌, ◌∙◌, ◌∷◌, ◌≡◌}

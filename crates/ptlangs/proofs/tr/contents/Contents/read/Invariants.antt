@@ -1,4 +1,5 @@
--- The bytes so far and those that are left are together no more than the text allows.
+-- The loop of `Contents::read`: the contents are those of the bytes so far. These and the bytes that are left are
+-- together all bytes of the string, and no more than the text allows. Fewer are left after each turn.
 use Rattle.ptlangs.proofs
 use proofs.Common.{List, Member, bytes_left, contents_of, length, member_bytes, member_results, most_left, segments_of}
 use proofs.Common.{◌*◌, ◌+◌, ◌≡◌, ◌≤◌}

@@ -1,4 +1,6 @@
--- A class that starts after the end of the first array has no other case.
+-- Answers for `Images::finish`: a class that starts after the end of the first array has no other case, which is a
+-- fault; other bytes are passed, with their copies. No read of a byte fails here, and fewer bytes are left after
+-- each turn.
 use Rattle.ptlangs.proofs
 use proofs.Common.{rules, arith}
 use proofs.TrArrays.{never_fault, passing-copies, passing-end, passing-next, split_ok}

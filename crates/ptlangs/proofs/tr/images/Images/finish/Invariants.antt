@@ -1,3 +1,5 @@
+-- The loop of `Images::finish`: no class started in the bytes of the second array that were passed, and the table
+-- has the images of all bytes. Fewer bytes are left after each turn.
 use Rattle.ptlangs.proofs
 use proofs.Common.{HasPaired, List, Member, most_left}
 use proofs.TrArrays.{IsPassing}

@@ -1,4 +1,5 @@
--- The next byte of the second array becomes the last one; if none is left, the last one stays.
+-- Answers for `Images::push`: the next byte of the second array becomes the last one; if none is left, the last one
+-- stays. A class that starts with it without its other case is a fault. No read of a byte fails here.
 use Rattle.ptlangs.proofs
 use proofs.Common.{arith, rules, None}
 use proofs.TrArrays.{never_fault, push-last, push-next, written, takes_next}

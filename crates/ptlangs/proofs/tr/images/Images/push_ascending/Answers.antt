@@ -1,4 +1,6 @@
--- A byte that the complement contains is paired after those below it.
+-- Answers for `Images::push_ascending`: a byte that the complement contains is paired after those below it, and any
+-- other is passed (`paired`). A class that cannot be paired with one of these bytes cannot be paired with the
+-- complement.
 use Rattle.ptlangs.proofs
 use proofs.Common.{HasPaired, List, Member, PairPost, [], all_paired, ap, append-nil, arith, complement_of, contents_of}
 use proofs.Common.{map-append, plain_members, subst, ℕ, ◌+◌, ◌∙◌, ◌≡◌, take_all}

@@ -1,4 +1,5 @@
--- As the string has no fault, the bytes that are paired are all of its array.
+-- Answers for `Images::push_string`: as the string has no fault, no read of a byte fails, and the bytes that are
+-- paired are all of its array. A class that cannot be paired with one of them cannot be paired with the array.
 use Rattle.ptlangs.proofs
 use proofs.Common.{First, PairPost, all_paired, ap, marked_array, member_results, refl, segments_of, sequence, ◌∙◌}
 use proofs.Common.{arith}

@@ -1,3 +1,5 @@
+-- The loop of `Images::push_string`: the bytes that were read are paired, and with those that are left they are all
+-- bytes of the string. Fewer are left after each turn.
 use Rattle.ptlangs.proofs
 use proofs.Common.{First, HasPaired, List, Member, [], bytes_left, member_results, most_left, segments_of}
 use proofs.TrArrays.{ItemsRead}

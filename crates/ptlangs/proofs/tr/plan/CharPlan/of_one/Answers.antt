@@ -1,3 +1,5 @@
+-- Answers for `CharPlan::of_one`: its tables are those of the plan, for the form that deletes and for the form that
+-- squeezes.
 use Rattle.ptlangs.proofs
 use proofs.Common.{Contents, Delete, Form, Squeeze, [], ap, plan_of, sym, tables, ◌∙◌}
 use proofs.TrArrays.{none_contained}

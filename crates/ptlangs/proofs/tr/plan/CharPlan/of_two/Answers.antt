@@ -1,5 +1,6 @@
--- The second string is read first without a fill, to find how many bytes a fill has. It has the same segments each
--- time.
+-- Answers for `CharPlan::of_two`: its tables are those of the plan, for the form that deletes and for those that
+-- translate, or the fault is that of the images. The second string is read first without a fill, to find how many
+-- bytes a fill has. It has the same segments each time (`seen`).
 use Rattle.ptlangs.proofs
 use proofs.Common.{List, Segment, arith, contents_of, first_array, first_members, member_results, ok_map, rules}
 use proofs.Common.{segments_of, tables, ◌∙◌, ◌≡◌}

@@ -1,3 +1,5 @@
+-- Answer for `CharPlan::read`, if there are two strings: the plan that `of_two` makes, or its fault in the second
+-- string, is that of both strings.
 use Rattle.ptlangs.proofs
 use proofs.Common.{SetFault, ap, in_string, plan, result_map_both, sym, tables, ◌∙◌, arith}
 use proofs.TrPlans.{in_string-ok, mapped_ok, plan_two}

@@ -1,3 +1,4 @@
+-- Answers for `Segment::byte`: an index within a range or a class can be counted up, as both have at most 256 bytes.
 use Rattle.ptlangs.proofs
 use proofs.Common.{arith}
 use proofs.TrArrays.{class_bytes-short, length-span, room}

@@ -1,3 +1,5 @@
+-- Answers for `Shifts::image`: each stretch adds its shift if it contains the byte. The order of the stretches,
+-- which the code has reversed, does not change the sum.
 use Rattle.ptlangs.proofs
 use proofs.Common.{usual}
 use proofs.TrShifts.{moved_reversed}

@@ -1,3 +1,4 @@
+-- The loop of `Shifts::image`: the image so far is the byte and what the stretches so far add to it, modulo 256.
 use Rattle.ptlangs.proofs
 use proofs.Common.{shift_at, sum_by, take, ◌%◌, ◌+◌, ◌≡◌}
 use proofs.tr.shifts.Shifts.image.Given as goal

@@ -1,3 +1,5 @@
+-- The line that `BlockLine::next` returns: the bytes up to the first terminator that is near are the next line of the
+-- block.
 use Rattle.ptmerge.proofs
 use proofs.Common.{usual, refl, arith}
 use proofs.BlockLemmas.{near_line}

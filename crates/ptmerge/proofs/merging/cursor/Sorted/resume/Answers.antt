@@ -1,3 +1,5 @@
+-- `Sorted::resume`, with and without lines passed: the bytes that it consumes end with the line reached, and the
+-- reader still belongs to the cursor, which counts the lines passed.
 use Rattle.ptmerge.proofs
 use proofs.Common.{arith, length, ◌-◌}
 use proofs.BlockLemmas.{own_on}

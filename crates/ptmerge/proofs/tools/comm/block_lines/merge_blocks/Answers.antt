@@ -1,4 +1,5 @@
--- Each arm passes one line, or one of each input.
+-- The loop of `merge_blocks` of `comm`: it starts with no line passed, and each arm passes one line, or one of each
+-- input. Also what the calls of `next` require, and the returns after a write that failed.
 use Rattle.ptmerge.proofs
 use proofs.Common.{ap, arith, is_gt, First, Second, both, comm_job}
 use proofs.MergeLemmas.{less_flips, IsKeyOrder}

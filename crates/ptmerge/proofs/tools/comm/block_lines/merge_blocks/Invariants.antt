@@ -1,4 +1,4 @@
--- The lines passed so far are merged.
+-- The lines of both blocks passed so far are merged, as `comm` does; each iteration leaves fewer bytes in the blocks.
 use Rattle.ptmerge.proofs
 use proofs.Common.{comm_job, both, ◌+◌, length}
 use Rattle.ptmerge.specs.Calls.Comm.{comm_with}

@@ -1,4 +1,5 @@
--- Each arm passes one line, or one of each input.
+-- The loop of `pair_blocks` of `join`: it starts with no line passed, and each arm passes an unpaired line, or a pair.
+-- Also what the calls of `key` and `next` require, and the returns after a write that failed.
 use Rattle.ptmerge.proofs
 use proofs.Common.{sym, ◌∙◌, ap, arith, is_gt, First, Second, both, join_job}
 use proofs.MergeLemmas.{less_flips, IsKeyOrder}

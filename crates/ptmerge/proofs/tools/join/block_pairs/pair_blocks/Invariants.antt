@@ -1,4 +1,5 @@
--- The lines passed so far are merged.
+-- Of the lines passed so far, the pairs and the unpaired lines are written, as `join` does; the bytes left in the two
+-- blocks decrease.
 use Rattle.ptmerge.proofs
 use proofs.Common.{join_job, both, ◌+◌, length}
 use Rattle.ptmerge.specs.Calls.Join.{join_with}

@@ -1,3 +1,4 @@
+-- Each mask that `masks_in` returns has the bits of the lanes that equal its byte.
 use Rattle.ptmerge.proofs
 use Rattle.std.proofs.lemmas
 use proofs.Common.{eqb}

@@ -1,4 +1,5 @@
--- A canonical line is its key and its other fields, so it is written unchanged.
+-- `write_alone`: a canonical line is its key and its other fields, so it is written unchanged. Any other is written by
+-- `write_entry`.
 use Rattle.ptmerge.proofs
 use proofs.Common.{ap, join_job}
 use proofs.JoinLemmas.Fields.{alone_is, one_line_is}

@@ -1,4 +1,5 @@
--- A write that fails leaves a prefix of the words.
+-- `write_other_words`: each iteration writes a word before the join field, and `write_words` those after it. A write
+-- that fails leaves a prefix of the words.
 use Rattle.ptmerge.proofs
 use proofs.Common.{◌∷◌, ℕ, List, ap, arith, with_prefix, usual}
 use proofs.JoinLemmas.Fields.{partial_ends, each_fails, each_more, others_more, others_rest}

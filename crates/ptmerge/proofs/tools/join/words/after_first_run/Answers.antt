@@ -1,3 +1,4 @@
+-- The addition in `after_first_run` does not overflow, since the mask is less than 2^63.
 use Rattle.ptmerge.proofs
 use proofs.Common.{◌-◌, arith}
 use lib.Bits.{or_lt}

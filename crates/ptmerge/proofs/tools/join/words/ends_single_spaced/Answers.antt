@@ -1,3 +1,4 @@
+-- `ends_single_spaced`: the end of the line counts as a space after the bytes, so no blank may come before it.
 use Rattle.ptmerge.proofs
 use proofs.Common.{arith, length-append}
 use proofs.JoinLemmas.Fields.{spaced_to_end, with_end}

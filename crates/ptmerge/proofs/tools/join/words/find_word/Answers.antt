@@ -1,4 +1,5 @@
--- The set bits are the words that were not passed, so the first run of them is the next word.
+-- `find_word`: if no bit is left after the loop, the line has too few words. The mask of those that are left is less
+-- than 2^63, as `after_first_run` requires.
 use Rattle.ptmerge.proofs
 use proofs.Common.{arith, rules}
 use proofs.JoinLemmas.Fields.{none_left, words_small}

@@ -1,3 +1,5 @@
+-- The loop of `is_single_spaced_long`: if a blank among the next 64 bytes is misplaced, the line is not single-spaced.
+-- Otherwise the rest of the line decides, with whether the last of these bytes is a blank.
 use Rattle.ptmerge.proofs
 use proofs.Common.{◌==◌, ◌∙◌, ◌+◌, ◌^◌, ◌≤◌, length, ap, arith, sym}
 use Rattle.std.proofs.Common.{◌/◌}

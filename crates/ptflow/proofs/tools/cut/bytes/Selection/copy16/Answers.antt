@@ -1,4 +1,5 @@
--- A shuffle moves the selected bytes of a piece to the front.
+-- A shuffle moves the selected bytes of a piece to the front. Its indices are below 16, and it selects no more bytes
+-- than the piece has.
 use Rattle.ptflow.proofs
 use proofs.Common.{refl, arith, w8, SwzOk-from_below}
 use Rattle.ptflow.specs.Private.Cut.ShortLines.{piece_at}

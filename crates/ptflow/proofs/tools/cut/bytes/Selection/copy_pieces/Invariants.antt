@@ -1,3 +1,5 @@
+-- The loop over pieces of 16 bytes: the selected bytes of those before `index` were copied, and they are not more than
+-- the pieces have.
 use Rattle.ptflow.proofs
 use proofs.Common.{◌≡◌, ◌≤◌, ◌+◌, ◌*◌, ◌++◌, take, select_from, is_selected}
 use proofs.tools.cut.bytes.Selection.copy_pieces.Given as goal

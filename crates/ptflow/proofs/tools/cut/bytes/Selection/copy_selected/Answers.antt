@@ -1,4 +1,5 @@
--- An interval that reaches the end of the piece is the last one.
+-- The loop over the intervals: the invariant at the start and after one more interval, and the bounds of indices. An
+-- interval that reaches the end of the piece is the last one; if no interval is left, nothing more is selected.
 use Rattle.ptflow.proofs
 use proofs.Common.{arith, usual, ◌≤◌, drop, length, length-drop, take_rest, ℕ, ◌∙◌, ap, min, append-nil}
 use proofs.Common.{drop_all}

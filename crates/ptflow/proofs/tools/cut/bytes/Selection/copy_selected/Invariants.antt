@@ -1,3 +1,5 @@
+-- The loop over the intervals: what those so far select of the piece was copied, and the others are left
+-- (`CopyInvariant`).
 use Rattle.ptflow.proofs
 use Rattle.std.proofs.Common.{take, drop}
 use proofs.CutLemmas.CutBytes.{CopyInvariant}

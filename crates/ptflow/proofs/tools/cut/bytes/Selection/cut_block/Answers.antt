@@ -1,4 +1,5 @@
--- In a chunk without a terminator the line continues.
+-- The loop over chunks of 64 bytes: the lines that end in one are cut by `cut_chunk`. In a chunk without a terminator
+-- the line continues.
 use Rattle.ptflow.proofs
 use proofs.Common.{[], ap, arith, ◌∙◌, count_ones, ones-mask_l, is_byte}
 use proofs.Vectors.FindNth.{count_chunk}

@@ -1,5 +1,5 @@
--- The lowest bit that is left is the next terminator, and the line up to it is cut. Each set bit has one iteration, so
--- none is left at the end.
+-- A chunk of empty lines is its own output. Otherwise the lowest bit that is left is the next terminator (`next`), and
+-- the line up to it is cut. Each set bit has one iteration, so none is left at the end.
 use Rattle.ptflow.proofs
 use proofs.Common.{◌≡◌, ◌+◌, suc, map, refl, ◌∙◌, ap, arith, count_ones, chunk, length-chunk, take_more_put_chunk}
 use proofs.Common.{ones-mask_l, is_byte}

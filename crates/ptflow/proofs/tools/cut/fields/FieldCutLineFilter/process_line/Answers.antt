@@ -1,4 +1,5 @@
--- No state is carried from line to line.
+-- If a write of the line fails, what was pushed is a prefix of its output, and so of the output for it and any lines
+-- after it: no state is carried from line to line.
 use Rattle.ptflow.proofs
 use proofs.Common.{◌∷◌, [], line, cut_job, cut_lines, usual, Result, Ok, Err, OnErr}
 use proofs.tools.cut.fields.FieldCutLineFilter.process_line.Goals as goal

@@ -1,4 +1,5 @@
--- Each iteration copies output to the buffer, which is pushed at the end.
+-- Each iteration copies output to the buffer, which is pushed at the end, when no complete line is left. If that push
+-- succeeds, the pushed bytes are the output for the lines of the block; if it fails, a prefix of it.
 use Rattle.ptflow.proofs
 use proofs.Common.{ℕ, List, ◌+◌, ◌≤◌, length, drop, ◌++◌, take, ◌∙◌, ap, arith, length-drop, take_rest, IsLine, take_at}
 use proofs.Common.{complete_lines, line_if_not_found, complete_lines_none, cut_job, cut_lines, append-nil, usual}

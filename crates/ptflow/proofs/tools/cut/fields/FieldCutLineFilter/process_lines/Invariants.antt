@@ -1,4 +1,5 @@
--- The output in the buffer is not longer than the lines so far.
+-- The loop over the lines of a block: the buffer has the output for those so far, and is not longer than they are. The
+-- selection stays the same, and the rest of the block gets shorter.
 use Rattle.ptflow.proofs
 use proofs.Common.{◌≡◌, ◌+◌, ◌≤◌, ◌++◌, ℕ, List, length, take, complete_lines, cut_job, cut_lines}
 use proofs.Passes.Exits.{TakenLines}

@@ -1,3 +1,4 @@
+-- Each iteration stores the shuffle of one more piece, and leaves the others as they are.
 use Rattle.ptflow.proofs
 use proofs.Common.{⊎_elim, arith, cases_eq, get_or-set_other, get_or-set_same, length-set}
 use proofs.tools.cut.shuffle.LineShuffles.of.Goals as goal

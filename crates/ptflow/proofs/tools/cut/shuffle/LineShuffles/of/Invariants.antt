@@ -1,3 +1,5 @@
+-- The loop over the pieces of a line: each of those so far has the shuffle of its 16 bytes. The array keeps its
+-- length.
 use Rattle.ptflow.proofs
 use proofs.Common.{◌≡◌, ◌<◌, ◌*◌, ℕ, length, is_selected}
 use Rattle.ptflow.specs.Private.Cut.ShortLines.{IsPieceShuffle, piece_at, selected_after}

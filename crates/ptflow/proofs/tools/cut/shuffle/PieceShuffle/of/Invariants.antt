@@ -1,3 +1,5 @@
+-- The loop over the 16 bytes of a piece: the row has the selected indices so far, and the counts say how many there
+-- are in each length (`PickBegun`).
 use Rattle.ptflow.proofs
 use Rattle.ptlangs.specs.CutLists.{is_selected}
 use Rattle.ptflow.specs.Private.Cut.ShortLines.{selected_after}

@@ -1,3 +1,5 @@
+-- For `Segment::copy_bytes`: all 16 bytes of the segment are stored, and the first `len` of them are what was
+-- appended.
 use Rattle.ptflow.proofs
 use proofs.Common.{arith, take_more_put_chunk, take_all, usual}
 use Rattle.ptlines.proofs.CopyFacts.{copied_prefix}

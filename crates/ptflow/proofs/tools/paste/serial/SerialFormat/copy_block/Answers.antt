@@ -1,4 +1,6 @@
--- The terminator that was held back comes first, then all bytes but the last, then the last.
+-- For `SerialFormat::copy_block`: the copy is the output of the block, for every continuation. The terminator that
+-- was held back comes first (lemma `held_is`), then all bytes but the last, then the last, which is not counted if it
+-- is a terminator (lemma `last_copied`).
 use Rattle.ptflow.proofs
 use proofs.Common.{◌≡◌, ◌+◌, ◌-◌, ◌<◌, ◌++◌, ℕ, Bool, true, false, cond, List, [], ◌∷◌, length, take, get_or, refl}
 use proofs.Common.{arith, append_assoc, take_all, take_more_set, from_bool, row_rest, Option, ◌==◌, not, set}

@@ -1,3 +1,5 @@
+-- For `SerialFormat::copy_cells`, if there is a cycle: bytes that are stored at an index follow the first bytes
+-- (lemma `put_taken`), and the bytes of the cycle, by which the terminators were replaced, are the delimiters.
 use Rattle.ptflow.proofs
 use proofs.Common.{◌≡◌, ◌+◌, ◌-◌, ◌%◌, ◌≤◌, ◌++◌, ℕ, List, length, take, drop, ◌∙◌, ap, arith, with_replacements}
 use proofs.Common.{length-take-le, take_at, take-append-add, count_by, is_byte}

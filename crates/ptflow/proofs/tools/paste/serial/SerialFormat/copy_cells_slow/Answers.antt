@@ -1,4 +1,5 @@
--- After the last terminator the rest is a part of a line, which is copied as it is.
+-- For `SerialFormat::copy_cells_slow`: the step of its loop, which copies the bytes up to a terminator, and then a
+-- delimiter; and the result. After the last terminator the rest is a part of a line, which is copied as it is.
 use Rattle.ptflow.proofs
 use proofs.Common.{◌≡◌, ◌+◌, ◌-◌, ◌++◌, length, take, sym, ◌∙◌, ap, arith, length-drop, take_rest, take_all}
 use proofs.Common.{line_if_not_found, mod-eq_of_lt, count_by, is_byte, take-append-drop}

@@ -1,4 +1,5 @@
--- Only `rest` is left to be copied, and has room.
+-- The invariant of the loop of `SerialFormat::copy_cells_slow`: only `rest` is left to be copied, and has room. If it
+-- is copied from the delimiter `index` on, all bytes are. Each iteration makes `rest` shorter.
 use Rattle.ptflow.proofs
 use proofs.Common.{◌≡◌, ◌<◌, ◌≤◌, ◌+◌, ℕ, List, length, take}
 use Rattle.ptflow.specs.Private.Paste.SerialRest.{CopyCellsPost}

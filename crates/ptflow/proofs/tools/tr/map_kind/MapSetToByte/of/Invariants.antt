@@ -1,3 +1,5 @@
+-- The invariant of the loop of `MapSetToByte::of`: each byte so far has its image by the flags, which is `byte` if
+-- its flag is set, and the byte itself if not.
 use Rattle.ptflow.proofs
 use proofs.Common.{◌≡◌, ◌<◌, ℕ, false, get_or, if◌then◌else◌, length}
 use proofs.tools.tr.map_kind.MapSetToByte.of.Given as goal

@@ -1,3 +1,5 @@
+-- For `map16` of `MapSetToByte`: selecting the one byte in the lanes that are in the set, and the lane itself in the
+-- others, gives the images of all lanes.
 use Rattle.ptflow.proofs
 use proofs.Common.{sym, splat_is_map, set_has, map}
 use proofs.Vectors.Lanes.{sel_maps, map-id, lanes_of_mask, tops_of_lanes}

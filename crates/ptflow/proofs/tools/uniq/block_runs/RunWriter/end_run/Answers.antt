@@ -1,5 +1,6 @@
--- A run whose line follows the deferred output joins it. Otherwise that is pushed, and a failed push leaves a prefix of
--- both.
+-- For `RunWriter::end_run`. A run without output leaves the deferred output as it is. A run whose line follows the
+-- deferred output joins it, as no count is written between them (lemma `no_count`). Otherwise that is pushed, and a
+-- failed push leaves a prefix of both.
 use Rattle.ptflow.proofs
 use proofs.Common.{ℕ, true, not, ◌≡◌, [], refl, sym, ◌∙◌, subst, PushEffect, push_past_failure, append_assoc, span_of}
 use proofs.Common.{uniq_job, usual, push_nothing, append-nil}

@@ -1,4 +1,5 @@
--- A run is pushed in two parts, and a failed push leaves a prefix of the whole.
+-- For `RunWriter::write_run`: a run without output pushes nothing. Any other run is pushed in two parts, and a failed
+-- push leaves a prefix of the whole.
 use Rattle.ptflow.proofs
 use proofs.Common.{◌∙◌, sym, push_past_failure, uniq_job, rules}
 use proofs.Passes.Exits.{push_failed, wrote_then}

@@ -1,5 +1,6 @@
--- A line with the key of the current run, and copies of it, add to its count. Any other line ends the run, whose output
--- is pushed or deferred.
+-- For `RunWriter::write_runs`. A line with the key of the current run, and copies of it, add to its count. Any other
+-- line ends the run, whose output is pushed or deferred. After the last line the deferred output is pushed, and all
+-- complete lines were passed. A failed push leaves a prefix. No sum or difference overflows.
 use Rattle.ptflow.proofs
 use proofs.Common.{◌+◌, IsLine, length, refl, ap, arith, length-append, length-drop, take_rest, line_if_not_found}
 use proofs.Common.{◌∙◌, take_all, uniq_job, usual, rules, take_at}
