@@ -58,11 +58,6 @@ no_output_file (Some command) readers standard = by_output command.output (list_
     by_output None false none = refl
     by_output (Some name) false none = absurd (false≢true none)
 
-pub with_sink : (o ran : Outcome) → o.messages ≡ ran.messages → o.status ≡ ran.status → o.peak ≡ ran.peak
-    → o.denied ≡ ran.denied → record o { out = ran.out } ≡ ran
-with_sink o ran messages status peak denied =
-    λ i. record { out = ran.out; messages = messages i; status = status i; peak = peak i; denied = denied i }
-
 module _ {A : Type 0} (command : Result (code.Command A) UseFault) (words : List (List ℕ))
     (meant : CommandPost command (command_of_args words)) where
   -- The parsed command is the one that the words mean, unless memory ran out.

@@ -13,7 +13,7 @@ pub enum Output<F: Sink> {
     /// The output file that the command names.
     File(F),
     /// No output is expected: a write or a flush fails, and whether one has failed is recorded.
-    Closed(bool),
+    Closed { failed: bool },
 }
 
 impl<F: Sink> Output<F> {
@@ -23,7 +23,7 @@ impl<F: Sink> Output<F> {
     {
         match self {
             Output::File(file) => Some(file),
-            Output::Closed(_) => None,
+            Output::Closed { .. } => None,
         }
     }
 }
@@ -36,7 +36,7 @@ impl<F: Sink> Sink for Output<F> {
     fn put(&mut self, bytes: &[u8]) -> Result<usize, Failed> {
         match self {
             Output::File(file) => file.put(bytes),
-            Output::Closed(failed) => {
+            Output::Closed { failed } => {
                 *failed = true;
                 Err(Failed)
             }
@@ -46,7 +46,7 @@ impl<F: Sink> Sink for Output<F> {
     fn flush(&mut self) -> Result<(), Failed> {
         match self {
             Output::File(file) => file.flush(),
-            Output::Closed(failed) => {
+            Output::Closed { failed } => {
                 *failed = true;
                 Err(Failed)
             }

@@ -1,14 +1,11 @@
-//! `FilesReport`, the result of a run over files, and how `shell` builds it: for a run that did not write to
-//! standard output, and with a message if nothing is run, as there is no memory or the output file cannot be
-//! created.
+//! `FilesReport`, the result of a run over files, and how `shell` builds one with a message: nothing is run if there is
+//! no memory, or if the output file cannot be created.
 
 ghost use Rattle.std.specs.Prelude.{◌≡◌, false, true, None, codes};
 ghost use Rattle.ptrun.specs.MessageWrites.{HasSaid, line_of};
 ghost use Rattle.ptrun.specs.Calls.MessageWrites.{texts};
 ghost use Rattle.ptrun.specs.Messages.{memory_message, unopened_message};
-ghost use Rattle.ptfiles.specs.Calls.Outputs.{file_of_output};
 
-use crate::output::Output;
 use ptlines::Sink;
 use ptrun::{Report, say};
 
@@ -33,7 +30,11 @@ impl<W: Sink, F, E: Sink> FilesReport<W, F, E> {
         ensures has_said { HasSaid (E.state messages) (E.state result.report.messages)
             (memory_message (codes "ptext")) }
     {
-        Self::not_run(&["ptext: out of memory"], out, messages, true)
+        FilesReport {
+            report: report_not_run(&["ptext: out of memory"], out, messages),
+            file: None,
+            out_of_memory: true,
+        }
     }
 
     /// Reports that the output file of `uniq` cannot be created.
@@ -46,50 +47,28 @@ impl<W: Sink, F, E: Sink> FilesReport<W, F, E> {
             (unopened_message (codes "uniq") name.now) }
     {
         let parts = ["uniq: ", name, ": cannot be opened"];
-        Self::not_run(&parts, out, messages, false)
-    }
-
-    // Says a message about a run that cannot start, and returns the report, with status 1 and the unused output.
-    fn not_run(parts: &[&str], out: W, mut messages: E, out_of_memory: bool) -> Self
-        requires { (E.state messages).failed ≡ false }
-        ensures status { (result.report.status ≡ 1) × (result.out_of_memory ≡ out_of_memory) }
-        ensures memory { (result.report.peak ≡ 0) × (result.report.denied ≡ false) }
-        ensures out { (result.report.out ≡ out) × (result.file ≡ None) }
-        ensures has_said { HasSaid (E.state messages) (E.state result.report.messages) (line_of (texts parts.now)) }
-    {
-        let _ = say(&mut messages, parts);
         FilesReport {
-            report: Report {
-                status: 1,
-                peak: 0,
-                denied: false,
-                out,
-                messages,
-            },
+            report: report_not_run(&parts, out, messages),
             file: None,
-            out_of_memory,
+            out_of_memory: false,
         }
     }
 }
 
-impl<W, F: Sink, E> FilesReport<W, F, E> {
-    /// The report of a run that did not write to standard output, which is `out`.
-    pub(crate) fn of_output(report: Report<Output<F>, E>, out: W, out_of_memory: bool) -> Self
-        ensures status { (result.report.status ≡ report.status) × (result.out_of_memory ≡ out_of_memory) }
-        ensures memory { (result.report.peak ≡ report.peak) × (result.report.denied ≡ report.denied) }
-        ensures out { (result.report.out ≡ out) × (result.file ≡ file_of_output report.out) }
-        ensures messages { result.report.messages ≡ report.messages }
-    {
-        FilesReport {
-            report: Report {
-                status: report.status,
-                peak: report.peak,
-                denied: report.denied,
-                out,
-                messages: report.messages,
-            },
-            file: report.out.into_file(),
-            out_of_memory,
-        }
+// Says a message about a run that cannot start, and returns the report, with status 1 and the unused output.
+fn report_not_run<W, E: Sink>(parts: &[&str], out: W, mut messages: E) -> Report<W, E>
+    requires { (E.state messages).failed ≡ false }
+    ensures status { result.status ≡ 1 }
+    ensures memory { (result.peak ≡ 0) × (result.denied ≡ false) }
+    ensures out { result.out ≡ out }
+    ensures has_said { HasSaid (E.state messages) (E.state result.messages) (line_of (texts parts.now)) }
+{
+    let _ = say(&mut messages, parts);
+    Report {
+        status: 1,
+        peak: 0,
+        denied: false,
+        out,
+        messages,
     }
 }

@@ -25,7 +25,7 @@ use crate::output::Output;
 use crate::report::FilesReport;
 use ptlines::{LineReader, Sink, Source, Store};
 use ptopts::{Command, UseFault};
-use ptrun::run_with_store;
+use ptrun::{Report, run_with_store};
 use std::alloc::{AllocError, Allocator};
 
 /// The standard streams of a run.
@@ -191,10 +191,20 @@ fn run_over_inputs<A: Allocator + Copy, B: Allocator + Copy, F: Files, S: Source
             Some(file) => Output::File(file),
             None => return FilesReport::not_created(name, out, messages),
         },
-        Destination::Nowhere => Output::Closed(false),
+        Destination::Nowhere => Output::Closed { failed: false },
     };
-    let report = run_with_store(store, command, words, inputs, output, messages);
-    FilesReport::of_output(report, out, out_of_memory)
+    let ran = run_with_store(store, command, words, inputs, output, messages);
+    FilesReport {
+        report: Report {
+            status: ran.status,
+            peak: ran.peak,
+            denied: ran.denied,
+            out,
+            messages: ran.messages,
+        },
+        file: ran.out.into_file(),
+        out_of_memory,
+    }
 }
 
 // Returns whether memory ran out while the words were parsed.

@@ -124,65 +124,71 @@ fn open_stream<H: Host>(host: &H, opened: &[u8], index: usize) -> Option<H::Inpu
     }
 }
 
+/// The result of a run over streams.
+#[derive(Drop)]
+pub struct StreamsReport<O> {
+    /// The exit status, or 4 if memory ran out.
+    pub status: u8,
+    /// The report of the run over the streams as files.
+    pub run: FilesReport<O, O, O>,
+}
+
 /// The end of a run over streams whose words are bytes.
 #[derive(Drop)]
 pub enum GivenRun<O> {
     /// The command was run.
-    Ran(FilesReport<O, O, O>),
-    /// The words were not run. A message about them was written to this stream, and nothing to another one.
-    Refused(O),
+    Ran(StreamsReport<O>),
+    /// The words were not run. A message about them was written to `messages`, and nothing to another stream.
+    Refused { status: u8, messages: O },
 }
 
-/// Runs a command whose words each end with byte 0 over the streams of a host, like `run_streams`, and returns the exit
-/// status. If the words are not UTF-8, or there is no memory for them, only a message is written, and the status is 2 or
-/// 4.
+/// Runs a command whose words each end with byte 0 over the streams of a host, like `run_streams`. If the words are not
+/// UTF-8, or there is no memory for them, only a message is written, and the exit status is 2 or 4.
 pub fn run_given_streams<A: Allocator + Copy, H: Host>(
     alloc: A,
     host: &H,
     words: &[u8],
     opened: &[u8],
-) -> (u8, GivenRun<H::Output>)
-    ensures { GivenStreamsPost H.Output.state words.now (H.content host.now) H.output opened.now result.0 result.1
+) -> GivenRun<H::Output>
+    ensures { GivenStreamsPost H.Output.state words.now (H.content host.now) H.output opened.now result
         (MayFail H.Input.state H.Input.state) }
 {
     let Ok(text) = str::from_utf8(words) else {
-        let said = refuse(host.output(MESSAGES), "ptext: a word is not UTF-8");
-        return (2, GivenRun::Refused(said));
+        return GivenRun::Refused {
+            status: 2,
+            messages: refuse(host.output(MESSAGES), "ptext: a word is not UTF-8"),
+        };
     };
     match words_of(alloc, text) {
-        Ok(words) => {
-            let (status, report) = run_streams(alloc, host, &words, opened);
-            (status, GivenRun::Ran(report))
-        }
-        Err(_) => {
-            let said = refuse(host.output(MESSAGES), "ptext: out of memory");
-            (4, GivenRun::Refused(said))
-        }
+        Ok(words) => GivenRun::Ran(run_streams(alloc, host, &words, opened)),
+        Err(_) => GivenRun::Refused {
+            status: 4,
+            messages: refuse(host.output(MESSAGES), "ptext: out of memory"),
+        },
     }
 }
 
 // Writes a message about words that are not run, and returns its stream.
-fn refuse<W: Sink>(messages: W, text: &str) -> W
+fn refuse<W: Sink>(mut messages: W, text: &str) -> W
     requires { (W.state messages).failed ≡ false }
     ensures { HasSaid (W.state messages) (W.state result) (line_of (text.now ∷ [])) }
 {
-    let mut messages = messages;
     let _ = say(&mut messages, &[text]);
     messages
 }
 
-/// Runs a command over the streams of a host, as `run_over_files` does, and returns the exit status, or 4 if memory ran
-/// out, with the report of the run. `opened` has a byte for each file that the words name, in their order, which is 0 if
-/// it cannot be opened; so is a file without a byte. The output file of `uniq` is the stream of the output.
+/// Runs a command over the streams of a host, as `run_over_files` does. `opened` has a byte for each file that the words
+/// name, in their order, which is 0 if it cannot be opened; so is a file without a byte. The output file of `uniq` is the
+/// stream of the output.
 pub fn run_streams<A: Allocator + Copy, H: Host>(
     alloc: A,
     host: &H,
     words: &[&str],
     opened: &[u8],
-) -> (u8, FilesReport<H::Output, H::Output, H::Output>)
-    ensures { RunStreamsPost H.Output.state (words_view words.now) (H.content host.now) H.output opened.now result.0
-        (created_state H.Output.state result.1.file) result.1.out_of_memory
-        (outcome H.Output.state H.Output.state result.1.report) result.1.report.out
+) -> StreamsReport<H::Output>
+    ensures { RunStreamsPost H.Output.state (words_view words.now) (H.content host.now) H.output opened.now result.status
+        (created_state H.Output.state result.run.file) result.run.out_of_memory
+        (outcome H.Output.state H.Output.state result.run.report) result.run.report.out
         (MayFail H.Input.state H.Input.state) }
 {
     let mut files = StreamFiles::new(host, opened);
@@ -191,14 +197,18 @@ pub fn run_streams<A: Allocator + Copy, H: Host>(
         out: host.output(OUTPUT),
         messages: host.output(MESSAGES),
     };
-    let ran = run_over_files(alloc, &mut files, words, streams);
-    let status = status_of(ran.report.status, ran.out_of_memory, ran.report.denied);
-    (status, ran)
+    let run = run_over_files(alloc, &mut files, words, streams);
+    let status = status_of(&run);
+    StreamsReport { status, run }
 }
 
 // Returns the status of a run, or 4 if memory ran out before it or in it.
-fn status_of(status: u8, out_of_memory: bool, denied: bool) -> u8
-    ensures { result ≡ status_unless_memory status out_of_memory denied }
+fn status_of<W, F, E>(run: &FilesReport<W, F, E>) -> u8
+    ensures { result ≡ status_unless_memory run.now.report.status run.now.out_of_memory run.now.report.denied }
 {
-    if out_of_memory || denied { 4 } else { status }
+    if run.out_of_memory || run.report.denied {
+        4
+    } else {
+        run.report.status
+    }
 }

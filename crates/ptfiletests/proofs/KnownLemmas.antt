@@ -1,13 +1,13 @@
 -- A run over streams of which all bytes are known and no read fails: unless memory runs out or a write fails, its
 -- output, messages and status are those that the words mean. Also if the words are given as bytes.
-use Rattle.std.proofs.Common.{◌≡◌, ◌⊎◌, ◌+◌, ℕ, zero, suc, Bool, true, false, List, [], ◌∷◌, Option, Some, None, All, ap}
+use Rattle.std.proofs.Common.{◌≡◌, ◌⊎◌, ◌+◌, ℕ, suc, Bool, true, false, List, [], ◌∷◌, Option, Some, None, All, ap}
 use Rattle.std.proofs.Common.{sym, ◌∙◌, refl, subst, inl, inr, ⊎_elim, if◌then◌else◌, length, arith}
 use Rattle.std.proofs.lemmas.Bool.{false≢true, true≢false}
 use Rattle.ptfiles.specs.Calls.Streams.{GivenStreamsPost, RunStreamsPost, file_content, is_opened, known}
 use Rattle.ptfiles.specs.Calls.Streams.{status_unless_memory, stream_files}
-use Rattle.ptfiles.specs.Files.{Content, FilesState, HaveContents, IsContent, IsShort, Output, created_state, source_of}
-use Rattle.ptfiles.specs.Shell.{After, Before, HasRun, IsDirected, IsExactOverNames, MayFail, RunOverFilesPost, after}
-use Rattle.ptfiles.specs.Shell.{before, command_to_run, empty_store, has_standard_output, input_names, output_names}
+use Rattle.ptfiles.specs.Files.{FilesState, HaveContents, IsShort, Output, created_state, source_of}
+use Rattle.ptfiles.specs.Shell.{After, Before, HasRun, IsDirected, IsExactOverNames, RunOverFilesPost, after}
+use Rattle.ptfiles.specs.Shell.{before, empty_store, has_standard_output, input_names}
 use Rattle.ptfiles.specs.Shell.{valid_command}
 use Rattle.ptfiles.specs.declared.streams.GivenRun.{GivenRun}
 use Rattle.ptfiles.specs.declared.streams.GivenRun.TheVariants.{Ran, Refused}
@@ -130,13 +130,13 @@ known_run {W} {of} {words} bytes {opened} {status} {file} {out_of_memory} {o} {r
     source_is x y is = cc
 
 pub known_given : {W : Type 0} (of : W → SinkState) (words : List ℕ) (bytes : ℕ → List ℕ) (opened : List ℕ)
-    (status : ℕ) (ended : GivenRun W) (given : ℕ → Option (List ℕ)) {Failing : Type 0} → (Failing → ⊥)
-    → given ≡ content bytes opened → GivenStreamsPost of words given new_output opened status ended Failing
-    → GivenKnownPost of words bytes opened status ended
-known_given of words bytes opened status (Ran report) given {Failing} none is post = (
+    (ended : GivenRun W) (given : ℕ → Option (List ℕ)) {Failing : Type 0} → (Failing → ⊥)
+    → given ≡ content bytes opened → GivenStreamsPost of words given new_output opened ended Failing
+    → GivenKnownPost of words bytes opened ended
+known_given of words bytes opened (Ran ran) given {Failing} none is post = (
   post.0,
-  known_run bytes none (subst (λ known. RunStreamsPost of (lines 0 words) known new_output opened status
-      (created_state of report.file) report.out_of_memory (outcome of of report.report) report.report.out Failing) is
+  known_run bytes none (subst (λ known. RunStreamsPost of (lines 0 words) known new_output opened ran.status
+      (created_state of ran.run.file) ran.run.out_of_memory (outcome of of ran.run.report) ran.run.report.out Failing) is
       post.1),
 )
-known_given of words bytes opened status (Refused said) given none is post = post
+known_given of words bytes opened (Refused status said) given none is post = post

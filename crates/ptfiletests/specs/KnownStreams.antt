@@ -1,6 +1,6 @@
 -- Streams whose bytes are known: the bytes by the number of a stream, sinks that know the number of their stream,
 -- the files of a run, and what a run over these streams has to do.
-use Rattle.std.specs.Prelude.{◌≡◌, ◌⊎◌, ◌+◌, ℕ, zero, suc, true, false, List, [], ◌∷◌, Option, Some, None, get_or, length}
+use Rattle.std.specs.Prelude.{◌≡◌, ◌⊎◌, ◌+◌, ℕ, zero, suc, true, false, List, [], ◌∷◌, Some, None, get_or, length}
 use Rattle.std.specs.Prelude.{if◌then◌else◌, map, option_map}
 use Rattle.std.specs.Borrow.{Bor}
 use Rattle.std.specs.Str.{IsUtf8}
@@ -60,7 +60,7 @@ RunKnownPost words bytes opened status file o =
     (record o { out = written })
 
 -- The words are lines that end with byte 0.
-abbrev pub GivenKnownPost : {W : Type 0} → (W → SinkState) → List ℕ → (ℕ → List ℕ) → List ℕ → ℕ → GivenRun W → Type 0
-GivenKnownPost of words bytes opened status (Ran report) = IsUtf8 words
-    × RunKnownPost (lines 0 words) bytes opened status (created_state of report.file) (outcome of of report.report)
-GivenKnownPost of words bytes opened status (Refused said) = IsNotRun words status (new_output 2) (of said)
+abbrev pub GivenKnownPost : {W : Type 0} → (W → SinkState) → List ℕ → (ℕ → List ℕ) → List ℕ → GivenRun W → Type 0
+GivenKnownPost of words bytes opened (Ran ran) = IsUtf8 words
+    × RunKnownPost (lines 0 words) bytes opened ran.status (created_state of ran.run.file) (outcome of of ran.run.report)
+GivenKnownPost of words bytes opened (Refused status said) = IsNotRun words status (new_output 2) (of said)

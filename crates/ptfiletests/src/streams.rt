@@ -9,7 +9,7 @@ use ptfiles::{GivenRun, Host, run_given_streams};
 use std::alloc::Global;
 use std::process::Abort;
 
-type Ended = (u8, GivenRun<NumberedSink>);
+type Ended = GivenRun<NumberedSink>;
 
 // A command, its streams, a byte for each file, the status, the output and the messages.
 type Example = (
@@ -90,7 +90,7 @@ const EXAMPLES: &[Example] = &[
 
 // Runs a command over streams of these bytes.
 fn run_known(alloc: Global, words: &[u8], streams: &[&[u8]], opened: &[u8]) -> Ended
-    ensures { GivenKnownPost numbered_state words.now (bytes_of streams.now) opened.now result.0 result.1 }
+    ensures { GivenKnownPost numbered_state words.now (bytes_of streams.now) opened.now result }
 {
     run_given_streams(alloc, &KnownStreams::new(alloc, streams), words, opened)
 }
@@ -102,24 +102,25 @@ fn is_written(sink: &NumberedSink, number: usize, bytes: &[u8]) -> bool {
 
 // Compares a status, an output and messages with those of a run.
 fn assert_ran(rt: &impl Abort, ended: &Ended, status: u8, out: &[u8], messages: &[u8]) {
-    assert_eq!(rt; ended.0, status);
-    match &ended.1 {
+    match ended {
         GivenRun::Ran(ran) => {
-            assert!(rt; is_written(&ran.report.out, 1, out));
-            assert!(rt; is_written(&ran.report.messages, 2, messages));
+            assert_eq!(rt; ran.status, status);
+            assert!(rt; is_written(&ran.run.report.out, 1, out));
+            assert!(rt; is_written(&ran.run.report.messages, 2, messages));
         }
-        GivenRun::Refused(_) => assert!(rt; false),
+        GivenRun::Refused { .. } => assert!(rt; false),
     }
 }
 
 // Compares a status and a message with those of words that were not run.
-fn assert_refused(rt: &impl Abort, ended: &Ended, status: u8, message: &[u8]) {
-    assert_eq!(rt; ended.0, status);
-    let is_said = match &ended.1 {
-        GivenRun::Ran(_) => false,
-        GivenRun::Refused(said) => is_written(said, 2, message),
-    };
-    assert!(rt; is_said);
+fn assert_refused(rt: &impl Abort, ended: &Ended, expected: u8, message: &[u8]) {
+    match ended {
+        GivenRun::Ran(_) => assert!(rt; false),
+        GivenRun::Refused { status, messages } => {
+            assert_eq!(rt; *status, expected);
+            assert!(rt; is_written(messages, 2, message));
+        }
+    }
 }
 
 #[test]
@@ -135,12 +136,12 @@ fn the_output_file_of_uniq_is_the_output(rt: HostRuntime) {
     let streams: [&[u8]; 4] = [b"", b"", b"", b"a b\na b\na c\n"];
     let ended = run_known(rt.alloc(), b"uniq\0f\0out\0", &streams, b"\x01");
     assert_ran(&rt, &ended, 0, b"", b"");
-    let is_created = match &ended.1 {
-        GivenRun::Ran(ran) => match &ran.file {
+    let is_created = match &ended {
+        GivenRun::Ran(ran) => match &ran.run.file {
             Some(file) => is_written(file, 1, b"a b\na c\n"),
             None => false,
         },
-        GivenRun::Refused(_) => false,
+        GivenRun::Refused { .. } => false,
     };
     assert!(rt; is_created);
 }

@@ -1,6 +1,6 @@
 //! The values of options. `constraints` asks whether they are there, and the modules of `command` check them.
 
-ghost use Rattle.std.specs.Prelude.{◌≡◌, IfOk, if◌then◌else◌, option_map};
+ghost use Rattle.std.specs.Prelude.{◌≡◌, IfOk, option_map};
 ghost use Rattle.ptopts.specs.Args.{value_of};
 ghost use Rattle.ptopts.specs.Faults.{value_fault, terminator_of_options, is_delimiter_value, is_count};
 ghost use Rattle.ptopts.specs.Commands.{byte_value, number_value};
@@ -56,16 +56,5 @@ impl<'a, A: Allocator> ParsedArgs<'a, A> {
             Some(number) => Ok(Some(number)),
             None => Err(UseFault::Value(letter, text)),
         }
-    }
-}
-
-/// The fault of a list that is the value of an option: an allocation failure, or else an invalid value.
-pub(crate) fn list_fault<'a>(letter: u8, text: &'a str, is_memory: bool) -> UseFault<'a>
-    ensures { result ≡ (if is_memory then UseFault.Memory else UseFault.Value letter text.entry) }
-{
-    if is_memory {
-        UseFault::Memory
-    } else {
-        UseFault::Value(letter, text)
     }
 }

@@ -23,7 +23,7 @@ use answer::{Answer, refuse};
 use given::{are_ends, files_of};
 use host::Caller;
 use naming::write_names;
-use ptfiles::{run_given_streams, words_of};
+use ptfiles::{GivenRun, run_given_streams, words_of};
 use running::run_in_memory;
 use std::alloc::Global;
 
@@ -44,7 +44,7 @@ pub extern "C" fn ptext_run_in_memory(
 )
     ensures { RunGivenPost words.now input.now files.now ends.now out.new messages.new answer.new }
 {
-    *answer = run_given(alloc, words, input, (files, ends), out, messages);
+    *answer = run_given(alloc, words, input, files, ends, out, messages);
 }
 
 // Runs a command whose words and files are split first.
@@ -52,13 +52,13 @@ fn run_given(
     alloc: Global,
     words: &[u8],
     input: &[u8],
-    given: (&[u8], &[usize]),
+    files: &[u8],
+    ends: &[usize],
     out: &mut [u8],
     messages: &mut [u8],
 ) -> Answer
-    ensures { RunGivenPost words.now input.now given.entry.0.now given.entry.1.now out.new messages.new result }
+    ensures { RunGivenPost words.now input.now files.now ends.now out.new messages.new result }
 {
-    let (files, ends) = given;
     let Ok(text) = str::from_utf8(words) else {
         return refuse(Some(2), "ptext: a word is not UTF-8\n", messages);
     };
@@ -112,5 +112,8 @@ pub extern "C" fn ptext_run_streams(alloc: Global, words: &[u8], opened: &[u8]) 
     ensures { HasGivenRun hide_accepted words.now unknown (λ number. unwritten) opened.now result
         (MayFail hide_left hide_left) }
 {
-    run_given_streams(alloc, &Caller, words, opened).0
+    match run_given_streams(alloc, &Caller, words, opened) {
+        GivenRun::Ran(ran) => ran.status,
+        GivenRun::Refused { status, .. } => status,
+    }
 }

@@ -3,7 +3,6 @@
 ghost use Rattle.std.specs.Prelude.{◌≡◌, ◌⊎◌, false, None};
 ghost use Rattle.ptopts.specs.Commands.{words_view};
 ghost use Rattle.ptrunc.specs.Inputs.{files_view, inputs_for};
-ghost use Rattle.ptrunc.specs.Private.Answers.{ExitPost};
 ghost use Rattle.ptrunc.specs.Private.Rooms.{AppendPost};
 ghost use Rattle.ptrunc.specs.Results.{IsRunInMemory};
 
@@ -69,14 +68,9 @@ fn run_into<'a, A: Allocator + Copy + Drop>(
     let mut to_out = report.out;
     let to_messages = report.messages;
     let out_failed = append_file(&mut to_out, file);
-    let failed = to_messages.rest.failed;
-    let exit = exit_of(
-        report.status,
-        out_of_memory,
-        report.denied,
-        out_failed,
-        failed,
-    );
+    // A write fails only for want of memory, or if what has no room is too much to be counted.
+    let ran_out = out_of_memory | report.denied | out_failed | to_messages.rest.failed;
+    let exit = if ran_out { None } else { Some(report.status) };
     let answer = Answer::new(exit, to_out.part(), to_messages.part());
     let _empty = mem::replace(out, to_out.into_room());
     let _empty = mem::replace(messages, to_messages.into_room());
@@ -95,21 +89,4 @@ fn append_file<A: Allocator + Drop>(out: &mut Filling<'_>, file: Option<Kept<A>>
         Ok(()) => file.failed,
         Err(_) => true,
     }
-}
-
-// Returns the exit status of a run, or `None` if memory ran out, or if what has no room is too much to be counted. These
-// can have failed for nothing else.
-fn exit_of(
-    status: u8,
-    out_of_memory: bool,
-    denied: bool,
-    out_failed: bool,
-    messages_failed: bool,
-) -> Option<u8>
-    ensures { ExitPost status out_of_memory denied out_failed messages_failed result }
-{
-    if out_of_memory || denied || out_failed || messages_failed {
-        return None;
-    }
-    Some(status)
 }

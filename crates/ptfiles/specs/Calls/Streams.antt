@@ -67,15 +67,20 @@ IsNotRun words status old new =
 -- The command that these bytes are was run over streams, or only a message was written to that of the messages. The words
 -- are the lines that end with byte 0.
 abbrev pub GivenStreamsPost : {W : Type 0} → (W → SinkState) → List ℕ → (ℕ → Option (List ℕ)) → (ℕ → SinkState)
-    → List ℕ → ℕ → GivenRun W → Type 0 → Type 0
-GivenStreamsPost of words content output opened status (Ran report) Failing = IsUtf8 words
-    × RunStreamsPost of (lines 0 words) content output opened status (created_state of report.file) report.out_of_memory
-    (outcome of of report.report) report.report.out Failing
-GivenStreamsPost of words content output opened status (Refused said) Failing =
+    → List ℕ → GivenRun W → Type 0 → Type 0
+GivenStreamsPost of words content output opened (Ran ran) Failing = IsUtf8 words
+    × RunStreamsPost of (lines 0 words) content output opened ran.status (created_state of ran.run.file)
+    ran.run.out_of_memory (outcome of of ran.run.report) ran.run.report.out Failing
+GivenStreamsPost of words content output opened (Refused status said) Failing =
     IsNotRun words status (output 2) (of said)
+
+abbrev pub status_of : {W : Type 0} → GivenRun W → ℕ
+status_of (Ran ran) = ran.status
+status_of (Refused status said) = status
 
 -- There is such an end, of which only the status is known.
 pub record HasGivenRun {W : Type 0} (of : W → SinkState) (words : List ℕ) (content : ℕ → Option (List ℕ))
     (output : ℕ → SinkState) (opened : List ℕ) (status : ℕ) (Failing : Type 0) : Type 0 where
   pub ended : GivenRun W
-  pub post : GivenStreamsPost of words content output opened status ended Failing
+  pub post : GivenStreamsPost of words content output opened ended Failing
+  pub status_is : status ≡ status_of ended

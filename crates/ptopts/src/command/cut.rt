@@ -12,7 +12,6 @@ ghost use Rattle.ptopts.specs.Private.ParseSteps.{CheckThenMemoryPost, CheckOrMe
 
 use crate::fault::UseFault;
 use crate::parsing::ParsedArgs;
-use crate::values::list_fault;
 use ptlangs::jobs::CutJob;
 use ptlangs::ranges::{ListFault, Ranges};
 use std::alloc::Allocator;
@@ -30,7 +29,8 @@ impl<'a, A: Allocator + Copy> ParsedArgs<'a, A> {
         };
         match Ranges::read(alloc, text.as_bytes()) {
             Ok(ranges) => Ok(Some(ranges)),
-            Err(fault) => Err(list_fault(letter, text, fault == ListFault::Memory)),
+            Err(ListFault::Memory) => Err(UseFault::Memory),
+            Err(_) => Err(UseFault::Value(letter, text)),
         }
     }
 

@@ -13,7 +13,6 @@ ghost use Rattle.ptopts.specs.Private.ParseSteps.{options_view};
 
 use crate::fault::UseFault;
 use crate::parsing::{ParsedArgs, ParsedOption};
-use crate::values::list_fault;
 use ptlangs::jobs::JoinJob;
 use ptlangs::numbers;
 use ptlangs::outlist::{OutFault, OutList};
@@ -68,7 +67,8 @@ impl<'a, A: Allocator + Copy> ParsedArgs<'a, A> {
         };
         match OutList::read(alloc, text.as_bytes()) {
             Ok(list) => Ok(Some(list)),
-            Err(fault) => Err(list_fault(b'o', text, fault == OutFault::Memory)),
+            Err(OutFault::Memory) => Err(UseFault::Memory),
+            Err(_) => Err(UseFault::Value(b'o', text)),
         }
     }
 

@@ -12,7 +12,6 @@ ghost use Rattle.ptopts.specs.Private.ParseSteps.{CheckThenMemoryPost, options_o
 
 use crate::fault::UseFault;
 use crate::parsing::ParsedArgs;
-use crate::values::list_fault;
 use ptlangs::delims::{DelimFault, Delims};
 use ptlangs::jobs::PasteJob;
 use std::alloc::Allocator;
@@ -30,7 +29,8 @@ impl<'a, A: Allocator + Copy> ParsedArgs<'a, A> {
         };
         match Delims::read(alloc, text.as_bytes()) {
             Ok(delims) => Ok(Some(delims)),
-            Err(fault) => Err(list_fault(b'd', text, fault == DelimFault::Memory)),
+            Err(DelimFault::Memory) => Err(UseFault::Memory),
+            Err(_) => Err(UseFault::Value(b'd', text)),
         }
     }
 

@@ -9,7 +9,7 @@ use Rattle.ptfiles.specs.Private.Outputs.{output_state}
 use Rattle.ptfiles.specs.Private.Shell.{command_of_parsed}
 use Rattle.ptfiles.specs.Shell.{output_names}
 use Rattle.ptfiles.proofs.Outputs.{no_file_returned}
-use Rattle.ptfiles.proofs.Runs.{no_output_file, nothing_created, output_is_parsed, ran_over, ran_to_file, to_run, with_sink}
+use Rattle.ptfiles.proofs.Runs.{no_output_file, nothing_created, output_is_parsed, ran_over, ran_to_file, to_run}
 use Rattle.ptfiles.proofs.shell.run_over_inputs.Goals.{in-File+in-Some, in-Nowhere}
 use Rattle.ptfiles.proofs.shell.run_over_inputs.Goals as goal
 
@@ -46,26 +46,23 @@ returns-in-None-clause-run g c standard =
 
 pub returns-clause-run : goal.returns-clause-run
 returns-clause-run g c standard =
-    let r = c.run_with_store-report-2.ensures in
-    let o = c.of_output.ensures in
-    let ran = outcome (output_state g.F.Output.Sink.state) g.E.Sink.state c.run_with_store-report-2.result in
-    let same = with_sink (outcome g.W.Sink.state g.E.Sink.state c.of_output.result.report) ran
-    (ap g.E.Sink.state o.messages) o.status.0 o.memory.0 o.memory.1 in
-    let oom = o.status.1 ∙ c.has_memory_fault-out_of_memory.ensures in
+    let r = c.run_with_store-ran.ensures in
+    let ran = outcome (output_state g.F.Output.Sink.state) g.E.Sink.state c.run_with_store-ran.result in
+    let oom = c.has_memory_fault-out_of_memory.ensures in
     let given = c.args.command in
     let words = words_view c.args.words.now in
     elim c.match-destination_of.branch [
-      | in-File+in-Some w ↦ inl (ran_to_file given words c.requires.meant _ _ _ _ _ oom ran same
-          (o.memory.0 ∙ r.store.0, o.memory.1 ∙ r.store.1) r.reads_nothing.1 g.F.Output.Sink.state w.in-Some.file
-          c.run_with_store-report-2.result.out refl w.in-File.name.now w.in-File.ensures.0 w.in-File.ensures.1
+      | in-File+in-Some w ↦ inl (ran_to_file given words c.requires.meant _ _ _ _ _ oom ran refl
+          r.store r.reads_nothing.1 g.F.Output.Sink.state w.in-Some.file
+          c.run_with_store-ran.result.out refl w.in-File.name.now w.in-File.ensures.0 w.in-File.ensures.1
           (rw w.files-is (rw w.in-Some.is at w.create.ensures.created))
-          (ap (created_state g.F.Output.Sink.state) o.out.1) o.out.0 (rw w.output-is at r.run)
+          (ap (created_state g.F.Output.Sink.state) c.into_file.ensures) refl (rw w.output-is at r.run)
           (λ parsed. rw w.output-is at r.is_exact parsed) (rw w.output-is at r.reads_nothing.0))
-      | in-Nowhere w ↦ let no_file = ap (created_state g.F.Output.Sink.state) (o.out.1
-          ∙ no_file_returned g.F.Output.Sink.state c.run_with_store-report-2.result.out r.run.run.written
-          (rw w.output-is at r.run.run.output)) in inl (ran_over given words c.requires.meant _ _ _ _ _ oom ran same
-          (o.memory.0 ∙ r.store.0, o.memory.1 ∙ r.store.1) r.reads_nothing.1 (closed_state false) []
+      | in-Nowhere w ↦ let no_file = ap (created_state g.F.Output.Sink.state) (c.into_file.ensures
+          ∙ no_file_returned g.F.Output.Sink.state c.run_with_store-ran.result.out r.run.run.written
+          (rw w.output-is at r.run.run.output)) in inl (ran_over given words c.requires.meant _ _ _ _ _ oom ran refl
+          r.store r.reads_nothing.1 (closed_state false) []
           (rw (w.in-Nowhere.ensures.1, w.files-is) (nothing_created (g.F.Files.state c.args.files.now)))
-          (rw (w.in-Nowhere.ensures.0, w.in-Nowhere.ensures.1) (refl, refl, no_file, o.out.0)) (rw w.output-is at r.run)
+          (rw (w.in-Nowhere.ensures.0, w.in-Nowhere.ensures.1) (refl, refl, no_file, refl)) (rw w.output-is at r.run)
           (λ parsed. rw w.output-is at r.is_exact parsed) (rw w.output-is at r.reads_nothing.0))
     ]

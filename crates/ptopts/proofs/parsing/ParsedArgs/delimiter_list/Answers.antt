@@ -1,26 +1,33 @@
--- A fault of `Delims::read` becomes the fault of the option, by cases on the three faults of a list.
+-- A fault of `Delims::read` becomes the fault of the option.
 use Rattle.ptopts.proofs
-use Rattle.ptopts.specs
-use proofs.Common.{Bool, Bor, List, None, Option, Result, Some, ap, cond, false, fault_view, is_ok, option_map}
-use proofs.Common.{refl, result_err, sym, true, ℕ, ◌∙◌, ◌≡◌, arith}
+use proofs.Common.{Bor, List, Option, Result, ap, false, is_ok, option_map, refl, result_err, rules, sym, true, ℕ, ◌∙◌}
+use proofs.Common.{◌≡◌, arith}
 use Rattle.ptlangs.specs.Calls.DelimLists.{delim_list_fault}
-use Rattle.ptlangs.specs.contracts.delims.DelimFault.{the_type}
-use Rattle.ptlangs.specs.declared.delims.DelimFault.TheVariants.{Empty, Escape, Memory}
+use Rattle.ptlangs.specs.DelimLists.{delim_list}
+use Rattle.ptlangs.specs.declared.delims.DelimFault.TheVariants.{Memory}
 use Rattle.ptlangs.specs.declared.delims.DelimFault.{DelimFault}
-use denote.Enum.Bare.{sameb}
-use specs.declared.fault.UseFault.TheVariants as fault
-use specs.Faults as faults
 use proofs.parsing.ParsedArgs.delimiter_list.Goals as goal
 
-module _ (letter : ℕ) (text : Bor (List ℕ)) (is_memory : DelimFault → Bool) (never : is_memory Memory ≡ true)
-    (empty : is_memory Empty ≡ false) (escape : is_memory Escape ≡ false) where
-  told : (e : DelimFault) (r : Result (List (Option ℕ)) DelimFault) → result_err r ≡ delim_list_fault e
-      → fault_view (cond (is_memory e) fault.Memory (fault.Value letter text))
-      ≡ cond (is_ok r) None (Some (faults.Value letter text.now))
-  told = grind arith
+valid : (e : DelimFault) (r : Result (List (Option ℕ)) DelimFault) → result_err r ≡ delim_list_fault e → e ≡ Memory
+    → is_ok r ≡ true
+valid = grind arith
+
+invalid : (e : DelimFault) (r : Result (List (Option ℕ)) DelimFault) → result_err r ≡ delim_list_fault e
+    → (e ≡ Memory → ⊥) → is_ok r ≡ false
+invalid = grind arith
+
+pub returns-in-Err-Memory-clause-fault : goal.returns-in-Err-Memory-clause-fault
+returns-in-Err-Memory-clause-fault g c =
+    let given = sym c.value.ensures ∙ ap (option_map (λ (v : Bor (List ℕ)). v.now)) c.in-Some.is in
+    let fault = c.in-Err-Memory in
+    rw (given, ← c.as_bytes.ensures.value, valid _ (delim_list c.as_bytes.result.now) fault.ensures fault.field-0-is) refl
 
 pub returns-in-Err-clause-fault : goal.returns-in-Err-clause-fault
 returns-in-Err-clause-fault g c =
     let given = sym c.value.ensures ∙ ap (option_map (λ (v : Bor (List ℕ)). v.now)) c.in-Some.is in
-    let fault = told 100 c.in-Some.text (λ e. sameb the_type e Memory) refl refl refl _ _ (grind arith) in
-    rw (c.list_fault.ensures, c.eq.ensures, given) fault
+    let fault = c.in-Err in
+    rw (
+      given,
+      ← c.as_bytes.ensures.value,
+      invalid fault.field-0 (delim_list c.as_bytes.result.now) fault.ensures (search rules),
+    ) refl
