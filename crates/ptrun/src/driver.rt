@@ -33,7 +33,9 @@ pub(crate) enum Completion {
     Disordered(Disorder),
 }
 
-/// Runs a tool over one operand after another, and returns the report.
+/// Runs a tool over one operand after another, and returns the report. Not inlined, so that the code of each tool is a
+/// function of its own: an engine of WebAssembly compiles it while it runs, and needs memory by the largest function.
+#[inline(never)]
 pub(crate) fn run_in_turn<A, B, T, S, R, W, E>(
     store: &mut Store<A>,
     tool: &T,
@@ -104,7 +106,8 @@ where
     Ok(done)
 }
 
-/// Runs a tool over all its operands together, if each could be opened, and returns the report.
+/// Runs a tool over all its operands together, if each could be opened, and returns the report. Not inlined, as above.
+#[inline(never)]
 pub(crate) fn run_together<A, B, T, S, R, W, E>(
     store: &mut Store<A>,
     tool: &T,

@@ -41,8 +41,9 @@ fn map_chunks<M: ByteMap>(by: M, from: &[u8], to: &mut [u8]) -> usize
     at
 }
 
-/// Stores the images of the bytes of `from` in `to`. Both slices have the same length.
-#[inline(always)]
+/// Stores the images of the bytes of `from` in `to`. Both slices have the same length. Not inlined, so that the code of
+/// each map is a function of its own (`run_in_turn` in `ptrun` says what for).
+#[inline(never)]
 pub(crate) fn map_bytes<M: ByteMap>(by: M, from: &[u8], to: &mut [u8])
     requires { length to.old ≡ length from.now }
     ensures { to.new ≡ map (M.map_byte by) from.now }

@@ -207,7 +207,8 @@ impl Selection<'_> {
         BlockEnd { at, line_offset }
     }
 
-    // Copies the output of a block. The first line begins `line_offset` bytes before it.
+    // Copies the output of a block. The first line begins `line_offset` bytes before it. Not inlined, as `map_bytes`.
+    #[inline(never)]
     fn cut_block(&self, line_offset: u64, block: &[u8], into: &mut PaddedBlock) -> BlockEnd
         requires { HasRoom line_offset 0 (length block.now) }
         ensures cut { IsCutPart self.now.terminator self.now.selected.now line_offset block.now

@@ -145,7 +145,8 @@ impl<'a, A: Allocator> FieldCut<'a, A> {
     }
 }
 
-// Pushes the output of a line, which is given without its terminator.
+// Pushes the output of a line, which is given without its terminator. Not inlined, as `map_bytes`.
+#[inline(never)]
 fn write_line<A: Allocator + Copy, W: Sink>(
     by: &FieldSelection<A>,
     line: &[u8],
