@@ -4,9 +4,10 @@ from __future__ import annotations
 
 import contextlib
 import ctypes
+import io
 import threading
 from collections.abc import Iterable, Iterator, Mapping
-from typing import TYPE_CHECKING, Any, Protocol, overload
+from typing import TYPE_CHECKING, Any, Callable, Protocol, TypeVar, overload
 
 from ._inputs import Input, check_files, is_read_once, list_pieces, open_path, refuse_text
 from ._library import LIBRARY, check_status, encode_words, find_unknown, list_words, names
@@ -14,6 +15,7 @@ from ._library import LIBRARY, check_status, encode_words, find_unknown, list_wo
 if TYPE_CHECKING:
     from typing_extensions import Buffer
 
+_Piece = TypeVar("_Piece")
 READ, WRITE, ENDED = 1, 2, 3
 FAILED = ctypes.c_size_t(-1).value
 INPUT, OUTPUT, FIRST_FILE = 0, 1, 3
@@ -56,6 +58,10 @@ _NEXT.restype = ctypes.c_int
 _NEXT.argtypes = [ctypes.c_void_p, ctypes.POINTER(_Step)]
 _CLOSE.restype = None
 _CLOSE.argtypes = [ctypes.c_void_p]
+_VIEW = ctypes.pythonapi.PyMemoryView_FromMemory
+_VIEW.restype = ctypes.py_object
+_VIEW.argtypes = [ctypes.c_void_p, ctypes.c_ssize_t, ctypes.c_int]
+_TO_READ = 0x100  # PyBUF_READ
 
 
 class _PyBuffer(ctypes.Structure):
@@ -129,6 +135,13 @@ class Stream(Iterator[bytes]):
             raise
 
     def __next__(self) -> bytes:
+        piece = self._next(ctypes.string_at)
+        if piece is None:
+            raise StopIteration
+        return piece
+
+    def _next(self, take: Callable[[int, int], _Piece]) -> _Piece | None:
+        """The next piece of the output, as it is taken from its address and size, or None at the end."""
         if not self._lock.acquire(blocking=False):
             raise ValueError("the stream is in use: by another thread, or by one of its own inputs")
         try:
@@ -140,15 +153,24 @@ class Stream(Iterator[bytes]):
                     self._free()
                     check_status(self._step.status, bytes(self._messages), b"", self._unknown)
                 elif self._step.stream == OUTPUT:
-                    return ctypes.string_at(self._step.bytes, self._step.size)
+                    return take(self._step.bytes, self._step.size)
                 else:
                     self._messages += ctypes.string_at(self._step.bytes, self._step.size)
-            raise StopIteration
+            return None
         except BaseException:
             self._free()
             raise
         finally:
             self._lock.release()
+
+    def _write_to(self, out: Writable) -> None:
+        """Writes all pieces to a file."""
+        # (Files of `io` use what they are given only until `write` returns, so they need no copy.)
+        take: Callable[[int, int], Any] = ctypes.string_at
+        if isinstance(out, (io.RawIOBase, io.BufferedIOBase)):
+            take = _view
+        while (piece := self._next(take)) is not None:
+            write_all(out, piece)
 
     def _give(self) -> None:
         """Gives the next bytes of the input that is wanted, or its end."""
@@ -199,6 +221,10 @@ class Stream(Iterator[bytes]):
             self._free()
 
 
+def _view(address: int, size: int) -> Any:
+    return _VIEW(address, size, _TO_READ)
+
+
 def write_all(out: Writable, text: bytes) -> None:
     """Writes to a file, which may take a part of what it is given."""
     while text:
@@ -240,8 +266,7 @@ def stream(
     if not hasattr(out, "write"):
         raise TypeError(f"out is {type(out).__name__}, and not a file open in binary mode")
     with Stream(words, stdin, files, memory) as running:
-        for piece in running:
-            write_all(out, piece)
+        running._write_to(out)
     return None
 
 

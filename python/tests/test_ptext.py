@@ -288,6 +288,17 @@ class Streams(unittest.TestCase):
         ptext.stream(["cut", "-b", "1-3"], stdin=b"abcd\n", out=slow)
         self.assertEqual(slow.text, b"abc\n")
 
+    def test_output_is_a_copy_where_it_is_kept(self):
+        class Kept(list):
+            write = list.append
+
+        lines = [b"%d\n" % number for number in range(50_000)]
+        kept, copied = Kept(), io.BytesIO()
+        for out in (kept, copied):
+            ptext.stream(["uniq"], stdin=lines, out=out)
+        self.assertEqual(b"".join(kept), b"".join(lines))
+        self.assertEqual(copied.getvalue(), b"".join(lines))
+
     def test_memory_and_interrupts(self):
         # (An input of 64 GiB: its pages are only read, so all are one page of zeros in memory.)
         long = "mmap.mmap(-1, 1 << 36, mmap.MAP_PRIVATE, mmap.PROT_READ)"
