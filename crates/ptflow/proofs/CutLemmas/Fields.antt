@@ -89,7 +89,8 @@ module _ (d : ℕ) (bytes : List ℕ) {to n : ℕ} {old new : MatchWindow} (with
       let long = length-take-le to bytes fits in
       elim (cases_lt to new.at) [
         | inl past ↦
-            let is : min new.at (to + 1) - old.at ≡ length line + 1 = omega (arith, length-drop old.at (take to bytes)) in
+            let is : min new.at (to + 1) - old.at ≡ length line + 1 =
+            omega (arith, length-drop old.at (take to bytes)) in
             rw is (offset_end d line (omega (arith, few_from p bytes within fits {before = n - 1} (next.none past))))
         | inr near ↦
             let later = nth_later p bytes within fits (n - 1) (next.found near) in

@@ -1,5 +1,5 @@
 //! Finds occurrences of a byte by match masks of 64 bytes. `cut` by fields finds delimiters and terminators by
-//! `ByteMatches`, and moves a `MatchWindow` along a line; `paste` calls `nth_index` and `find_by_mask`, and `uniq` calls
+//! `ByteMatches`, and moves a `MatchWindow` along a line. `paste` calls `nth_index` and `find_by_mask`, `uniq`
 //! `find_line_end` and `nth_bit`.
 
 ghost use Rattle.std.specs.Prelude.{◌≡◌, ◌<◌, ◌≤◌, ◌+◌, ◌/◌, ◌^◌, ℕ, Bool, List, Some, length, map, take};
@@ -193,9 +193,7 @@ impl MatchWindow {
         }
     }
 
-    // Like `ByteMatches::after_nth`, for a match that is not in the window. The windows after it are searched one by one.
-    // Out of line, and with a window that is written in place, so that the caller keeps its own in registers.
-    #[inline(never)]
+    // Like `ByteMatches::after_nth`, for a match that is not in the window. The windows after it are searched in turn.
     fn move_far(&mut self, byte: u8, bytes: &[u8], to: usize, before: u64)
         requires within { (self.old.at ≤ to) × (to ≤ length bytes.now) }
         requires window { IsMatchWindow (is_byte byte) bytes.now self.old }

