@@ -100,7 +100,7 @@ pub use specs.Private.Paste.TakenLines.{AreReceivedLines, LinesTaken}
 pub use specs.Private.Paste.BufferedRows.{BufferedRowsPre, IsConsumed, AreConsumed, AreFirstRows, RowsTaken}
 pub use specs.Private.Paste.BufferedRows.{IsFieldCopied, CopyColumnsPost, CopyRowsPost, RowsWritten}
 pub use specs.Private.Tr.TrFrom.{squeeze_from, tr_from}
-pub use specs.Private.Uniq.BlockRuns.{RunsWritten, span_of}
+pub use specs.Private.Uniq.BlockRuns.{RunsWritten, bytes_in_range}
 pub use specs.Private.Uniq.FirstLine.{first_line, current_run_of}
 pub use specs.Private.Uniq.RunsFrom.{run_of}
 pub use specs.declared.faults.FlowFault.{FlowFault}

@@ -12,8 +12,12 @@ use proofs.Common.{output_from_cursor, min, Option, None, Some, is_some, flat_ma
 use proofs.Common.{line_if_not_found, unlines, IsLine, is_field_delimiter, cut_line, cut_lines, IsPrefix, ◌⊎◌, inl, inr}
 use proofs.Common.{unwrap_or, complete_lines, AreLines, line_before_terminator, complete_lines_cons, the_lines}
 use proofs.Common.{the_complete_lines, CopyLinesPost, the_lines_of_parts, CutOfParts}
-use proofs.CutLemmas.CutBytes.{not_selected, select_first, select_slice, select_skip}
+use proofs.CutLemmas.CutBytes.{rest_of, not_selected, select_first, select_slice, select_skip}
+use proofs.Common.{cases_lt, append_assoc, ◌∙◌}
 use proofs.Passes.Exits.{line_split}
+use proofs.Vectors.FindNth.{nth_later, nth_from, few_from}
+use Rattle.ptflow.specs.Private.Vectors.FindNth.{IsAfterNth}
+use Rattle.ptflow.specs.declared.simd.find_nth.MatchWindow.{MatchWindow}
 use Rattle.ptflow.specs.declared.tools.cut.fields.FieldCursor.{FieldCursor}
 use Rattle.ptflow.specs.Private.Cut.FieldOffsets.{IsFieldOffset, fields, prefixed_fields}
 
@@ -70,6 +74,31 @@ module _ (d : ℕ) where
           → IsFieldOffset d (n + k) line (at + size)
       offset_add fits {k} {size} next = grind (usual, take-add, rest_at, drop-drop)
 
+-- by a window of the delimiters, of which n - 1 are between it and the field
+module _ (d : ℕ) (bytes : List ℕ) {to n : ℕ} {old new : MatchWindow} (within : old.at ≤ to) (fits : to ≤ length bytes)
+    (some : 0 < n) (next : IsAfterNth (is_byte d) bytes to (n - 1) old new) where
+  pub offset_later : old.at ≤ new.at
+  offset_later = elim (cases_lt to new.at) [
+    | inl past ↦ omega arith
+    | inr near ↦ omega (arith, nth_later (is_byte d) bytes within fits (n - 1) (next.found near))
+  ]
+
+  pub offset_of_window : IsFieldOffset d n (drop old.at (take to bytes)) (min new.at (to + 1) - old.at)
+  offset_of_window =
+      let p = is_byte d in
+      let line = drop old.at (take to bytes) in
+      let long = length-take-le to bytes fits in
+      elim (cases_lt to new.at) [
+        | inl past ↦
+            let is : min new.at (to + 1) - old.at ≡ length line + 1 =
+            omega (arith, length-drop old.at (take to bytes)) in
+            rw is (offset_end d line (omega (arith, few_from p bytes within fits {before = n - 1} (next.none past))))
+        | inr near ↦
+            let later = nth_later p bytes within fits (n - 1) (next.found near) in
+            let is : min new.at (to + 1) - old.at ≡ new.at - 1 - old.at + 1 = omega arith in
+            rw is (offset_after_nth d line _ some (nth_from p bytes within fits (next.found near)))
+      ]
+
 -- ---- the selected fields of a line, in one pass
 
 -- the cursor at the start of a line
@@ -86,7 +115,7 @@ module _ (d : ℕ) (line : List ℕ) (cursor : FieldCursor) where
       (drop cursor.passed (fields d line)) ≡ [] → output_from_cursor d line cursor ≡ []
   none_selected none = grind arith
 
-  module _ (w : IsFieldCursor d line cursor) (fits : cursor.at ≤ length line) (within : 0 < length all) where
+  module _ (w : IsFieldCursor d line cursor) (fits : cursor.window.at ≤ length line) (within : 0 < length all) where
     -- the next interval, and those after it
     abbrev r : Interval
     r = get_or all 0 (record { first = 0; last = 0 })
@@ -104,17 +133,22 @@ module _ (d : ℕ) (line : List ℕ) (cursor : FieldCursor) where
     abbrev size : ℕ
     size = r.last - r.first + 1
 
+    begins : IsFieldOffset d cursor.passed line cursor.window.at
+    begins =
+        let is : min cursor.window.at (length line + 1) ≡ cursor.window.at = grind arith in
+        rw is at w.offset
+
     these : all ≡ r ∷ rs
     these = grind arith
 
     apart : AreSeparated (cursor.passed + min cursor.passed 1) (r ∷ rs)
     apart = rw these at w.apart
 
-    module _ {from : ℕ} (near : cursor.at ≤ from)
-        (s : IsFieldOffset d skip (drop cursor.at line) (from - cursor.at)) where
+    module _ {from : ℕ} (near : cursor.window.at ≤ from)
+        (s : IsFieldOffset d skip (drop cursor.window.at line) (from - cursor.window.at)) where
       starts : IsFieldOffset d (cursor.passed + skip) line from
-      starts = let is : cursor.at + (from - cursor.at) ≡ from = omega arith in
-          rw is at (offset_add d line w.offset fits s)
+      starts = let is : cursor.window.at + (from - cursor.window.at) ≡ from = omega arith in
+          rw is at (offset_add d line begins fits s)
 
       left : drop skip here ≡ drop (cursor.passed + skip) (fields d line)
       left = drop-drop skip _ (fields d line)
@@ -165,9 +199,10 @@ module _ (d : ℕ) (line : List ℕ) (cursor : FieldCursor) where
           output =
               grind (arith, length-take-le, some, these, selected, prefixed_fields-append, drop-append-le, sep_drop)
 
-          pub next_slice : (next : FieldCursor) → next.left.now ≡ rs → next.passed ≡ r.last → next.at ≡ at
-              → IsNextSlice d line cursor (record { start = from - min cursor.passed 1; end = at - 1 }) next
-          next_slice next left_is passed_is at_is = grind (arith, output, ends)
+          pub next_slice : (next : FieldCursor) → next.left.now ≡ rs → next.passed ≡ r.last
+              → min next.window.at (length line + 1) ≡ at → (end : ℕ) → end ≡ at - 1
+              → IsNextSlice d line cursor (record { start = from - min cursor.passed 1; end = end }) next
+          next_slice next left_is passed_is at_is end end_is = grind (arith, output, ends)
 
 -- ---- the output of a line is not longer than the line
 
@@ -202,6 +237,17 @@ output_is_near start end was now out part rest copied room place =
       length-take-le start was room,
       length-take-le end now place,
     )
+
+-- a slice of the line, which is the first `to` bytes, is copied after the output so far
+pub slice_put : (before rest : List ℕ) (first last to : ℕ) (bytes : List ℕ) {all after output : List ℕ}
+    → all ≡ before ++ output → output ≡ take (last - first) (drop first (take to bytes)) ++ rest → last ≤ to
+    → after ≡ before ++ take (last - first) (drop first bytes) → all ≡ after ++ rest
+slice_put before rest first last to bytes is output_is within copied =
+    let part = take (last - first) (drop first bytes) in
+    let same : take (last - first) (drop first (take to bytes)) ≡ part =
+    ap (take (last - first)) (rest_of first to bytes) ∙ take-take (last - first) (to - first) (drop first bytes)
+    (omega arith) in
+    rw (copied, append_assoc before part rest, ← same, ← output_is) is
 
 -- ---- the lines of a text
 

@@ -8,12 +8,12 @@ use proofs.Common.{◌≡◌, ℕ, ◌+◌, ◌&&◌, Bool, true, false, cond, L
 use proofs.Common.{append-nil, bytes_eq-Decides, IsPrefix, Uniq, is_same, run_of, ◌-◌, ◌<◌, ◌≤◌, Some, None, Option}
 use proofs.Common.{length, take, drop, subst, append_assoc, length-append, bytes_eq, slice_range, drop_split}
 use proofs.Common.{length-drop, drop_at, IsFirstByte, is_byte, Output, PushEffect, unlines, complete_lines, IsLine}
-use proofs.Common.{unlines_push, complete_lines_none, RunsWritten, span_of, sym, ◌∙◌, known_lines, line, IsLineFilter}
+use proofs.Common.{unlines_push, complete_lines_none, RunsWritten, bytes_in_range, sym, ◌∙◌, known_lines, line}
 use proofs.Common.{first_line, current_run_of, rules, ◌⊎◌, inl, inr, ⊎_elim, filter, AllByRecursion, cases_Bool}
 use proofs.Common.{the_lines_of_parts, lines-unlines, lines_are, BeginsWith, EndsWith, line_before_terminator}
-use proofs.Common.{take_with_terminator, ◌≢◌, zero, suc}
+use proofs.Common.{take_with_terminator, ◌≢◌, zero, suc, IsLineFilter}
 use proofs.Passes.Exits.{wrote_then, split_of, ended_next}
-use specs.Private.Uniq.BlockRuns.{EndRunPre, first_of, repeated, IsSpan, RunsFailed, IsPending}
+use specs.Private.Uniq.BlockRuns.{EndRunPre, first_of, repeated, IsInBlock, RunsFailed, IsPending}
 use specs.Private.Uniq.RunsFrom.{count_prefix, run_text, count_of, has_output, current_run, run_output, runs_after}
 use specs.Private.Uniq.RunsFrom.{runs_from}
 use specs.declared.tools.uniq.block_runs.BlockRange.{BlockRange}
@@ -131,37 +131,38 @@ module _ {end : ℕ} {block rest : List ℕ} {front : List (List ℕ)} (lies : B
 
 -- ---- deferred output
 
-span_join : {block : List ℕ} {a b : BlockRange} → IsSpan block a → IsSpan block b → a.to ≡ b.from
-    → span_of block (record { from = a.from; to = b.to }) ≡ span_of block a ++ span_of block b
-span_join {block} {a} {b} fits next touch =
-    let back = span_of block b in
-    let split : drop a.from block ≡ ((span_of block a) ++ back) ++ drop b.to block =
+ranges_join : {block : List ℕ} {a b : BlockRange} → IsInBlock block a → IsInBlock block b → a.to ≡ b.from
+    → bytes_in_range block (record { from = a.from; to = b.to }) ≡ bytes_in_range block a ++ bytes_in_range block b
+ranges_join {block} {a} {b} fits next touch =
+    let back = bytes_in_range block b in
+    let split : drop a.from block ≡ ((bytes_in_range block a) ++ back) ++ drop b.to block =
     grind (usual, drop_split) in
     grind usual
 
 module _ (job : Uniq) (first : List ℕ) (count : ℕ) {block : List ℕ} {line : Option BlockRange} {l pending : BlockRange}
     (pre : EndRunPre job.terminator block line pending) (is : line ≡ Some l)
     (shown : has_output job.show count ≡ true) where
-  pub due_is : run_text job (run_of (first_of first block line) count) ≡ count_prefix job.show count ++ span_of block l
+  pub due_is : run_text job (run_of (first_of first block line) count)
+      ≡ count_prefix job.show count ++ bytes_in_range block l
   due_is = grind (arith, current_run_is)
 
   pub pending_joined : {out : Output} → pending.to ≡ l.from → count_prefix job.show count ≡ []
-      → IsPending (span_of block pending ++ run_text job (run_of (first_of first block line) count)) block
+      → IsPending (bytes_in_range block pending ++ run_text job (run_of (first_of first block line) count)) block
       (record { from = pending.from; to = l.to }) out out
-  pending_joined = search (rules, span_join, due_is)
+  pending_joined = search (rules, ranges_join, due_is)
 
 module _ {bytes block : List ℕ} {pending : BlockRange} {was is : Output} (waits : IsPending bytes block pending was is)
     (more : List ℕ) {is' : Output} where
-  pending_then : {now : BlockRange} → IsPending (span_of block pending ++ more) block now is is'
+  pending_then : {now : BlockRange} → IsPending (bytes_in_range block pending ++ more) block now is is'
       → IsPending (bytes ++ more) block now was is'
   pending_then {now} next = record {
     pushed = waits.pushed ++ next.pushed;
     wrote = wrote_then _ _ _ waits.wrote next.wrote;
     all = grind (arith, append_assoc);
-    span = next.span;
+    in_block = next.in_block;
   }
 
-  pending_pushed : PushEffect is is' (span_of block pending ++ more) → PushEffect was is' (bytes ++ more)
+  pending_pushed : PushEffect is is' (bytes_in_range block pending ++ more) → PushEffect was is' (bytes ++ more)
   pending_pushed wrote = subst (PushEffect was is') (grind usual) (wrote_then _ _ _ waits.wrote wrote)
 
 -- ---- runs one after another
@@ -282,7 +283,7 @@ module _ {job : Uniq} {first block rest : List ℕ} {start count : ℕ} {line : 
       steps = steps_next so_far.steps (take at rest) (test is_false)
 
       pub runs_loop_next : {is' : Output} {now : BlockRange}
-          → IsPending (span_of block pending ++ run_text job run) block now is is'
+          → IsPending (bytes_in_range block pending ++ run_text job run) block now is is'
           → {from to : ℕ} → from ≡ to - at - 1 → to ≡ length block - length (drop (at + 1) rest)
           → RunsInvariant job first block (drop (at + 1) rest) start 1 (Some (record { from = from; to = to })) now next
           was is'
@@ -298,14 +299,15 @@ module _ {job : Uniq} {first block rest : List ℕ} {start count : ℕ} {line : 
             some = omega arith;
           }
 
-      pub runs_loop_failed : {is' : Output} → PushEffect is is' (span_of block pending ++ run_text job run)
+      pub runs_loop_failed : {is' : Output} → PushEffect is is' (bytes_in_range block pending ++ run_text job run)
           → is'.write_failed ≡ true
           → RunsFailed job (run_of first start) (complete_lines job.terminator block) was is'
       runs_loop_failed wrote fault = steps_failed steps (search (entries, pending_pushed))
           (complete_lines job.terminator (drop (at + 1) rest)) (front_more so_far.lies at found).lines fault
 
   -- no complete line is left
-  module _ (none : IsLine job.terminator rest) {is' : Output} (wrote : PushEffect is is' (span_of block pending)) where
+  module _ (none : IsLine job.terminator rest) {is' : Output}
+      (wrote : PushEffect is is' (bytes_in_range block pending)) where
     pub all_lines : complete_lines job.terminator block ≡ so_far.front
     all_lines = grind (arith, complete_lines_none, append-nil)
 

@@ -8,7 +8,10 @@ use proofs.Common.{Some, List, [], ◌∷◌, length, map, take, drop, get_or, r
 use proofs.Common.{count_ones, count_by, prefix_len, mask_l, chunk, take-add, take-take, length-take-le}
 use proofs.Common.{get_or-le-sum_by, sum_by-append, sum_by-take-le, ones-mask_l, get_or-chunk, length-chunk}
 use proofs.Common.{IsFirstByte, NoneBefore, Passes, is_byte, line_before_terminator, line_if_not_found, Nowhere, None}
-use proofs.Common.{IsLine, byte_ne, IsNth, IsTerminatorMask, none_if_zero_mask}
+use proofs.Common.{IsLine, byte_ne, IsNth, IsTerminatorMask, none_if_zero_mask, drop-drop, cases_lt, inl, inr}
+use proofs.Common.{length-drop, get_or-drop, take_all}
+use Rattle.ptflow.specs.Private.Vectors.FindNth.{IsMatchWindow, IsAfterNth}
+use Rattle.ptflow.specs.declared.simd.find_nth.MatchWindow.{MatchWindow}
 use proofs.Common.{rules, count_by_more_yes, take-map, get_or-map, length-map}
 use lemmas.List.{drop-map}
 use Rattle.ptlines.proofs.MatchMasks.{shifted}
@@ -119,30 +122,144 @@ module _ (p : ℕ → Bool) (bytes : List ℕ) where
   pub first_is : (at : ℕ) → IsNth p 0 0 bytes at → NoneBefore (Passes p bytes) 0 (length bytes) at × Passes p bytes at
   first_is at (within, passes, none) = (grind (arith, get_or-take, get_or-le-sum_by, length-take-le), passes)
 
--- ---- by the first match
+-- ---- lines without a byte
 
-module _ (d : ℕ) (line : List ℕ) where
-  pub none_counted : (bytes : List ℕ) → IsLine d bytes → count_by (is_byte d) bytes ≡ 0
-  none_counted [] free = refl
-  none_counted (b ∷ bytes) (differs, free) = grind (arith, none_counted bytes free, byte_ne)
+pub none_counted : (d : ℕ) (bytes : List ℕ) → IsLine d bytes → count_by (is_byte d) bytes ≡ 0
+none_counted d [] free = refl
+none_counted d (b ∷ bytes) (differs, free) = grind (arith, none_counted d bytes free, byte_ne)
 
-  module _ {from before to : ℕ} (start : from ≡ 0) (zero : before ≡ 0) (le : to ≤ length line) where
+-- ---- a window of a list
+
+module _ (p : ℕ → Bool) (bytes : List ℕ) where
+  count_parts : (at n : ℕ)
+      → count_by p (take (at + n) bytes) ≡ count_by p (take at bytes) + count_by p (take n (drop at bytes))
+  count_parts at n = simp (take-add, sum_by-append)
+
+module _ (p : ℕ → Bool) (bytes : List ℕ) {from to : ℕ} (order : from ≤ to) (fits : to ≤ length bytes) where
+  abbrev front : List ℕ
+  front = take to bytes
+
+  same_start : take from front ≡ take from bytes
+  same_start = take-take from to bytes order
+
+  -- the item that passes after those before an index is not before it
+  pub nth_later : (before : ℕ) {at : ℕ} → IsNth p 0 (before + count_by p (take from bytes)) front at → from ≤ at
+  nth_later before {at} (within, passes, counted) = elim (cases_lt at from) [
+    | inl lt ↦ absurd (omega (
+      arith,
+      count_by_more_yes p front at 0 within passes,
+      count_up_to p front (at + 1) from (omega arith),
+      ap (count_by p) same_start,
+    ))
+    | inr ge ↦ ge
+  ]
+
+  pub nth_from : {before at : ℕ} → IsNth p 0 (before + count_by p (take from bytes)) front at
+      → IsNth p 0 before (drop from front) (at - from)
+  nth_from {before} {at} nth =
+      let later = nth_later before nth in
+      let is : from + (at - from) ≡ at = omega arith in
+      let parts = rw is at (count_parts p front from (at - from)) in
+      let (within, passes, counted) = nth in (
+        omega (arith, length-drop from front),
+        rw (get_or-drop, is) passes,
+        omega (arith, parts, counted, ap (count_by p) same_start),
+      )
+
+  pub few_from : {before : ℕ} → count_by p front ≤ before + count_by p (take from bytes)
+      → count_by p (drop from front) ≤ before
+  few_from {before} few =
+      let is : from + (to - from) ≡ to = omega arith in
+      let long = length-take-le to bytes fits in
+      let whole : take to front ≡ front = take_all to front (omega arith) in
+      let rest : take (to - from) (drop from front) ≡ drop from front =
+      take_all _ _ (omega (arith, length-drop from front)) in
+      let parts = rw (is, whole, rest) at (count_parts p front from (to - from)) in
+      omega (arith, parts, ap (count_by p) same_start)
+
+module _ (p : ℕ → Bool) (bytes : List ℕ) where
+  -- the window of the 64 items at an index
+  pub full_window : (at : ℕ) {mask : ℕ} → at + 64 ≤ length bytes → mask ≡ mask_l (map p (chunk at 64 bytes))
+      → IsMatchWindow p bytes (record { at = at; mask = mask; end = at + 64 })
+  full_window at {mask} within is = record {
+    order = omega arith;
+    within = within;
+    few = omega arith;
+    is = let all : at + 64 - at ≡ 64 = omega arith in rw all is;
+  }
+
+  module _ {w : MatchWindow} (is : IsMatchWindow p bytes w) where
     abbrev part : List ℕ
-    part = take (to - from) (drop from line)
+    part = take (w.end - w.at) (drop w.at bytes)
 
-    pub first_is_nth : (at : ℕ) → IsFirstByte (is_byte d) line (Some at) → at < to → IsNth (is_byte d) 0 before part at
-    first_is_nth at first lt = grind (usual, get_or-take, take-take, none_counted, line_before_terminator)
+    size : w.at + (w.end - w.at) ≤ length bytes
+    size = omega (arith, is.order, is.within)
 
-    pub no_nth_before_first : (at : ℕ) → IsFirstByte (is_byte d) line (Some at) → to ≤ at
-        → count_by (is_byte d) part ≤ before
-    no_nth_before_first at first ge = grind (arith, count_up_to, none_counted, line_before_terminator)
+    pub window_few : length part ≤ 64
+    window_few = omega (arith, length-chunk w.at (w.end - w.at) bytes size, is.few)
 
-    pub no_nth : IsFirstByte (is_byte d) line None → count_by (is_byte d) part ≤ before
-    no_nth none =
-        let few : count_by (is_byte d) (take to line) ≤ 0 =
-        grind (usual, none_counted, line_if_not_found) in
-        let whole : to - from ≡ to = omega arith in
-        rw (whole, start) (omega arith)
+    pub window_ones : count_ones w.mask ≡ count_by p part
+    window_ones = ap count_ones is.is ∙ ones-mask_l p part
+
+    pub window_counted : count_by p (take w.end bytes) ≡ count_by p (take w.at bytes) + count_ones w.mask
+    window_counted =
+        let whole : w.at + (w.end - w.at) ≡ w.end = omega (arith, is.order) in
+        rw (whole, ← window_ones) at (count_parts p bytes w.at (w.end - w.at))
+
+    pub nth_in_window : {left index : ℕ} → left < count_ones w.mask
+        → ((test : ℕ → Bool) (items : List ℕ) → length items ≤ 64 → w.mask ≡ mask_l (map test items)
+        → left < count_by test items → IsNth test 0 left items index)
+        → IsNth p 0 left part index
+    nth_in_window lt nth = nth p part window_few is.is (omega (arith, window_ones))
+
+    module _ {index left : ℕ} (nth : IsNth p 0 left part index) where
+      pub window_inside : index < w.end - w.at
+      window_inside = near p bytes (w.end - w.at) w.at left index size nth
+
+      -- the window after this item
+      abbrev next : MatchWindow
+      next = record { at = w.at + index + 1; mask = w.mask / 2 ^ index / 2; end = w.end }
+
+      shorter : next.mask ≡ mask_l (map p (take (next.end - next.at) (drop next.at bytes)))
+      shorter =
+          let rest = drop w.at bytes in
+          let first = mask_from p (w.end - w.at) index rest is.is in
+          let second = mask_from p (w.end - w.at - index) 1 (drop index rest) first in
+          let count : w.end - w.at - index - 1 ≡ w.end - (w.at + index + 1) = omega arith in
+          let place : w.at + (index + 1) ≡ w.at + index + 1 = omega arith in
+          second ∙ ap (λ n. mask_l (map p (take n (drop 1 (drop index rest))))) count
+          ∙ ap (λ xs. mask_l (map p (take (w.end - (w.at + index + 1)) xs))) (drop-drop 1 index rest
+          ∙ drop-drop (index + 1) w.at bytes ∙ ap (λ n. drop n bytes) place)
+
+      next_window : IsMatchWindow p bytes next
+      next_window = record {
+        order = omega (arith, window_inside);
+        within = is.within;
+        few = omega (arith, is.few);
+        is = shorter;
+      }
+
+      pub after_in_window : {to before : ℕ} {old : MatchWindow} → to ≤ length bytes
+          → left + count_by p (take w.at bytes) ≡ before + count_by p (take old.at bytes)
+          → IsAfterNth p bytes to before old next
+      after_in_window {to} {before} {old} fits counted = record {
+        found = λ near_to. nth_in_prefix p bytes (w.end - w.at) w.at left index size nth (omega arith) (omega arith)
+            (omega arith) fits;
+        none = λ past. none_in_prefix p bytes (w.end - w.at) w.at left index size nth {index = w.at + index} refl
+            (omega arith) (omega arith);
+        some = omega arith;
+        moved = λ near_to. next_window;
+      }
+
+  module _ {to before : ℕ} {old : MatchWindow} (fits : to ≤ length bytes) where
+    pub after_all : count_by p (take to bytes) ≤ before + count_by p (take old.at bytes)
+        → IsAfterNth p bytes to before old (record { at = to + 1; mask = 0; end = to + 1 })
+    after_all few = record {
+      found = λ near_to. absurd (omega arith);
+      none = λ past. few;
+      some = omega arith;
+      moved = λ near_to. absurd (omega arith);
+    }
 
 -- no item from `start` on passes before the one at `end`
 module _ (p : ℕ → Bool) (bytes : List ℕ) (start end : ℕ) (fits : end < length bytes)

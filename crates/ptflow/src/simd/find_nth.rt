@@ -1,11 +1,13 @@
 //! Finds occurrences of a byte by match masks of 64 bytes. `cut` by fields finds delimiters and terminators by
-//! `ByteMatches`; `paste` calls `nth_index` and `find_by_mask`, and `uniq` calls `find_line_end` and `nth_bit`.
+//! `ByteMatches`, and moves a `MatchWindow` along a line. `paste` calls `nth_index` and `find_by_mask`, `uniq`
+//! `find_line_end` and `nth_bit`.
 
-ghost use Rattle.std.specs.Prelude.{◌≡◌, ◌<◌, ◌≤◌, ◌+◌, ◌-◌, ℕ, Bool, List, Some, IfSome, length, map, take, drop};
+ghost use Rattle.std.specs.Prelude.{◌≡◌, ◌<◌, ◌≤◌, ◌+◌, ◌/◌, ◌^◌, ℕ, Bool, List, Some, length, map, take};
+ghost use Rattle.std.specs.Int.RustNames.{count_ones};
 ghost use Rattle.std.specs.List.{count_by};
 ghost use Rattle.std.specs.Simd.Lanes.{mask_l};
 ghost use Rattle.memchr.specs.Find.{IsFirstByte, Nowhere, Passes, is_byte};
-ghost use Rattle.ptflow.specs.Private.Vectors.FindNth.{IsFirstByte-prop, IsNth, IsNthResult};
+ghost use Rattle.ptflow.specs.Private.Vectors.FindNth.{IsFirstByte-prop, IsNth, IsNthResult, IsMatchWindow, IsAfterNth};
 
 use ptlines::{find_byte, find_in_chunk, match_mask};
 
@@ -94,17 +96,6 @@ fn first_match(byte: u8, bytes: &[u8], mask: u64, size: usize) -> Option<usize>
     Some(size + at)
 }
 
-// The index of the first match, if it is among the first 16 bytes.
-#[inline(always)]
-fn find_near(byte: u8, bytes: &[u8]) -> Option<usize>
-    ensures { IfSome result (λ at. IsFirstByte (is_byte byte) bytes.now (Some at)) }
-{
-    if bytes.len() < 16 {
-        return None;
-    }
-    find_in_chunk::<16>(byte, bytes, 0)
-}
-
 impl<'a> ByteMatches<'a> {
     #[inline(always)]
     pub(crate) fn new(byte: u8, bytes: &'a [u8]) -> Self
@@ -134,33 +125,98 @@ impl<'a> ByteMatches<'a> {
         self.first_match
     }
 
-    /// The index of the match after `before` others among `bytes[from..to]`, counted from `from`.
+    /// The window at the first byte.
     #[inline(always)]
-    pub(crate) fn nth(&self, from: usize, to: usize, before: u64) -> Option<usize>
-        requires { (from ≤ to) × (to ≤ length self.now.bytes.now) }
-        ensures { IsNthResult (is_byte self.now.byte) before (take (to - from) (drop from self.now.bytes.now)) result }
+    pub(crate) fn window(&self) -> MatchWindow
+        ensures start { result.at ≡ 0 }
+        ensures window { IsMatchWindow (is_byte self.now.byte) self.now.bytes.now result }
     {
-        if from == 0 && before == 0 {
-            let at = self.first_match?;
-            return if at < to { Some(at) } else { None };
+        MatchWindow {
+            at: 0,
+            mask: self.mask,
+            end: self.size,
         }
-        let len = to - from;
-        if from < self.size {
-            let mask = self.mask >> from;
-            if before < u64::from(mask.count_ones()) {
-                let at = nth_bit(mask, before);
-                return if at < len { Some(at) } else { None };
+    }
+
+    /// Moves a window after the match that `before` others precede, counted from the window on. If there is no such
+    /// match among the first `to` bytes, the window is after these.
+    #[inline(always)]
+    pub(crate) fn after_nth(&self, window: MatchWindow, to: usize, before: u64) -> MatchWindow
+        requires within { (window.at ≤ to) × (to ≤ length self.now.bytes.now) }
+        requires window { IsMatchWindow (is_byte self.now.byte) self.now.bytes.now window }
+        ensures { IsAfterNth (is_byte self.now.byte) self.now.bytes.now to before window result }
+    {
+        if before < u64::from(window.mask.count_ones()) {
+            return window.after(nth_bit(window.mask, before));
+        }
+        if window.end >= to {
+            return MatchWindow::past(to);
+        }
+        let mut moved = window;
+        moved.move_far(self.byte, self.bytes, to, before);
+        moved
+    }
+}
+
+/// The matches of a byte from index `at` to index `end`, of at most 64 bytes.
+#[derive(Clone, Copy)]
+pub(crate) struct MatchWindow {
+    pub(crate) at: usize,
+    mask: u64,
+    end: usize,
+}
+
+impl MatchWindow {
+    // A window after the first `to` bytes, without a match.
+    #[inline(always)]
+    fn past(to: usize) -> MatchWindow
+        requires { to < 2 ^ 63 }
+        ensures { result ≡ record { at = to + 1; mask = 0; end = to + 1 } }
+    {
+        MatchWindow {
+            at: to + 1,
+            mask: 0,
+            end: to + 1,
+        }
+    }
+
+    // The rest of a window after the byte at index `index` of it.
+    #[inline(always)]
+    fn after(self, index: usize) -> MatchWindow
+        requires { (self.at + index < self.end) × (index < 64) }
+        ensures { result ≡ record { at = self.at + index + 1; mask = self.mask / 2 ^ index / 2; end = self.end } }
+    {
+        MatchWindow {
+            at: self.at + index + 1,
+            mask: self.mask >> index >> 1,
+            end: self.end,
+        }
+    }
+
+    // Like `ByteMatches::after_nth`, for a match that is not in the window. The windows after it are searched in turn.
+    fn move_far(&mut self, byte: u8, bytes: &[u8], to: usize, before: u64)
+        requires within { (self.old.at ≤ to) × (to ≤ length bytes.now) }
+        requires window { IsMatchWindow (is_byte byte) bytes.now self.old }
+        requires far { count_ones self.old.mask ≤ before }
+        ensures { IsAfterNth (is_byte byte) bytes.now to before self.old self.new }
+    {
+        let mut at = self.end;
+        let mut left = before - u64::from(self.mask.count_ones());
+        while at < to && bytes.len() - at >= 64 {
+            let mask = match_mask::<64>(byte, bytes, at);
+            let count = u64::from(mask.count_ones());
+            if left < count {
+                let end = at + 64;
+                *self = MatchWindow { at, mask, end }.after(nth_bit(mask, left));
+                return;
             }
+            left -= count;
+            at += 64;
         }
-        if before == 0
-            && let Some(at) = find_near(self.byte, &self.bytes[from..])
-        {
-            return if at < len { Some(at) } else { None };
-        }
-        if before >= len as u64 {
-            return None;
-        }
-        nth_index(self.byte, &self.bytes[from..], len, before)
+        *self = match nth_tail(byte, bytes, at, to, left) {
+            Some(index) => MatchWindow::past(index),
+            None => MatchWindow::past(to),
+        };
     }
 }
 

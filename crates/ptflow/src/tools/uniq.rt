@@ -16,7 +16,7 @@ mod line_key;
 
 use crate::faults::FlowFault;
 use crate::line_loop::{LineFilter, run_lines};
-use crate::tools::uniq::block_runs::{BlockRun, RunWriter};
+use crate::tools::uniq::block_runs::{CountedRun, RunWriter};
 use crate::tools::uniq::line_key::key;
 use arrayvec::ArrayVec;
 use ptlangs::jobs::UniqJob;
@@ -34,8 +34,8 @@ pub(crate) struct CurrentRun {
 
 impl CurrentRun {
     // Becomes the last run of the lines of a block, and copies its first line if that is in the block.
-    fn set_to_last(&mut self, last: BlockRun, block: &[u8])
-        requires span { IfSome last.line (λ line. (line.from < line.to) × (line.to ≤ length block.now)) }
+    fn set_to_last(&mut self, last: CountedRun, block: &[u8])
+        requires range { IfSome last.line (λ line. (line.from < line.to) × (line.to ≤ length block.now)) }
         requires few { length block.now ≤ BLOCK }
         ensures { (store : Slots) → current_run_of self.new store
             ≡ run_of (first_of (first_line self.old store) block.now last.line) last.count }

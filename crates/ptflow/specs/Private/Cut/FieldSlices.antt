@@ -1,10 +1,12 @@
 -- The slices of a line that are its selected fields, one after another: the cursor that gives them (`IsFieldCursor`),
 -- the output that is left from it on, and the next slice of this output (`IsNextSlice`).
 use Rattle.std.specs.Prelude.{◌≡◌, ℕ, ◌+◌, ◌-◌, ◌<◌, ◌≤◌, List, ◌++◌, length, take, drop, min}
+use Rattle.memchr.specs.Find.{is_byte}
 use Rattle.ptlangs.specs.Calls.CutLists.{AreSeparated}
 use Rattle.ptlangs.specs.CutLists.{is_selected}
 use Rattle.ptflow.specs.Cuts.{select_from}
 use Rattle.ptflow.specs.Private.Cut.FieldOffsets.{IsFieldOffset, fields, prefixed_fields}
+use Rattle.ptflow.specs.Private.Vectors.FindNth.{IsMatchWindow}
 use Rattle.ptflow.specs.declared.tools.cut.fields.FieldCursor.{FieldCursor}
 use Rattle.ptflow.specs.declared.tools.cut.fields.LineSlice.{LineSlice}
 
@@ -16,8 +18,13 @@ output_from_cursor delimiter line cursor =
 
 -- The cursor is at the field after those before it, and its intervals begin at a later one, if any field was passed.
 pub record IsFieldCursor (delimiter : ℕ) (line : List ℕ) (cursor : FieldCursor) : Type 0 where
-  pub offset : IsFieldOffset delimiter cursor.passed line cursor.at
+  pub offset : IsFieldOffset delimiter cursor.passed line (min cursor.window.at (length line + 1))
   pub apart : AreSeparated (cursor.passed + min cursor.passed 1) cursor.left.now
+
+-- the window of the cursor has the delimiters after it, unless it is after the line, which is the first `to` bytes
+abbrev pub IsLineWindow : ℕ → List ℕ → ℕ → FieldCursor → Type 0
+IsLineWindow delimiter bytes to cursor =
+    cursor.window.at ≤ to → IsMatchWindow (is_byte delimiter) bytes cursor.window
 
 -- the output that is left begins with this slice
 pub record IsNextSlice (delimiter : ℕ) (line : List ℕ) (cursor : FieldCursor) (slice : LineSlice) (next : FieldCursor)

@@ -24,13 +24,13 @@ repeated zero bytes = []
 repeated (suc n) bytes = bytes ++ repeated n bytes
 
 -- the bytes of a range
-abbrev pub span_of : List ℕ → BlockRange → List ℕ
-span_of block span = slice_range block span.from span.to
+abbrev pub bytes_in_range : List ℕ → BlockRange → List ℕ
+bytes_in_range block range = slice_range block range.from range.to
 
 -- the range is in the block
-pub record IsSpan (block : List ℕ) (span : BlockRange) : Type 0 where
-  pub ordered : span.from ≤ span.to
-  pub within : span.to ≤ length block
+pub record IsInBlock (block : List ℕ) (range : BlockRange) : Type 0 where
+  pub ordered : range.from ≤ range.to
+  pub within : range.to ≤ length block
 
 -- the first line of a run, which is before a block or, with its terminator, in this range of it
 abbrev pub first_of : List ℕ → List ℕ → Option BlockRange → List ℕ
@@ -38,20 +38,20 @@ first_of first block None = first
 first_of first block (Some line) = slice_range block line.from (line.to - 1)
 
 -- the range of a line with its terminator
-pub record IsLineSpan (end : ℕ) (block : List ℕ) (line : BlockRange) : Type 0 where
+pub record IsLineRange (end : ℕ) (block : List ℕ) (line : BlockRange) : Type 0 where
   pub some : line.from < line.to
   pub within : line.to ≤ length block
-  pub text : span_of block line ≡ slice_range block line.from (line.to - 1) ++ end ∷ []
+  pub text : bytes_in_range block line ≡ slice_range block line.from (line.to - 1) ++ end ∷ []
 
 -- The deferred output is in the block. There is none if the first line of the run is before the block.
 pub record EndRunPre (end : ℕ) (block : List ℕ) (line : Option BlockRange) (pending : BlockRange) : Type 0 where
-  pub pending_in : IsSpan block pending
-  pub line_in : IfSome line (IsLineSpan end block)
-  pub none : line ≡ None → span_of block pending ≡ []
+  pub pending_in : IsInBlock block pending
+  pub line_in : IfSome line (IsLineRange end block)
+  pub none : line ≡ None → bytes_in_range block pending ≡ []
 
 -- Some of these bytes were pushed, and the others are this range of the block.
 pub record IsPending (bytes block : List ℕ) (pending : BlockRange) (was is : Output) : Type 0 where
   pub pushed : List ℕ
   pub wrote : PushEffect was is pushed
-  pub all : pushed ++ span_of block pending ≡ bytes
-  pub span : IsSpan block pending
+  pub all : pushed ++ bytes_in_range block pending ≡ bytes
+  pub in_block : IsInBlock block pending

@@ -105,7 +105,7 @@ impl Selection<'_> {
     // the copied bytes. Out of line, to keep registers free in the copy of short lines (`cut -c 2-4`: 3.4
     // instructions a byte for 4.1).
     #[inline(never)]
-    fn copy_pieces(&self, line: &[u8], count: usize, into: &mut PaddedBlock, at: usize) -> usize
+    fn copy_pieces(&self, line: &[u8], count: usize, into: &mut PaddedBlock, mut at: usize) -> usize
         requires few { count ≤ self.now.shuffles.max_len }
         requires within { count + 16 ≤ length line.now }
         requires room { HasRoom 0 at (count + 1) }
@@ -113,7 +113,6 @@ impl Selection<'_> {
             ≡ take at into.old ++ select_from (is_selected self.now.selected.now) 1 (take count line.now) }
         ensures near { result ≤ at + count }
     {
-        let mut at = at;
         for index in 0..self.shuffles.count {
             let rest = (count - 16 * index).min(16);
             at = self.copy16(index, line, rest, into, at);
@@ -138,6 +137,8 @@ impl Selection<'_> {
         let bytes = &block[line.start..];
         let is_short = count <= 16;
         let end = if line.line_offset > 0 || !is_short && count > self.shuffles.max_len {
+            // A copy, so that the line stays in registers elsewhere (`cut -c 2-4`: 3.1 instructions a byte for 3.4).
+            let line = line;
             self.copy_selected(block, line, count, into)
         } else if is_short {
             self.copy16(0, bytes, count, into, line.at)
@@ -154,8 +155,8 @@ impl Selection<'_> {
         &self,
         block: &[u8],
         from: usize,
-        mask: u64,
-        line: Line,
+        mut mask: u64,
+        mut line: Line,
         into: &mut PaddedBlock,
     ) -> Line
         requires ends { IsTerminatorMask self.now.terminator block.now from mask }
@@ -164,8 +165,6 @@ impl Selection<'_> {
             (take result.at into.new) }
         ensures same { IsSameLine self.now.terminator block.now (from + 64) result.start }
     {
-        let mut mask = mask;
-        let mut line = line;
         if mask == u64::MAX && line.start == from && line.line_offset == 0 {
             // These lines are all empty.
             let room: &mut [u8] = into;
@@ -185,7 +184,7 @@ impl Selection<'_> {
     }
 
     // Copies the output of the last bytes of a block, from the start of a line on.
-    fn cut_tail(&self, block: &[u8], line: Line, into: &mut PaddedBlock) -> BlockEnd
+    fn cut_tail(&self, block: &[u8], mut line: Line, into: &mut PaddedBlock) -> BlockEnd
         requires start { (line.at ≤ line.start) × (line.start ≤ length block.now) }
         requires room { HasRoom line.line_offset 0 (length block.now) }
         ensures cut { ExtendsCut self.now.terminator self.now.selected.now line.line_offset (drop line.start block.now)
@@ -193,7 +192,6 @@ impl Selection<'_> {
         ensures near { result.at ≤ length block.now }
         ensures bound { result.line_offset ≤ line.line_offset + length block.now }
     {
-        let mut line = line;
         'lines: while let Some(count) = find_byte(self.terminator, &block[line.start..]) {
             let end = self.copy_selected(block, line, count, into);
             into[end] = self.terminator;

@@ -2,40 +2,41 @@
 //! selected slices of a line. The output for the lines that end in a block is copied to one buffer; adjacent lines
 //! without the delimiter are copied together. `cut` calls it.
 
-ghost use Rattle.std.specs.Prelude.{◌≡◌, ◌+◌, ◌-◌, ◌<◌, ◌≤◌, ◌++◌, ◌⊎◌, length, take, drop, slice_index, true, false};
-ghost use Rattle.std.specs.Prelude.{[], ◌∷◌, Some, OnOk, OnErr, MatchOption};
+ghost use Rattle.std.specs.Prelude.{◌≡◌, ◌+◌, ◌-◌, ◌<◌, ◌≤◌, ◌++◌, ◌⊎◌, length, take, drop, min, slice_index, true};
+ghost use Rattle.std.specs.Prelude.{false, [], ◌∷◌, Some, OnOk, OnErr, MatchOption};
 ghost use Rattle.memchr.specs.Find.{IsFirstByte, is_byte};
 ghost use Rattle.ptlines.specs.Calls.Outputs.{PushEffect};
 ghost use Rattle.ptlangs.specs.Jobs.{cut_job};
 ghost use Rattle.ptflow.specs.Cuts.{cut_fields, cut_lines};
 ghost use Rattle.ptflow.specs.Private.Cut.FieldOffsets.{IsFieldOffset};
-ghost use Rattle.ptflow.specs.Private.Cut.FieldSlices.{IsFieldCursor, IsNextSlice, output_from_cursor};
+ghost use Rattle.ptflow.specs.Private.Cut.FieldSlices.{IsFieldCursor, IsLineWindow, IsNextSlice, output_from_cursor};
+ghost use Rattle.ptflow.specs.Private.Vectors.FindNth.{IsMatchWindow};
 ghost use Rattle.ptflow.specs.Private.Cut.CutFrom.{CopyLinesPost};
 
 use crate::line_loop::LineFilter;
-use crate::simd::find_nth::ByteMatches;
+use crate::simd::find_nth::{ByteMatches, MatchWindow};
 use memchr::memrchr;
 use ptlangs::jobs::CutJob;
 use ptlangs::ranges::Interval;
 use ptlines::{Out, PADDED, PaddedBlock, Sink, Store, WriteFault, copy_short};
 use std::alloc::Allocator;
+use std::simd::prelude::*;
 
-// The index at which a field of a line starts, which is the first `to` bytes: the field after `count` others from the
-// one at index `from` on. If there is no such field, the index after the end of the line.
+// Moves a window of the delimiters of a line, which is the first `to` bytes, to the start of the field after `count`
+// others, counted from the window on. If there is no such field, the window is after the line.
 #[inline(always)]
-fn skip_fields(delimiters: &ByteMatches, from: usize, to: usize, count: u64) -> usize
-    requires { (from ≤ to) × (to ≤ length delimiters.now.bytes.now) }
-    ensures near { (from ≤ result) × (result ≤ to + 1) }
-    ensures offset { IsFieldOffset delimiters.now.byte count (drop from (take to delimiters.now.bytes.now))
-        (result - from) }
+fn skip_fields(delimiters: &ByteMatches, window: MatchWindow, to: usize, count: u64) -> MatchWindow
+    requires within { (window.at ≤ to) × (to ≤ length delimiters.now.bytes.now) }
+    requires window { IsMatchWindow (is_byte delimiters.now.byte) delimiters.now.bytes.now window }
+    ensures near { window.at ≤ result.at }
+    ensures offset { IsFieldOffset delimiters.now.byte count (drop window.at (take to delimiters.now.bytes.now))
+        (min result.at (to + 1) - window.at) }
+    ensures moved { result.at ≤ to → IsMatchWindow (is_byte delimiters.now.byte) delimiters.now.bytes.now result }
 {
     if count == 0 {
-        return from;
+        return window;
     }
-    match delimiters.nth(from, to, count - 1) {
-        Some(at) => from + at + 1,
-        None => to + 1,
-    }
+    delimiters.after_nth(window, to, count - 1)
 }
 
 // A slice of a line: the index of its first byte, and the index after its last one.
@@ -46,26 +47,27 @@ struct LineSlice {
 }
 
 // The rest of the output for a line: the fields that these intervals select. The field after the first `passed`
-// ones starts at index `at` of the line; if there is no such field, `at` is after its end.
+// ones starts where the window of the delimiters does; if there is no such field, the window is after the line.
 #[derive(Clone, Copy)]
 struct FieldCursor<'a> {
     left: &'a [Interval],
     passed: u64,
-    at: usize,
+    window: MatchWindow,
 }
 
 impl<'a> FieldCursor<'a> {
     // The cursor at the start of a line.
     #[inline(always)]
-    fn new(left: &'a [Interval]) -> FieldCursor<'a>
+    fn new(left: &'a [Interval], delimiters: &ByteMatches) -> FieldCursor<'a>
         ensures left { result.left.now ≡ left.now }
         ensures passed { result.passed ≡ 0 }
-        ensures at { result.at ≡ 0 }
+        ensures at { result.window.at ≡ 0 }
+        ensures window { IsMatchWindow (is_byte delimiters.now.byte) delimiters.now.bytes.now result.window }
     {
         FieldCursor {
             left,
             passed: 0,
-            at: 0,
+            window: delimiters.window(),
         }
     }
 
@@ -74,24 +76,26 @@ impl<'a> FieldCursor<'a> {
     #[inline(always)]
     fn next_slice(&mut self, delimiters: &ByteMatches, to: usize) -> Option<LineSlice>
         requires within { to ≤ length delimiters.now.bytes.now }
+        requires window { IsLineWindow delimiters.now.byte delimiters.now.bytes.now to self.old }
         requires cursor { IsFieldCursor delimiters.now.byte (take to delimiters.now.bytes.now) self.old }
-        ensures { MatchOption result
+        ensures next { MatchOption result
             (output_from_cursor delimiters.now.byte (take to delimiters.now.bytes.now) self.old ≡ [])
             (λ slice. IsNextSlice delimiters.now.byte (take to delimiters.now.bytes.now) self.old slice self.new) }
+        ensures window { IsLineWindow delimiters.now.byte delimiters.now.bytes.now to self.new }
     {
-        if self.left.is_empty() || self.at > to {
+        if self.left.is_empty() || self.window.at > to {
             return None;
         }
         let Interval { first, last } = self.left[0];
-        let from = skip_fields(delimiters, self.at, to, first - 1 - self.passed);
-        if from > to {
+        let begun = skip_fields(delimiters, self.window, to, first - 1 - self.passed);
+        if begun.at > to {
             return None;
         }
-        let start = from - self.passed.min(1) as usize;
-        self.at = skip_fields(delimiters, from, to, last - first + 1);
+        let start = begun.at - self.passed.min(1) as usize;
+        self.window = skip_fields(delimiters, begun, to, last - first + 1);
         self.passed = last;
         self.left = &self.left[1..];
-        let end = self.at - 1;
+        let end = (self.window.at - 1).min(to);
         Some(LineSlice { start, end })
     }
 }
@@ -108,19 +112,21 @@ fn write_fields<A: Allocator + Copy, W: Sink>(
     ensures fault { OnErr result (out.new.write_failed ≡ true) }
 {
     let line = delimiters.bytes;
-    let mut cursor = FieldCursor::new(job.list.intervals());
+    let mut cursor = FieldCursor::new(job.list.intervals(), delimiters);
     'slices: while let Some(slice) = cursor.next_slice(delimiters, line.len()) {
         out.push(&line[slice.start..slice.end])?;
     }
     Ok(())
 }
 
-// A job that selects fields, and the terminator.
+// A job that selects fields, its delimiter, and the terminator.
 #[derive(Drop)]
 struct FieldSelection<'a, A: Allocator> {
     job: &'a CutJob<A>,
+    delim: u8,
     terminator: u8,
     ghost by_fields: { job.now.fields ≡ true },
+    ghost delimits: { delim ≡ job.now.delim },
     ghost ends: { terminator ≡ (cut_job job.now).terminator },
 }
 
@@ -139,7 +145,11 @@ impl<'a, A: Allocator> FieldCut<'a, A> {
         ensures { result.by.job.now ≡ job.now }
     {
         FieldCut {
-            by: FieldSelection { job, terminator },
+            by: FieldSelection {
+                job,
+                delim: job.delim,
+                terminator,
+            },
             buffer: [0; PADDED],
         }
     }
@@ -156,7 +166,7 @@ fn write_line<A: Allocator + Copy, W: Sink>(
     ensures clean { OnOk result (out.old.write_failed ≡ false → out.new.write_failed ≡ false) }
     ensures fault { OnErr result (out.new.write_failed ≡ true) }
 {
-    let delimiters = ByteMatches::new(by.job.delim, line);
+    let delimiters = ByteMatches::new(by.delim, line);
     if delimiters.first().is_some() {
         write_fields(by.job, &delimiters, out)?;
         return out.push(&[by.terminator]);
@@ -165,6 +175,24 @@ fn write_line<A: Allocator + Copy, W: Sink>(
         return Ok(());
     }
     out.push_line(b"", line, &[by.terminator])
+}
+
+// Copies a slice like `copy_short`, and as one vector also if it has 17 to 32 bytes, as the time in a log often does.
+#[inline(always)]
+fn copy_slice(bytes: &[u8], slice: LineSlice, into: &mut [u8], at: usize)
+    requires within { (slice.start ≤ slice.end) × (slice.end ≤ length bytes.now) }
+    requires room { at + (slice.end - slice.start) + 16 ≤ length into.old }
+    ensures long { length into.new ≡ length into.old }
+    ensures copied { take (at + (slice.end - slice.start)) into.new
+        ≡ take at into.old ++ take (slice.end - slice.start) (drop slice.start bytes.now) }
+{
+    let LineSlice { start, end } = slice;
+    let len = end - start;
+    if len > 16 && len <= 32 && bytes.len() - start >= 32 {
+        u8x32::from_slice(&bytes[start..]).copy_to_slice(&mut into[at..]);
+    } else {
+        copy_short(bytes, start, end, into, at);
+    }
 }
 
 // Copies the selected fields of a line, which is the first `to` bytes, and its terminator, which is the byte after it,
@@ -186,10 +214,10 @@ fn copy_fields<A: Allocator + Copy>(
     ensures end { (start ≤ result) × (result ≤ start + to + 1) }
 {
     let bytes = delimiters.bytes;
-    let mut cursor = FieldCursor::new(job.list.intervals());
+    let mut cursor = FieldCursor::new(job.list.intervals(), delimiters);
     let mut end = start;
     'slices: while let Some(slice) = cursor.next_slice(delimiters, to) {
-        copy_short(bytes, slice.start, slice.end, room, end);
+        copy_slice(bytes, slice, room, end);
         end += slice.end - slice.start;
     }
     room[end] = bytes[to];
@@ -236,8 +264,12 @@ fn copy_lines<A: Allocator + Copy>(
         (take start room.old) (take result.end room.new) }
     ensures end { (start ≤ result.end) × (result.end ≤ start + result.len) }
 {
-    let FieldSelection { job, terminator } = *by;
-    let delimiters = ByteMatches::new(job.delim, bytes);
+    let FieldSelection {
+        job,
+        delim,
+        terminator,
+    } = *by;
+    let delimiters = ByteMatches::new(delim, bytes);
     let first = delimiters.first().unwrap_or(bytes.len());
     if first < to {
         let end = copy_fields(job, &delimiters, to, room, start);
@@ -298,6 +330,7 @@ impl<'a, A: Allocator + Copy> LineFilter for FieldCut<'a, A> {
         // byte).
         let by = FieldSelection {
             job: self.by.job,
+            delim: self.by.delim,
             terminator: self.by.terminator,
         };
         let mut end = 0;

@@ -9,7 +9,7 @@ ghost use Rattle.ptlangs.specs.Jobs.{uniq_job};
 ghost use Rattle.ptflow.specs.Private.Passes.LineLoop.{IsLinesLength, ProcessLinesPre};
 ghost use Rattle.ptflow.specs.Private.Uniq.RunsFrom.{has_output, count_prefix, run_of, run_text};
 ghost use Rattle.ptflow.specs.Private.Uniq.BlockRuns.{RunsWritten, RunsFailed, EndRunPre, IsPending, first_of};
-ghost use Rattle.ptflow.specs.Private.Uniq.BlockRuns.{repeated, span_of};
+ghost use Rattle.ptflow.specs.Private.Uniq.BlockRuns.{repeated, bytes_in_range};
 
 use crate::simd::compare::{is_equal, same_short_start};
 use crate::simd::find_nth::find_line_end;
@@ -59,7 +59,7 @@ pub(crate) struct BlockRange {
 // A run of lines that ends in a block: how many lines it has, and its first line with the terminator, unless that was
 // read before the block.
 #[derive(Clone, Copy)]
-pub(crate) struct BlockRun {
+pub(crate) struct CountedRun {
     pub count: u64,
     pub line: Option<BlockRange>,
 }
@@ -67,7 +67,7 @@ pub(crate) struct BlockRun {
 // The last run of the lines of a block, and the length of all lines.
 #[derive(Clone, Copy)]
 pub(crate) struct LastRun {
-    pub run: BlockRun,
+    pub run: CountedRun,
     pub len: usize,
 }
 
@@ -126,22 +126,22 @@ impl RunWriter<'_> {
     #[inline(always)]
     fn end_run<W: Sink>(
         &self,
-        run: BlockRun,
+        run: CountedRun,
         first: &[u8],
         block: &[u8],
         pending: BlockRange,
         out: &mut Out<W>,
     ) -> Result<BlockRange, WriteFault>
         requires { EndRunPre (uniq_job self.now.job.now).terminator block.now run.line pending }
-        ensures waits { IfOk result (λ now. IsPending (span_of block.now pending
+        ensures waits { IfOk result (λ now. IsPending (bytes_in_range block.now pending
             ++ run_text (uniq_job self.now.job.now) (run_of (first_of first.now block.now run.line) run.count))
             block.now now out.old out.new) }
-        ensures wrote { OnErr result (PushEffect out.old out.new (span_of block.now pending
+        ensures wrote { OnErr result (PushEffect out.old out.new (bytes_in_range block.now pending
             ++ run_text (uniq_job self.now.job.now) (run_of (first_of first.now block.now run.line) run.count))) }
         ensures fault { OnErr result (out.new.write_failed ≡ true) }
     {
         let show = self.job.show;
-        let BlockRun { count, line } = run;
+        let CountedRun { count, line } = run;
         let Some(line) = line else {
             self.write_run(count, first, out)?;
             return Ok(pending);
@@ -175,7 +175,7 @@ impl RunWriter<'_> {
         ensures halts { OnErr result
             (RunsFailed (uniq_job self.now.job.now) (run_of first.now carried)
             (complete_lines (uniq_job self.now.job.now).terminator block.now) out.old out.new) }
-        ensures span { IfOk result
+        ensures range { IfOk result
             (λ last. IfSome last.run.line (λ line. (line.from < line.to) × (line.to ≤ length block.now))) }
         ensures passed { IfOk result (λ last. IsLinesLength (uniq_job self.now.job.now).terminator block.now last.len) }
     {
@@ -194,7 +194,7 @@ impl RunWriter<'_> {
                 rest = repeats.rest;
             } else {
                 rest = &rest[at + 1..];
-                let ended = BlockRun { count, line };
+                let ended = CountedRun { count, line };
                 pending = self.end_run(ended, first, block, pending, out)?;
                 let to = size - rest.len();
                 let from = to - at - 1;
@@ -205,7 +205,7 @@ impl RunWriter<'_> {
         }
         out.push(&block[pending.from..pending.to])?;
         let len = size - rest.len();
-        let run = BlockRun { count, line };
+        let run = CountedRun { count, line };
         Ok(LastRun { run, len })
     }
 }

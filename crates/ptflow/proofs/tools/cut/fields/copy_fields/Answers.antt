@@ -2,12 +2,11 @@
 -- bytes are not longer than the line, so there is room for the rest.
 use Rattle.ptflow.proofs
 use proofs.Common.{◌+◌, ◌-◌, ◌≤◌, ◌++◌, take, drop, refl, ◌∙◌, ap, arith, length-take-le, length-drop, is_selected}
-use proofs.Common.{cut_job, cut_fields, output_from_cursor, usual, take-take}
-use proofs.CutLemmas.Fields.{selected_remaining, output_is_short, output_is_near, offset_start}
+use proofs.Common.{cut_job, cut_fields, output_from_cursor, usual}
+use proofs.CutLemmas.Fields.{selected_remaining, output_is_short, output_is_near, offset_start, slice_put}
 use proofs.tools.cut.fields.copy_fields.Given as given
 use proofs.tools.cut.fields.copy_fields.Goals as goal
 use Rattle.ptflow.proofs.tools.cut.fields.copy_fields.Goals.{In-Some}
-use proofs.CutLemmas.CutBytes.{rest_of}
 
 pub slices-init : goal.slices-init
 slices-init g c =
@@ -18,6 +17,7 @@ slices-init g c =
           (selected_remaining c.new-cursor.result of.passed (cut_job c.args.job.now) line c.requires.delimiter
           (ap is_selected (of.left ∙ c.intervals.ensures.kept)));
       cursor = grind (arith, offset_start);
+      window = λ near. of.window;
       low = omega arith;
       high = omega arith;
       long = refl;
@@ -29,7 +29,7 @@ slice_near g c =
     let job = cut_job c.args.job.now in
     let line = take c.args.to c.args.delimiters.now.bytes.now in
     let first = c.in-Some.slice.start in
-    let next = c.in-Some.ensures in
+    let next = c.in-Some.ensures.next in
     let loop = c.slices in
     let part = take (c.in-Some.slice.end - first) (drop first line) in
     let long = length-take-le c.args.to c.args.delimiters.now.bytes.now (omega arith) in
@@ -44,21 +44,23 @@ slices-preserved g c =
     let to = c.args.to in
     let bytes = c.args.delimiters.now.bytes.now in
     let first = c.in-Some.slice.start in
-    let next = c.in-Some.ensures in
+    let next = c.in-Some.ensures.next in
     let loop = c.slices in
     let size = c.in-Some.slice.end - first in
     let long = length-take-le to bytes (omega arith) in
     let rest = output_from_cursor c.args.delimiters.now.byte (take to bytes) c.next_slice.new.self in
     record {
-      copied = grind (usual, rest_of, take-take);
+      copied = slice_put (take loop.end loop.room) rest first c.in-Some.slice.end to bytes loop.invariant.copied
+          next.output (omega arith) c.copy_slice.ensures.copied;
       cursor = next.moved;
+      window = c.in-Some.ensures.window;
       low = omega arith;
       high = slice_near g (goal.at.slices-preserved g c).In-Some;
       long = cc;
     }
 
-pub copy_short-requires-clause-room : goal.copy_short-requires-clause-room
-copy_short-requires-clause-room g c = omega (arith, slice_near g (goal.at.copy_short-requires-clause-room g c).In-Some)
+pub copy_slice-requires-clause-room : goal.copy_slice-requires-clause-room
+copy_slice-requires-clause-room g c = omega (arith, slice_near g (goal.at.copy_slice-requires-clause-room g c).In-Some)
 
 pub returns-clause-put : goal.returns-clause-put
 returns-clause-put = grind usual

@@ -2,6 +2,7 @@
 -- fields. The copy is not longer than the line, and each slice takes an interval.
 use Rattle.ptflow.proofs
 use proofs.Common.{◌≡◌, ◌+◌, ◌≤◌, ◌++◌, length, take, cut_job, cut_fields, IsFieldCursor, output_from_cursor}
+use Rattle.ptflow.specs.Private.Cut.FieldSlices.{IsLineWindow}
 use proofs.tools.cut.fields.copy_fields.Given as goal
 
 abbrev pub invariant-slices : goal.invariant-slices
@@ -10,6 +11,7 @@ invariant-slices g l =
       copied : take l.start l.fn.room ++ cut_fields (cut_job l.job) line
           ≡ take l.end l.room ++ output_from_cursor l.delimiters.byte line l.cursor;
       cursor : IsFieldCursor l.delimiters.byte line l.cursor;
+      window : IsLineWindow l.delimiters.byte l.delimiters.bytes.now l.to l.cursor;
       low : l.start ≤ l.end;
       high : l.end ≤ l.start + l.to;
       long : length l.room ≡ length l.fn.room;

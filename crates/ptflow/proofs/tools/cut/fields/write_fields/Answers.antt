@@ -18,6 +18,7 @@ slices-init g c =
       front = prefix_starts (rw all
           (selected_remaining c.new-cursor.result of.passed (cut_job c.args.job.now) line c.requires kept));
       cursor = grind (arith, offset_start);
+      window = λ near. of.window;
       clean = λ clean. clean;
     }
 
@@ -27,7 +28,7 @@ next : (g : given.Over) (c : In-Some g) → let line = c.args.delimiters.now.byt
     ++ output_from_cursor c.args.delimiters.now.byte (take (length line) line) c.next_slice.new.self
 next g c =
     let line = c.args.delimiters.now.bytes.now in
-    c.in-Some.ensures.output
+    c.in-Some.ensures.next.output
     ∙ ap (λ bytes. take (c.in-Some.slice.end - c.in-Some.slice.start) (drop c.in-Some.slice.start bytes)
     ++ output_from_cursor c.args.delimiters.now.byte (take (length line) line) c.next_slice.new.self)
     (take_all (length line) line (omega arith))
@@ -42,6 +43,7 @@ pub slices-preserved : goal.slices-preserved
 slices-preserved g c = record {
   front = front_more c.slices.invariant.front _ (next g (goal.at.slices-preserved g c).In-Some)
       c.in_ok-push.ensures.pushed.wrote;
-  cursor = c.in-Some.ensures.moved;
+  cursor = c.in-Some.ensures.next.moved;
+  window = c.in-Some.ensures.window;
   clean = λ was_clean. c.in_ok-push.ensures.pushed.clean;
 }

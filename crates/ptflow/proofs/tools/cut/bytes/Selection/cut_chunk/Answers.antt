@@ -18,7 +18,7 @@ returns-then-line-eq0-clause-on c =
       cut = cut_next end _ _ _ _ _ _ _ _ _ _ (λ start bytes so_far. so_far)
           (take_more_put_chunk _ _ _ _ (omega (arith, length-chunk line.start 64 block (omega arith))) (omega arith))
           (terminators_next end _ _ (omega arith) c.if-line-from.true c.if-line-eq0.true
-          c.requires.ends.is c.if-mask.true);
+          c.requires.ends.is c.if-mask-eq18446744073709551615.true);
       bound = omega arith;
       near = omega arith;
     }

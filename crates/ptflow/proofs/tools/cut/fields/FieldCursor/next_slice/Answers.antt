@@ -1,7 +1,7 @@
 -- An interval takes two steps: to the start of its first field, and to the end of its last one. There is no slice if
 -- no interval or no field is left. The indices do not overflow.
 use Rattle.ptflow.proofs
-use proofs.Common.{◌∙◌, refl, sym, arith, length, take, length-take-le, take_rest, usual, eqb-false}
+use proofs.Common.{◌≡◌, ◌+◌, min, ◌∙◌, refl, sym, arith, length, take, length-take-le, take_rest, usual, eqb-false}
 use proofs.CutLemmas.Fields.{ends_before, next_slice, none_left, none_selected}
 use proofs.tools.cut.fields.FieldCursor.next_slice.Goals as goal
 use proofs.tools.cut.fields.FieldCursor.next_slice.Goals.{then-is_empty-via-then-is_empty}
@@ -20,28 +20,30 @@ returns-then-is_empty c =
           (grind (arith, (none_selected d.byte line c.args.self.now), none_left))
     ]
 
-pub returns-then-from-to : goal.returns-then-from-to
-returns-then-from-to c =
+pub returns-then-begun-to-clause-next : goal.returns-then-begun-to-clause-next
+returns-then-begun-to-clause-next c =
     let d = c.args.delimiters.now in
     let line = take c.args.to d.bytes.now in
     let long = length-take-le _ _ c.requires.within in
     let some = eqb-false (length c.args.self.now.left.now) 0 (sym c.is_empty.ensures ∙ c.if-is_empty.false) in
-    ends_before d.byte line _ c.requires.cursor (omega arith) (omega arith)
-    c.skip_fields-from.ensures.near.0 c.skip_fields-from.ensures.offset (omega arith)
+    let begun = c.skip_fields-begun.ensures in
+    ends_before d.byte line _ c.requires.cursor (omega arith) (omega arith) (omega arith) begun.offset (omega arith)
 
 pub overflow_add-last : goal.overflow_add-last
 overflow_add-last c = grind usual
 
-pub returns : goal.returns
-returns c =
+pub returns-clause-next : goal.returns-clause-next
+returns-clause-next c =
     let d = c.args.delimiters.now in
     let line = take c.args.to d.bytes.now in
     let long = length-take-le c.args.to d.bytes.now c.requires.within in
     let some = eqb-false (length c.args.self.now.left.now) 0 (sym c.is_empty.ensures ∙ c.if-is_empty.false) in
-    let from = c.skip_fields-from.ensures in
-    let at = c.skip_fields-self.ensures in
+    let begun = c.skip_fields-begun.ensures in
+    let ended = c.skip_fields-self.ensures in
+    let from : min c.skip_fields-begun.result.at (c.args.to + 1) ≡ c.skip_fields-begun.result.at = omega arith in
     rw c.min.ensures (next_slice d.byte line c.args.self.now c.requires.cursor (omega arith) (omega arith)
-    from.near.0 from.offset (omega arith) at.near.0 at.offset _ (take_rest _ 1) refl refl)
+    begun.near (rw from at begun.offset) (omega arith) (omega arith) ended.offset _ (take_rest _ 1) refl
+    (omega arith) _ (omega (arith, c.min-end.ensures)))
 
 pub overflow_sub-last : goal.overflow_sub-last
 overflow_sub-last c = grind usual

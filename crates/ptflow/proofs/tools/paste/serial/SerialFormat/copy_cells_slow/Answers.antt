@@ -32,7 +32,7 @@ returns-clause-copied c =
     let free = line_if_not_found end rest c.in_default.ensures in
     let none : c.pieces.index + count_by (is_byte end) rest ≡ c.pieces.index = omega (
       arith,
-      none_counted end rest _ free,
+      none_counted end rest free,
     ) in
     inv.on _ _ (record {
       is = rw all at c.copy_short-2.ensures.copied

@@ -2,8 +2,8 @@
 -- deferred output joins it, as no count is written between them (lemma `no_count`). Otherwise that is pushed, and a
 -- failed push leaves a prefix of both.
 use Rattle.ptflow.proofs
-use proofs.Common.{ℕ, true, not, ◌≡◌, [], refl, sym, ◌∙◌, subst, PushEffect, push_past_failure, append_assoc, span_of}
-use proofs.Common.{uniq_job, usual, push_nothing, append-nil}
+use proofs.Common.{ℕ, true, not, ◌≡◌, [], refl, sym, ◌∙◌, subst, PushEffect, push_past_failure, append_assoc}
+use proofs.Common.{uniq_job, usual, push_nothing, append-nil, bytes_in_range}
 use Rattle.ptflow.specs.Private.Uniq.RunsFrom.{count_prefix}
 use proofs.Passes.Exits.{on_err}
 use proofs.UniqLemmas.Runs.{due_is, pending_joined, current_run_is}
@@ -27,8 +27,8 @@ returns-then-not-has_output-clause-waits g c =
       pushed = [];
       wrote = push_nothing _;
       all = rw (current_run_is job _, none)
-          (sym (append-nil (span_of c.args.block.now c.args.pending)));
-      span = c.requires.pending_in;
+          (sym (append-nil (bytes_in_range c.args.block.now c.args.pending)));
+      in_block = c.requires.pending_in;
     }
 
 pub returns-then-pending-line-clause-waits : goal.returns-then-pending-line-clause-waits
@@ -41,12 +41,12 @@ pub returns-in_err-flush_with_count-clause-wrote : goal.returns-in_err-flush_wit
 returns-in_err-flush_with_count-clause-wrote g c =
     let job = uniq_job c.args.self.now.job.now in
     let block = c.args.block.now in
-    let line = span_of block c.in-Some.line in
+    let line = bytes_in_range block c.in-Some.line in
     on_err c.from_residual-in_err-flush_with_count.result
     (rw (due_is job c.args.first.now c.args.run.count c.requires c.in-Some.is
     (sym c.has_output.ensures ∙ c.if-not-has_output.false))
     (subst (PushEffect c.args.out.now c.flush_with_count.new.out)
-    (append_assoc (span_of block c.args.pending) (count_prefix job.show c.args.run.count) line)
+    (append_assoc (bytes_in_range block c.args.pending) (count_prefix job.show c.args.run.count) line)
     (push_past_failure _ _ _ line c.in_err-flush_with_count.ensures.fault c.flush_with_count.ensures.wrote)))
 
 pub returns-clause-waits : goal.returns-clause-waits

@@ -1,0 +1,25 @@
+-- The match is in the window, or after it, or there is none.
+use Rattle.ptflow.proofs
+use proofs.Common.{arith, is_byte, refl}
+use proofs.Vectors.FindNth.{window_counted, nth_in_window, window_inside, after_in_window, after_all, count_up_to}
+use proofs.simd.find_nth.ByteMatches.after_nth.Goals as goal
+
+pub after-requires : goal.after-requires
+after-requires c =
+    let nth = nth_in_window _ _ c.requires.window (omega arith) c.nth_bit.ensures in
+    omega (arith, window_inside _ _ c.requires.window nth)
+
+pub returns-then-before-from : goal.returns-then-before-from
+returns-then-before-from c =
+    let nth = nth_in_window _ _ c.requires.window (omega arith) c.nth_bit.ensures in
+    rw c.after.ensures (after_in_window _ _ c.requires.window nth c.requires.within.1 refl)
+
+pub returns-then-window-to : goal.returns-then-window-to
+returns-then-window-to c =
+    let p = is_byte c.args.self.now.byte in
+    let bytes = c.args.self.now.bytes.now in
+    rw c.past.ensures (after_all p bytes c.requires.within.1 (omega (
+      arith,
+      window_counted p bytes c.requires.window,
+      count_up_to p bytes c.args.to c.args.window.end (omega arith),
+    )))

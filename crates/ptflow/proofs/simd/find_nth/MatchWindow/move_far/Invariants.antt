@@ -1,0 +1,14 @@
+-- `left` matches are still to be skipped.
+use Rattle.ptflow.proofs
+use proofs.Common.{◌≡◌, ◌≤◌, ◌+◌, ◌-◌, length, take, count_by, is_byte}
+use proofs.simd.find_nth.MatchWindow.move_far.Given as goal
+
+abbrev pub invariant-loop-at : goal.invariant-loop-at
+invariant-loop-at l = record {
+  within : l.at ≤ length l.bytes;
+  counted : l.left + count_by (is_byte l.byte) (take l.at l.bytes)
+      ≡ l.before + count_by (is_byte l.byte) (take l.fn.self.at l.bytes);
+}
+
+abbrev pub decreases-loop-at : goal.decreases-loop-at
+decreases-loop-at l = length l.bytes - l.at
