@@ -1,7 +1,7 @@
 //! The merge of two inputs, on which `comm` and `join` are built: it selects the current line with the least key.
 //!
-//! `cursor` is one input of the merge, with its order check; `block_lines` are lines that are merged in the blocks of
-//! the readers; `four_slots` manages the store slots that both inputs use.
+//! `cursor` is one input of the merge, with its order check; `block_merge` merges lines in the blocks of the readers
+//! (`block_lines`); `four_slots` manages the store slots that both inputs use.
 
 ghost use Rattle.std.specs.Prelude.{◌≡◌, None, true, false, [], OnOk, IfOk, IfErr};
 ghost use Rattle.std.specs.Ordering.{is_gt};
@@ -19,12 +19,13 @@ ghost use Rattle.ptmerge.specs.Private.Passed.{AreResumed, CanResume, IsResumed}
 ghost use Rattle.ptmerge.specs.declared.key_order.Side.{Side as SideType};
 
 pub(crate) mod block_lines;
+pub(crate) mod block_merge;
 pub(crate) mod cursor;
 pub(crate) mod four_slots;
 
 use crate::faults::MergeFault;
 use crate::key_order::Side::{First, Second};
-use crate::key_order::{KeyOrder, Side, Span};
+use crate::key_order::{KeyOrder, Side};
 use crate::merging::block_lines::{BlockLine, BlockRun};
 use crate::merging::cursor::CursorStatus::{Disorder, Ended, Head};
 use crate::merging::cursor::{Reached, Sorted};
@@ -218,7 +219,8 @@ impl<K: KeyOrder> Merge<K> {
         ensures rest { result.rest.now ≡ reader.now.buffered }
         ensures begins { CanMerge (K.key_of self.now.order side) result }
     {
-        BlockLine::new(self.head(side, store), self.span(side), reader.buffered())
+        let (head, key) = (self.head(side, store), self.key(side, store));
+        BlockLine::new(head, key, reader.buffered())
     }
 
     // Consumes the lines that were merged in both blocks, and makes the lines reached the current ones.
@@ -280,14 +282,6 @@ impl<K: KeyOrder> Merge<K> {
             Side::First => &self.first,
             Side::Second => &self.second,
         }
-    }
-
-    // Returns the span of the key of an input's current line.
-    #[inline(always)]
-    fn span(&self, side: Side) -> Span
-        ensures { result ≡ (both self.now.first self.now.second side).key }
-    {
-        self.cursor(side).key
     }
 
     // Returns the key of an input's current line.
