@@ -21,8 +21,9 @@ use Rattle.ptlines.proofs.LineSearch.{line_before_terminator}
 use Rattle.memchr.specs.Find.{IsFirstByte, is_byte}
 use specs.Private.BlockLines.{AreMerged, ArePassed, BlockRunPost, CanMerge, HasFailed, IsBlockTool, IsInBlock}
 use specs.Private.BlockLines.{IsNextLine, IsPairByPair, IsReached, IsRunEnd, IsStep, MayFollowHeads, entries_alone}
-use specs.Private.BlockLines.{in_order}
+use specs.Private.BlockLines.{ArePassedAlone, HasFailedAlone, LineRunPost, in_order}
 use specs.declared.merging.block_lines.BlockRun.{BlockRun}
+use specs.declared.merging.block_lines.LineRun.{LineRun}
 use specs.declared.merging.block_lines.BlockLine.{BlockLine}
 
 -- ---- the next line of a block
@@ -45,7 +46,7 @@ module _ (cmp : Cmp) (key : Key) where
   sorted_push last [] x y (here, _) a = (here, (a, tt))
   sorted_push last (z ∷ xs) x y (here, more) a = (here, sorted_push (Some (key z)) xs x y more a)
 
-  passed_one : {end : ℕ} {old now next : BlockLine} {q : Lines} → ArePassed end cmp key old now q
+  pub passed_one : {end : ℕ} {old now next : BlockLine} {q : Lines} → ArePassed end cmp key old now q
       → IsNextLine end cmp key now next → ArePassed end cmp key old next (q ++ now.head.now ∷ [])
   passed_one {end} {old} {now} {next} (inl u) n = inr (record {
     middle = [];
@@ -66,7 +67,8 @@ module _ (cmp : Cmp) (key : Key) where
     passed = omega (arith, n.passed, m.passed, length_push m.middle now.head.now);
   })
 
-  in_block_next : {end : ℕ} {now next : BlockLine} → IsNextLine end cmp key now next → IsInBlock now → IsInBlock next
+  pub in_block_next : {end : ℕ} {now next : BlockLine} → IsNextLine end cmp key now next → IsInBlock now
+      → IsInBlock next
   in_block_next {end} {now} {next} n fits =
       omega (arith, n.passed, ap length n.bytes, length-append next.head.now (end ∷ next.rest.now), fits)
 
@@ -128,7 +130,7 @@ module _ (tool : MergeTool) (o : IsKeyOrder tool.cmp) where
   none_follows side r a k gt c =
       lines_with_key-above tool o (key side) k r (Each-weaker _ _ (λ y h. above_of a k y gt h) _ c)
 
-  line_run : (side : Side) (a b : List ℕ) {x k : List ℕ} → key side x ≡ a → a ≡ k → AtMost cmp a b
+  pub line_run : (side : Side) (a b : List ℕ) {x k : List ℕ} → key side x ≡ a → a ≡ k → AtMost cmp a b
       → IsLeastKeyRun cmp (key side) (AtLeast a) (AtLeast b) k (x ∷ [])
   line_run side a b {x} {k} is same h = record {
     own = (is ∙ same, tt);
@@ -211,7 +213,7 @@ module _ (tool : MergeTool) (o : IsKeyOrder tool.cmp) where
 
   -- one input has the least key
   module _ (by_line : IsLineByLine tool.entries) where
-    alone_splits : (s : Side) (k x : List ℕ) (g : Side → Lines) → g (other s) ≡ []
+    pub alone_splits : (s : Side) (k x : List ℕ) (g : Side → Lines) → g (other s) ≡ []
         → tool.entries k (alone s x First ++ g First) (alone s x Second ++ g Second)
         ≡ tool.entries k (alone s x First) (alone s x Second) ++ tool.entries k (g First) (g Second)
     alone_splits First k x g none = rw none (by_line.first k x (g First))
@@ -279,12 +281,17 @@ module _ (tool : MergeTool) (cmp : Cmp) (key : Side → Key) (o : IsKeyOrder cmp
       → entries_by_key ordered all_keys (both (x ∷ []) (y ∷ [])) ≡ tool.entries (key First x) (x ∷ []) (y ∷ [])
   of_pair = grind (arith, same_bytes, append-nil)
 
+  pub line_pushed : (s : Side) {x k : List ℕ} {mid is : Output} → k ≡ key s x
+      → PushEffect mid is (unlines tool.terminator (entries_alone tool.entries s k x))
+      → PushEffect mid is (output_of ordered (alone s x))
+  line_pushed s own pushed = rw (of_line s _) (rw own at pushed)
+
   pub alone_passes : (s : Side) {now : Side → BlockLine} {next : BlockLine} {mid is : Output} {k l : List ℕ}
       → k ≡ key s (now s).head.now → l ≡ key (other s) (now (other s)).head.now → is_gt (cmp l k) ≡ true
       → PushEffect mid is (unlines tool.terminator (entries_alone tool.entries s k (now s).head.now))
       → IsNextLine tool.terminator cmp (key s) (now s) next → IsStep ordered now (with_side s next now) mid is
   alone_passes s own others gt pushed n =
-      alone_step ordered o by.alone s (rw (own, others) at gt) n (rw (of_line s _) (rw own at pushed))
+      alone_step ordered o by.alone s (rw (own, others) at gt) n (line_pushed s own pushed)
 
   pub pair_passes : {now next : Side → BlockLine} {mid is : Output} {k l : List ℕ} → k ≡ key First (now First).head.now
       → l ≡ key Second (now Second).head.now → k ≡ l
@@ -328,7 +335,7 @@ module _ (cmp : Cmp) (o : IsKeyOrder cmp) (key : Key) where
       let (a, b) = each_last _ key m.middle now.head.now (from_key cmp o key _ _ m.ordered) in
       record { passed = rw m.lines (self_at_most cmp o (key old.head.now), a); current = b }
 
-  follows_first : {old now : BlockLine} {q : Lines} → NoneBelow cmp key old now q → (r : Lines)
+  pub follows_first : {old now : BlockLine} {q : Lines} → NoneBelow cmp key old now q → (r : Lines)
       → EachKey (AtMost cmp (key now.head.now)) key r → EachKey (AtMost cmp (key old.head.now)) key (q ++ r)
   follows_first {old} {now} n r c =
       EachKey-append _ key _ _ n.passed
@@ -400,3 +407,14 @@ pub can_resume_both : {tool : MergeTool} {old : Side → BlockLine} {run : Block
     → (side : Side) → CanResume (both run.first run.second side) (cursor side) (reader side)
 can_resume_both p rest head own side =
     can_resume (rest side) ((lines_of p).passed side) (p.end.reached side) (head side) (own side)
+
+pub can_resume_line : {tool : MergeTool} {s : Side} {old : BlockLine} {run : LineRun} {was is : Output}
+    → LineRunPost tool s old run was is → {cursor : Sorted} {reader : Reader} → old.rest.now ≡ reader.buffered
+    → cursor.status ≡ Head → IsReaderOf cursor reader → CanResume run.at cursor reader
+can_resume_line {tool} {s} {old} {run} {was} {is} p {cursor} {reader} rest head own = by run.failed p.ends
+  where
+    by : (failed : Bool)
+        → MatchBool failed (HasFailedAlone tool s old p.now was is) (ArePassedAlone tool s old p.now was is)
+        → CanResume run.at cursor reader
+    by true f = can_resume rest (passed_one tool.cmp (tool.key s) f.merged.passed f.next) p.at head own
+    by false a = can_resume rest a.passed p.at head own

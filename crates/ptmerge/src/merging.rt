@@ -3,7 +3,7 @@
 //! `cursor` is one input of the merge, with its order check; `block_merge` merges lines in the blocks of the readers
 //! (`block_lines`); `four_slots` manages the store slots that both inputs use.
 
-ghost use Rattle.std.specs.Prelude.{◌≡◌, None, true, false, [], OnOk, IfOk, IfErr};
+ghost use Rattle.std.specs.Prelude.{◌≡◌, None, false, [], OnOk, IfOk, IfErr};
 ghost use Rattle.std.specs.Ordering.{is_gt};
 ghost use Rattle.ptlines.specs.Calls.Outputs.{PushEffect};
 ghost use Rattle.ptlines.specs.Calls.Slots.{line};
@@ -15,7 +15,7 @@ ghost use Rattle.ptmerge.specs.Calls.MergeSteps.{merge_inputs, AreValidCursors, 
 ghost use Rattle.ptmerge.specs.Calls.MergeSteps.{StartErrPost};
 ghost use Rattle.ptmerge.specs.Calls.MergeSteps.{previous_key};
 ghost use Rattle.ptmerge.specs.Private.BlockLines.{CanMerge};
-ghost use Rattle.ptmerge.specs.Private.Passed.{AreResumed, CanResume, IsResumed};
+ghost use Rattle.ptmerge.specs.Private.Passed.{AreResumed, AreShortHeads, CanResume, IsResumed};
 ghost use Rattle.ptmerge.specs.declared.key_order.Side.{Side as SideType};
 
 pub(crate) mod block_lines;
@@ -49,6 +49,14 @@ pub enum Step {
     /// it has in order. If both inputs are out of order, the one whose last key is less is reported, or the first one
     /// if their last keys are equal.
     Stop(Side, u64),
+}
+
+// The inputs whose blocks are merged: both, or one if the other has ended.
+#[derive(Clone, Copy)]
+pub(crate) enum ShortHeads {
+    Both,
+    Only(Side),
+    Neither,
 }
 
 /// A merge of two sorted inputs. The current line of each input is in one of the slots 0 to 3 of the store. After
@@ -186,23 +194,30 @@ impl<K: KeyOrder> Merge<K> {
         &self.order
     }
 
-    // Checks whether both inputs are at lines of fewer than 64 bytes, and after such lines. Among longer lines, a merge
-    // of their blocks would soon end, and cost more than it saves.
+    // Returns which inputs are at lines of fewer than 64 bytes, and after such lines: both, or the only one that has not
+    // ended. Among longer lines, a merge of blocks would soon end, and cost more than it saves.
     #[inline(always)]
-    pub(crate) fn has_short_heads<A: Allocator + Copy>(&self, store: &Store<A>) -> bool
+    pub(crate) fn short_heads<A: Allocator + Copy>(&self, store: &Store<A>) -> ShortHeads
         requires { AreValidCursors (K.key_of self.now.order) self.now.first self.now.second store.now }
-        ensures { let cursor = both self.now.first self.now.second in
-            result ≡ true → (side : SideType) → (cursor side).status ≡ status_is.Head }
+        ensures { AreShortHeads (both self.now.first self.now.second) result }
     {
         match (self.first.status, self.second.status) {
-            (Head, Head) => {
-                store.line(self.first.current_slot).len() < 64
-                    && store.line(self.second.current_slot).len() < 64
-                    && store.line(self.first.previous_slot).len() < 64
-                    && store.line(self.second.previous_slot).len() < 64
+            (Head, Head) if self.is_short(First, store) && self.is_short(Second, store) => {
+                ShortHeads::Both
             }
-            _ => false,
+            (Head, Ended) if self.is_short(First, store) => ShortHeads::Only(First),
+            (Ended, Head) if self.is_short(Second, store) => ShortHeads::Only(Second),
+            _ => ShortHeads::Neither,
         }
+    }
+
+    // Checks whether the current and the previous line of an input have fewer than 64 bytes.
+    #[inline(always)]
+    fn is_short<A: Allocator + Copy>(&self, side: Side, store: &Store<A>) -> bool
+        requires { AreValidCursors (K.key_of self.now.order) self.now.first self.now.second store.now }
+    {
+        let cursor = self.cursor(side);
+        store.line(cursor.current_slot).len() < 64 && store.line(cursor.previous_slot).len() < 64
     }
 
     // Returns the current line of an input with the bytes in its block after this line.
@@ -250,7 +265,7 @@ impl<K: KeyOrder> Merge<K> {
 
     // Consumes the lines of an input that were merged in its block, and makes the line reached its current line.
     #[inline(always)]
-    fn resume<A: Allocator + Copy, S: Source, R: Source>(
+    pub(crate) fn resume<A: Allocator + Copy, S: Source, R: Source>(
         &mut self,
         side: Side,
         at: Reached,

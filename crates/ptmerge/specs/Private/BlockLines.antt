@@ -10,13 +10,14 @@ use Rattle.ptlines.specs.Text.{unlines}
 use Rattle.ptlines.specs.ByteOrder.{Cmp}
 use Rattle.ptlines.specs.declared.sizes.TheConstants.{BLOCK}
 use Rattle.ptmerge.specs.Calls.MergeSpec.{MergeTool, entries_by_key, entries_of_key}
-use Rattle.ptmerge.specs.Calls.Sides.{both}
+use Rattle.ptmerge.specs.Calls.Sides.{both, with_side}
 use Rattle.ptmerge.specs.MergeSpec.{Entries, Lines, lines_with_key}
 use Rattle.ptmerge.specs.Orders.{Key}
 use Rattle.ptmerge.specs.declared.key_order.Side.{Side}
 use Rattle.ptmerge.specs.declared.key_order.Side.TheVariants.{First, Second}
 use Rattle.ptmerge.specs.declared.merging.block_lines.BlockLine.{BlockLine}
 use Rattle.ptmerge.specs.declared.merging.block_lines.BlockRun.{BlockRun}
+use Rattle.ptmerge.specs.declared.merging.block_lines.LineRun.{LineRun}
 use Rattle.ptmerge.specs.declared.merging.cursor.Reached.{Reached}
 
 -- ---- keys in order
@@ -181,3 +182,38 @@ pub record BlockRunPost (tool : MergeTool) (old : Side → BlockLine) (run : Blo
   pub now : Side → BlockLine
   pub end : IsRunEnd run.failed now run
   pub ends : MatchBool run.failed (HasFailed tool old now was is) (AreMerged tool old now was is)
+
+-- ---- the lines of one input, after the end of the other
+
+-- These lines of one input, and none of the other.
+abbrev pub only : Side → Lines → Side → Lines
+only s q = with_side s q (λ side. [])
+
+-- The lines passed come first, whatever follows of keys that are not below the current one, and were written.
+pub record ArePassedAlone (tool : MergeTool) (s : Side) (old now : BlockLine) (was is : Output) : Type 0 where
+  pub q : Lines
+  pub passed : ArePassed tool.terminator tool.cmp (tool.key s) old now q
+  pub first : (wanted : List ℕ → Bool) (r : Lines) → EachKey (AtMost tool.cmp (tool.key s now.head.now)) (tool.key s) r
+      → entries_by_key tool wanted (only s (q ++ r))
+      ≡ entries_by_key tool wanted (only s q) ++ entries_by_key tool wanted (only s r)
+  pub under : EachKey (λ k. AtMost tool.cmp k (tool.key s now.head.now)) (tool.key s) q
+  pub wrote : PushEffect was is (unlines tool.terminator (entries_by_key tool (λ k. true) (only s q)))
+  pub clean : is.write_failed ≡ false
+  pub in_block : IsInBlock now
+  pub key_is : HasKey (tool.key s) now
+
+-- The lines are passed, and the write of the last one failed.
+pub record HasFailedAlone (tool : MergeTool) (s : Side) (old now : BlockLine) (was is : Output) : Type 0 where
+  pub before : BlockLine
+  pub mid : Output
+  pub merged : ArePassedAlone tool s old before was mid
+  pub next : IsNextLine tool.terminator tool.cmp (tool.key s) before now
+  pub wrote : PushEffect mid is
+      (unlines tool.terminator (entries_by_key tool (λ k. true) (only s (before.head.now ∷ []))))
+  pub failed : is.write_failed ≡ true
+
+-- The lines of a block are passed: up to one that was not, or to a failed write.
+pub record LineRunPost (tool : MergeTool) (s : Side) (old : BlockLine) (run : LineRun) (was is : Output) : Type 0 where
+  pub now : BlockLine
+  pub at : IsReached now run.at
+  pub ends : MatchBool run.failed (HasFailedAlone tool s old now was is) (ArePassedAlone tool s old now was is)

@@ -30,6 +30,14 @@ pub(crate) struct BlockRun {
     pub failed: bool,
 }
 
+// Where an input is after lines of its block were passed, while the other input had ended. `failed` is true if a write
+// has failed; the line that was to be written is then passed.
+#[derive(Clone, Copy)]
+pub(crate) struct LineRun {
+    pub at: Reached,
+    pub failed: bool,
+}
+
 impl<'a> BlockLine<'a> {
     // Returns the current line of an input, before others are passed.
     #[inline(always)]

@@ -5,11 +5,12 @@ ghost use Rattle.ptlines.specs.Text.{unlines};
 ghost use Rattle.ptmerge.specs.Calls.MergeCall.{merge_state};
 ghost use Rattle.ptmerge.specs.Calls.MergeSpec.{MergeTool};
 ghost use Rattle.ptmerge.specs.Calls.MergeSteps.{AreValidCursors};
-ghost use Rattle.ptmerge.specs.Calls.Sides.{both};
-ghost use Rattle.ptmerge.specs.Private.BlockLines.{BlockRunPost, CanMerge, IsBlockTool, IsPairByPair, entries_alone};
-ghost use Rattle.ptmerge.specs.Private.BlockLines.{in_order};
-ghost use Rattle.ptmerge.specs.Private.Passed.{AreBlocksMerged, AreReady, BlocksPost};
+ghost use Rattle.ptmerge.specs.Calls.Sides.{both, other};
+ghost use Rattle.ptmerge.specs.Private.BlockLines.{BlockRunPost, CanMerge, IsBlockTool, IsPairByPair};
+ghost use Rattle.ptmerge.specs.Private.BlockLines.{LineRunPost, entries_alone, in_order};
+ghost use Rattle.ptmerge.specs.Private.Passed.{AreBlocksMerged, AreReady, BlocksPost, IsBlockPassed};
 ghost use Rattle.ptmerge.specs.Private.Write.{WriteBytesPost};
+ghost use Rattle.ptmerge.specs.Private.WriteAndAdvance.{AdvancePre};
 ghost use Rattle.ptmerge.specs.declared.key_order.Side.{Side as SideType};
 ghost use Rattle.ptmerge.specs.declared.key_order.Side.TheVariants as sides;
 ghost use Rattle.ptmerge.specs.declared.merging.cursor.CursorStatus.TheVariants as status_is;
@@ -17,8 +18,8 @@ ghost use Rattle.ptmerge.specs.declared.merging.cursor.CursorStatus.TheVariants 
 use crate::faults::MergeFault;
 use crate::key_order::Side::{First, Second};
 use crate::key_order::{KeyOrder, Side};
-use crate::merging::Merge;
-use crate::merging::block_lines::{BlockLine, BlockRun};
+use crate::merging::block_lines::{BlockLine, BlockRun, LineRun};
+use crate::merging::{Merge, ShortHeads};
 use ptlines::{LineReader, Out, Sink, Source, Store, WriteFault};
 use std::alloc::Allocator;
 use std::cmp::Ordering;
@@ -153,8 +154,77 @@ fn merge_blocks<K: KeyOrder, T: MergeWriter, A: Allocator + Copy, S: Source, R: 
     merge.resume_both(run, first, second, store)
 }
 
-// Merges the lines of both blocks, if both inputs are at lines of fewer than 64 bytes, and after such
-// lines.
+// Passes the lines of a block, while the other input has ended, up to the first line that is not near the line before
+// it or is out of order.
+#[inline(always)]
+fn pass_lines<K: KeyOrder, T: MergeWriter, W: Sink>(
+    order: &K,
+    tool: T,
+    side: Side,
+    terminator: u8,
+    first: BlockLine,
+    out: &mut Out<W>,
+) -> LineRun
+    requires ends { terminator ≡ (T.tool tool).terminator }
+    requires tool { IsBlockTool (T.tool tool) (K.key_of order.now) }
+    requires begins { CanMerge (K.key_of order.now side) first }
+    requires clean { out.old.write_failed ≡ false }
+    ensures { let tool = in_order (T.tool tool) (K.order order.now) (K.key_of order.now) in
+        LineRunPost tool side first.entry result out.old out.new }
+{
+    let mut line = first;
+    'lines: loop {
+        let Some(next) = line.next(order, side, terminator) else {
+            return LineRun {
+                at: line.reached(),
+                failed: false,
+            };
+        };
+        let Ok(()) = tool.write_alone(side, line.key, line.head, terminator, out) else {
+            return LineRun {
+                at: next.reached(),
+                failed: true,
+            };
+        };
+        line = next;
+    }
+}
+
+// Passes the lines of an input's block where they are, while the other input has ended.
+#[inline(never)]
+fn pass_block<K: KeyOrder, T: MergeWriter, A: Allocator + Copy, S: Source, R: Source, W: Sink>(
+    merge: &mut Merge<K>,
+    tool: T,
+    side: Side,
+    reader: &mut LineReader<S, R>,
+    store: &mut Store<A>,
+    out: &mut Out<W>,
+) -> Result<(), MergeFault>
+    requires tool { IsBlockTool (T.tool tool) (K.key_of merge.old.order) }
+    requires status_is { let key = K.key_of merge.old.order in
+        AdvancePre key side merge.old.first merge.old.second reader.old store.old }
+    requires ends { reader.old.terminator ≡ (T.tool tool).terminator }
+    requires clean { out.old.write_failed ≡ false }
+    ensures passes { let tool = in_order (T.tool tool) (K.order merge.old.order) (K.key_of merge.old.order) in
+        let was = both merge.old.first merge.old.second side in
+        let is = both merge.new.first merge.new.second side in
+        IsBlockPassed tool side was is reader.old reader.new store.old store.new out.old out.new result }
+    ensures others { both merge.new.first merge.new.second (other side)
+        ≡ both merge.old.first merge.old.second (other side) }
+    ensures order { merge.new.order ≡ merge.old.order }
+    ensures valid_cursors { AreValidCursors (K.key_of merge.new.order) merge.new.first merge.new.second store.new }
+{
+    let line = merge.block_line(side, reader, store);
+    let run = pass_lines(merge.order(), tool, side, reader.terminator(), line, out);
+    merge.resume(side, run.at, reader, store);
+    if run.failed {
+        return Err(MergeFault::Write);
+    }
+    Ok(())
+}
+
+// Merges the lines of both blocks, if both inputs are at lines of fewer than 64 bytes, and after such lines. If one
+// input has ended, this passes those of the other.
 #[inline(always)]
 pub(crate) fn merge_in_blocks<
     K: KeyOrder,
@@ -182,8 +252,10 @@ pub(crate) fn merge_in_blocks<
     ensures order { merge.new.order ≡ merge.old.order }
     ensures valid_cursors { AreValidCursors (K.key_of merge.new.order) merge.new.first merge.new.second store.new }
 {
-    if !merge.has_short_heads(store) {
-        return Ok(());
+    match merge.short_heads(store) {
+        ShortHeads::Both => merge_blocks(merge, tool, first, second, store, out),
+        ShortHeads::Only(First) => pass_block(merge, tool, First, first, store, out),
+        ShortHeads::Only(Second) => pass_block(merge, tool, Second, second, store, out),
+        ShortHeads::Neither => Ok(()),
     }
-    merge_blocks(merge, tool, first, second, store, out)
 }

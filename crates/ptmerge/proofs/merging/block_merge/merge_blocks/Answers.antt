@@ -1,5 +1,5 @@
 use Rattle.ptmerge.proofs
-use proofs.Common.{First, Second}
+use proofs.Common.{◌∙◌, First, Second}
 use proofs.BlockLemmas.{can_resume_both}
 use proofs.merging.block_merge.merge_blocks.Goals as goal
 
@@ -8,6 +8,9 @@ block_line-one-requires-clause-status_is g c = c.requires.heads First
 
 pub block_line-two-requires-clause-status_is : goal.block_line-two-requires-clause-status_is
 block_line-two-requires-clause-status_is g c = c.requires.heads Second
+
+pub merge_lines-run-requires-clause-ends : goal.merge_lines-run-requires-clause-ends
+merge_lines-run-requires-clause-ends g c = c.terminator.ensures ∙ c.requires.ready.terminator First
 
 pub merge_lines-run-requires-clause-begins : goal.merge_lines-run-requires-clause-begins
 merge_lines-run-requires-clause-begins g c =

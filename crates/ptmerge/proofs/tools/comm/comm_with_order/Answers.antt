@@ -35,7 +35,7 @@ merge_in_blocks-requires-clause-ready g c =
     let t = c.steps.invariant.iteration in
     record {
       own_reader = t.between.own_reader;
-      terminator = (t.loop_invariant.sides First).lines_read.terminator;
+      terminator = λ side. (t.loop_invariant.sides side).lines_read.terminator;
       clean = t.between.clean;
     }
 

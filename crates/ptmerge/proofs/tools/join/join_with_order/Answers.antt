@@ -84,7 +84,7 @@ merge_in_blocks-requires-clause-ready g c =
     let t = c.steps.invariant.iteration in
     record {
       own_reader = t.between.own_reader;
-      terminator = (t.here.sides sides.First).lines_read.terminator;
+      terminator = λ side. (t.here.sides side).lines_read.terminator;
       clean = t.between.clean;
     }
 
@@ -292,6 +292,7 @@ steps-smaller g c =
     let pair = c.in_ok-write_pairs-in-Both.ensures.advances in
     reads_once (fewer_after (reads_less wrote.between _ pair.continues (write_pairs_pre wrote).status_is.head pair.came)
     c.pairs.invariant.fewer
-    (reads_less read.between _ line.continues (read_group_pre read).head line.reads_line.1.came) c.lines.invariant.fewer)
+    (reads_less read.between _ line.continues (read_group_pre read).head line.reads_line.1.came)
+    c.lines.invariant.fewer)
     (blocks_read c.steps.invariant.iteration.here c.steps.invariant.iteration.between
     (by_blocks g (goal.at.steps-smaller g c).After-step).0)
