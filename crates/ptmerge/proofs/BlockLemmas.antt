@@ -3,32 +3,29 @@
 -- lines passed, and why both inputs can go on from there.
 use Rattle.ptmerge.proofs
 use Rattle.ptmerge.specs
-use proofs.Common.{◌≡◌, inl, inr, ⊎_elim, ℕ, ◌+◌, ◌<◌, ◌≤◌, ◌^◌, List, [], ◌∷◌, ◌++◌, refl, sym, ◌∙◌, ap, arith}
-use proofs.Common.{Comm, Output, length, PushEffect, Some, None, Option, true, false, drop, length-append, append_assoc}
+use proofs.Common.{◌≡◌, ◌⊎◌, inl, inr, ⊎_elim, ℕ, ◌+◌, ◌<◌, ◌≤◌, ◌^◌, List, [], ◌∷◌, ◌++◌, refl, sym, ◌∙◌, ap, arith}
+use proofs.Common.{Output, length, PushEffect, Some, None, Option, true, false, drop, length-append, append_assoc}
 use proofs.Common.{append-nil, unlines, IsLine, Side, First, Second, Lines, MergeTool, other, with_side, Cmp, Key, both}
-use proofs.Common.{length_push, Reader, Sorted, Head, budget, length-drop, Slots, line, usual, push_nothing, is_eq, is_gt, Less}
+use proofs.Common.{length_push, Reader, Sorted, Head, budget, length-drop, usual, push_nothing, is_eq, is_gt, Less}
 use proofs.Common.{Bool, entries_by_key, entries_of_key, lines_with_key, unlines-append, push_trans}
 use Rattle.std.specs.Prelude.{MatchBool, take}
 use Rattle.std.specs.declared.cmp.Ordering.{Ordering}
 use Rattle.ptlines.specs.Calls.Readers.{IsSound}
-use specs.Calls.KeySpan.{IsValidCursor}
-use specs.Calls.MergeSteps.{AreValidCursors, IsReaderOf}
+use specs.Calls.MergeSteps.{IsReaderOf}
 use specs.Private.Passed.{CanResume}
 use specs.declared.merging.cursor.Reached.{Reached}
-use specs.declared.tools.comm.block_lines.Column.{Column}
 use proofs.MergeLemmas.{MergeInvariant, IsKeyOrder, Bound, AtLeast, AtMost, Above, Written, alone, output_of, all_keys}
 use proofs.MergeLemmas.{write_least_run, IsLeastKeyRun, IsLineByLine, Each-weaker, at_most_trans, greater_flips}
 use proofs.MergeLemmas.{less_flips, is_greater, lines_with_key-above, side_case, from_key, self_at_most, EachKey-append}
-use proofs.MergeLemmas.{put_same, put_other, unlines_push, EachKey, IsSortedFrom}
-use proofs.CommLemmas.{entries_alone, entries_of_pair, entries_both, hidden_of, tabs_of, is_line_by_line}
+use proofs.MergeLemmas.{put_same, put_other, unlines_push, EachKey, IsSortedFrom, same_bytes}
 use Rattle.ptlines.proofs.TextLaws.{AreLines_push}
 use Rattle.ptlines.proofs.LineSearch.{line_before_terminator}
 use Rattle.memchr.specs.Find.{IsFirstByte, is_byte}
-use specs.Calls.Comm.{comm_with}
-use specs.Comm.{tab_if_shown}
-use specs.Private.BlockLines.{AreMerged, ArePassed, BlockRunPost, CanMerge, HasFailed, IsColumn, IsInBlock, IsNextLine}
-use specs.Private.BlockLines.{IsReached, IsRunEnd, IsStep, MayFollowHeads, lines_in}
+use specs.Private.BlockLines.{AreMerged, ArePassed, BlockRunPost, CanMerge, HasFailed, IsBlockTool, IsInBlock}
+use specs.Private.BlockLines.{IsNextLine, IsPairByPair, IsReached, IsRunEnd, IsStep, MayFollowHeads, entries_alone}
+use specs.Private.BlockLines.{ArePassedAlone, HasFailedAlone, LineRunPost, in_order}
 use specs.declared.merging.block_lines.BlockRun.{BlockRun}
+use specs.declared.merging.block_lines.LineRun.{LineRun}
 use specs.declared.merging.block_lines.BlockLine.{BlockLine}
 
 -- ---- the next line of a block
@@ -51,7 +48,7 @@ module _ (cmp : Cmp) (key : Key) where
   sorted_push last [] x y (here, _) a = (here, (a, tt))
   sorted_push last (z ∷ xs) x y (here, more) a = (here, sorted_push (Some (key z)) xs x y more a)
 
-  passed_one : {end : ℕ} {old now next : BlockLine} {q : Lines} → ArePassed end cmp key old now q
+  pub passed_one : {end : ℕ} {old now next : BlockLine} {q : Lines} → ArePassed end cmp key old now q
       → IsNextLine end cmp key now next → ArePassed end cmp key old next (q ++ now.head.now ∷ [])
   passed_one {end} {old} {now} {next} (inl u) n = inr (record {
     middle = [];
@@ -72,23 +69,16 @@ module _ (cmp : Cmp) (key : Key) where
     passed = omega (arith, n.passed, m.passed, length_push m.middle now.head.now);
   })
 
-  in_block_next : {end : ℕ} {now next : BlockLine} → IsNextLine end cmp key now next → IsInBlock now → IsInBlock next
+  pub in_block_next : {end : ℕ} {now next : BlockLine} → IsNextLine end cmp key now next → IsInBlock now
+      → IsInBlock next
   in_block_next {end} {now} {next} n fits =
       omega (arith, n.passed, ap length n.bytes, length-append next.head.now (end ∷ next.rest.now), fits)
 
 -- the current line of an input, before others are passed
-pub can_merge : {key : Key} {own : BlockLine} {cursor : Sorted} {store : Slots} {reader : Reader} → own.passed ≡ 0
-    → own.head.now ≡ line store cursor.current_slot → own.rest.now ≡ reader.buffered → own.span ≡ cursor.key
-    → IsSound reader → IsValidCursor key cursor store → cursor.status ≡ Head → CanMerge key own
-can_merge none head rest span sound valid status_is = record {
-  passed = none;
-  in_block = omega (arith, none, ap length rest, sound.buffered);
-  span = rw (head, span) (valid.head status_is);
-}
-
-pub valid_side : {key : Side → Key} {one two : Sorted} {store : Slots} → AreValidCursors key one two store
-    → (side : Side) → IsValidCursor (key side) (both one two side) store
-valid_side v = elim [ First ↦ v.cursor_valid1 | Second ↦ v.cursor_valid2 ]
+pub can_merge : {key : Key} {own : BlockLine} {reader : Reader} → own.passed ≡ 0 → own.rest.now ≡ reader.buffered
+    → IsSound reader → own.key.now ≡ key own.head.now → CanMerge key own
+can_merge none rest sound own_key =
+    record { passed = none; in_block = omega (arith, none, ap length rest, sound.buffered); key_is = own_key }
 
 -- ---- a step
 
@@ -142,7 +132,7 @@ module _ (tool : MergeTool) (o : IsKeyOrder tool.cmp) where
   none_follows side r a k gt c =
       lines_with_key-above tool o (key side) k r (Each-weaker _ _ (λ y h. above_of a k y gt h) _ c)
 
-  line_run : (side : Side) (a b : List ℕ) {x k : List ℕ} → key side x ≡ a → a ≡ k → AtMost cmp a b
+  pub line_run : (side : Side) (a b : List ℕ) {x k : List ℕ} → key side x ≡ a → a ≡ k → AtMost cmp a b
       → IsLeastKeyRun cmp (key side) (AtLeast a) (AtLeast b) k (x ∷ [])
   line_run side a b {x} {k} is same h = record {
     own = (is ∙ same, tt);
@@ -173,9 +163,11 @@ module _ (tool : MergeTool) (o : IsKeyOrder tool.cmp) where
 
   module _ (none : (k : List ℕ) → tool.entries k [] [] ≡ []) {now next : Side → BlockLine} {mid is : Output}
       (s : IsStep tool now next mid is) where
-    run_of : (side : Side) → IsLeastKeyRun cmp (key side) (at_heads tool now side) (at_heads tool next side) s.k (s.f side)
+    run_of : (side : Side)
+        → IsLeastKeyRun cmp (key side) (at_heads tool now side) (at_heads tool next side) s.k (s.f side)
     run_of side =
-        ⊎_elim (λ h. rw h.0 (line_run side _ _ refl h.1 h.2.ordered)) (λ h. rw (h.0, h.2) (no_run side _ _ h.1)) (s.passes side)
+        ⊎_elim (λ h. rw h.0 (line_run side _ _ refl h.1 h.2.ordered))
+        (λ h. rw (h.0, h.2) (no_run side _ _ h.1)) (s.passes side)
 
     pub step_written : {q : Side → Lines} {was : Output} → mid.write_failed ≡ false
         → MergeInvariant tool (at_heads tool now) q was mid
@@ -196,7 +188,7 @@ module _ (tool : MergeTool) (o : IsKeyOrder tool.cmp) where
           clean = clean;
           in_block = λ side. ⊎_elim (λ h. in_block_next cmp (key side) h.2 (m.in_block side))
               (λ h. rw h.2 (m.in_block side)) (s.passes side);
-          span = λ side. ⊎_elim (λ h. h.2.span) (λ h. rw h.2 (m.span side)) (s.passes side);
+          key_is = λ side. ⊎_elim (λ h. h.2.key_is) (λ h. rw h.2 (m.key_is side)) (s.passes side);
         }
 
   pub merge_starts : {old : Side → BlockLine} {was : Output} → ((side : Side) → CanMerge (key side) (old side))
@@ -209,7 +201,7 @@ module _ (tool : MergeTool) (o : IsKeyOrder tool.cmp) where
     wrote = push_nothing was;
     clean = clean;
     in_block = λ side. (can side).in_block;
-    span = λ side. (can side).span;
+    key_is = λ side. (can side).key_is;
   }
 
   pub run_failed : {old now next : Side → BlockLine} {run : BlockRun} {was mid is : Output} → IsRunEnd true next run
@@ -222,8 +214,8 @@ module _ (tool : MergeTool) (o : IsKeyOrder tool.cmp) where
   }
 
   -- one input has the least key
-  module _ (by_line : IsLineByLine tool) where
-    alone_splits : (s : Side) (k x : List ℕ) (g : Side → Lines) → g (other s) ≡ []
+  module _ (by_line : IsLineByLine tool.entries) where
+    pub alone_splits : (s : Side) (k x : List ℕ) (g : Side → Lines) → g (other s) ≡ []
         → tool.entries k (alone s x First ++ g First) (alone s x Second ++ g Second)
         ≡ tool.entries k (alone s x First) (alone s x Second) ++ tool.entries k (g First) (g Second)
     alone_splits First k x g none = rw none (by_line.first k x (g First))
@@ -261,8 +253,8 @@ module _ (tool : MergeTool) (o : IsKeyOrder tool.cmp) where
   }
 
   -- the keys that follow are greater
-  pub pair_splits : ((k : List ℕ) → tool.entries k [] [] ≡ []) → {now next : Side → BlockLine} (k : List ℕ) (one two : Lines)
-      → ((side : Side) → key side (now side).head.now ≡ k)
+  pub pair_splits : ((k : List ℕ) → tool.entries k [] [] ≡ []) → {now next : Side → BlockLine} (k : List ℕ)
+      (one two : Lines) → ((side : Side) → key side (now side).head.now ≡ k)
       → ((side : Side) → IsNextLine terminator cmp (key side) (now side) (next side))
       → ((side : Side) → (next side).same ≡ false) → (r : Side → Lines) → MayFollowHeads tool next r
       → tool.entries k (one ++ lines_with_key (key First) (r First) k) (two ++ lines_with_key (key Second) (r Second) k)
@@ -277,30 +269,52 @@ module _ (tool : MergeTool) (o : IsKeyOrder tool.cmp) where
       ∙ sym (append-nil (tool.entries k one two))
       ∙ ap (λ e. tool.entries k one two ++ e) (sym ((λ i. tool.entries k (gone First i) (gone Second i)) ∙ none k))
 
--- ---- the steps of `comm`
+-- ---- the steps of a tool in an order of its keys
 
-module _ (job : Comm) (cmp : Cmp) (key : Side → Key) (whole : (side : Side) (x : List ℕ) → key side x ≡ x)
-    (o : IsKeyOrder cmp) where
-  pub comm_alone : (s : Side) {now : Side → BlockLine} {next : BlockLine} {mid is : Output} {column : Column}
-      → is_gt (cmp (now (other s)).head.now (now s).head.now) ≡ true → IsColumn column (hidden_of job s) (tabs_of job s)
-      → PushEffect mid is (unlines job.terminator (lines_in column (now s).head.now))
-      → IsNextLine job.terminator cmp (key s) (now s) next
-      → IsStep (comm_with job cmp key) now (with_side s next now) mid is
-  comm_alone s {now} gt at pushed n =
-      alone_step (comm_with job cmp key) o (is_line_by_line job cmp key) s (rw (whole (other s) (now (other s)).head.now, whole s (now s).head.now) gt) n
-      (rw (entries_alone job cmp key s _ (whole s _), ← at.hidden_is, ← at.tabs_are) pushed)
+module _ (tool : MergeTool) (cmp : Cmp) (key : Side → Key) (o : IsKeyOrder cmp) (by : IsBlockTool tool key) where
+  abbrev ordered : MergeTool
+  ordered = in_order tool cmp key
 
-  pub comm_pair : {now next : Side → BlockLine} {mid is : Output} {column : Column}
-      → (now First).head.now ≡ (now Second).head.now
-      → IsColumn column job.hide3 (tab_if_shown job.hide1 ++ tab_if_shown job.hide2)
-      → PushEffect mid is (unlines job.terminator (lines_in column (now First).head.now))
-      → ((side : Side) → IsNextLine job.terminator cmp (key side) (now side) (next side))
-      → IsStep (comm_with job cmp key) now next mid is
-  comm_pair {now} same at pushed n =
-      let same_key : key Second (now Second).head.now ≡ key First (now First).head.now =
-      whole Second _ ∙ sym same ∙ sym (whole First _) in
-      pair_step (comm_with job cmp key) o same_key n (λ r c. entries_both job _ _ _)
-      (rw (entries_of_pair job cmp key o _ _ (whole First _) same_key, ← at.hidden_is, ← at.tabs_are) pushed)
+  of_line : (s : Side) (x : List ℕ)
+      → entries_by_key ordered all_keys (alone s x) ≡ entries_alone tool.entries s (key s x) x
+  of_line = grind (arith, same_bytes, append-nil)
+
+  of_pair : (x y : List ℕ) → key Second y ≡ key First x
+      → entries_by_key ordered all_keys (both (x ∷ []) (y ∷ [])) ≡ tool.entries (key First x) (x ∷ []) (y ∷ [])
+  of_pair = grind (arith, same_bytes, append-nil)
+
+  pub line_pushed : (s : Side) {x k : List ℕ} {mid is : Output} → k ≡ key s x
+      → PushEffect mid is (unlines tool.terminator (entries_alone tool.entries s k x))
+      → PushEffect mid is (output_of ordered (alone s x))
+  line_pushed s own pushed = rw (of_line s _) (rw own at pushed)
+
+  pub alone_passes : (s : Side) {now : Side → BlockLine} {next : BlockLine} {mid is : Output} {k l : List ℕ}
+      → k ≡ key s (now s).head.now → l ≡ key (other s) (now (other s)).head.now → is_gt (cmp l k) ≡ true
+      → PushEffect mid is (unlines tool.terminator (entries_alone tool.entries s k (now s).head.now))
+      → IsNextLine tool.terminator cmp (key s) (now s) next → IsStep ordered now (with_side s next now) mid is
+  alone_passes s own others gt pushed n =
+      alone_step ordered o by.alone s (rw (own, others) at gt) n (line_pushed s own pushed)
+
+  pub pair_passes : {now next : Side → BlockLine} {mid is : Output} {k l : List ℕ} → k ≡ key First (now First).head.now
+      → l ≡ key Second (now Second).head.now → k ≡ l
+      → PushEffect mid is
+      (unlines tool.terminator (tool.entries k ((now First).head.now ∷ []) ((now Second).head.now ∷ [])))
+      → ((side : Side) → IsNextLine tool.terminator cmp (key side) (now side) (next side))
+      → IsPairByPair tool.entries ⊎ ((side : Side) → (next side).same ≡ false) → IsStep ordered now next mid is
+  pair_passes {now} own others equal pushed n first =
+      let same : key Second (now Second).head.now ≡ key First (now First).head.now =
+      sym others ∙ sym equal ∙ own in
+      pair_step ordered o same n
+      (⊎_elim (λ law r c. law _ _ _ _ _)
+      (λ new. pair_splits ordered o by.alone.none _ _ _ (elim [ First ↦ refl | Second ↦ same ]) n new) first)
+      (rw (of_pair _ _ same) (rw own at pushed))
+
+-- the lines that follow have other keys, unless the tool writes pair by pair
+pub pairs_or_new : {P : Type 0} (pairs : Bool) (next : Side → BlockLine) → (pairs ≡ true → P)
+    → (pairs ≡ false → ((next First).same ≡ false) × ((next Second).same ≡ false))
+    → P ⊎ ((side : Side) → (next side).same ≡ false)
+pairs_or_new true next law new = inl (law refl)
+pairs_or_new false next law new = inr (elim [ First ↦ (new refl).0 | Second ↦ (new refl).1 ])
 
 -- ---- after the lines that were processed before
 
@@ -323,7 +337,7 @@ module _ (cmp : Cmp) (o : IsKeyOrder cmp) (key : Key) where
       let (a, b) = each_last _ key m.middle now.head.now (from_key cmp o key _ _ m.ordered) in
       record { passed = rw m.lines (self_at_most cmp o (key old.head.now), a); current = b }
 
-  follows_first : {old now : BlockLine} {q : Lines} → NoneBelow cmp key old now q → (r : Lines)
+  pub follows_first : {old now : BlockLine} {q : Lines} → NoneBelow cmp key old now q → (r : Lines)
       → EachKey (AtMost cmp (key now.head.now)) key r → EachKey (AtMost cmp (key old.head.now)) key (q ++ r)
   follows_first {old} {now} n r c =
       EachKey-append _ key _ _ n.passed
@@ -333,7 +347,8 @@ module _ (tool : MergeTool) (o : IsKeyOrder tool.cmp) where
   open tool use {cmp, key}
 
   pub merged_on : {old now : Side → BlockLine} {p : Side → Lines} {start was mid : Output}
-      → MergeInvariant tool (at_heads tool old) p start was → was.write_failed ≡ false → (a : AreMerged tool old now was mid)
+      → MergeInvariant tool (at_heads tool old) p start was → was.write_failed ≡ false
+      → (a : AreMerged tool old now was mid)
       → MergeInvariant tool (at_heads tool now) (λ side. p side ++ a.q side) start mid
   merged_on {old} {now} {p} m clean a =
       let n : (side : Side) → NoneBelow cmp (key side) (old side) (now side) (a.q side) =
@@ -344,7 +359,8 @@ module _ (tool : MergeTool) (o : IsKeyOrder tool.cmp) where
       record {
         splits = λ w r c.
             (λ i. entries_by_key tool w (λ side. append_assoc (p side) (a.q side) (r side) i))
-            ∙ m.splits w (λ side. a.q side ++ r side) (λ side. follows_first cmp o (key side) (n side) (r side) (c side))
+            ∙ m.splits w (λ side. a.q side ++ r side)
+            (λ side. follows_first cmp o (key side) (n side) (r side) (c side))
             ∙ ap (λ e. entries_by_key tool w p ++ e) (a.first w r c)
             ∙ sym (append_assoc (entries_by_key tool w p) (entries_by_key tool w a.q) (entries_by_key tool w r))
             ∙ ap (λ e. e ++ entries_by_key tool w r) (sym (both_parts w));
@@ -393,3 +409,14 @@ pub can_resume_both : {tool : MergeTool} {old : Side → BlockLine} {run : Block
     → (side : Side) → CanResume (both run.first run.second side) (cursor side) (reader side)
 can_resume_both p rest head own side =
     can_resume (rest side) ((lines_of p).passed side) (p.end.reached side) (head side) (own side)
+
+pub can_resume_line : {tool : MergeTool} {s : Side} {old : BlockLine} {run : LineRun} {was is : Output}
+    → LineRunPost tool s old run was is → {cursor : Sorted} {reader : Reader} → old.rest.now ≡ reader.buffered
+    → cursor.status ≡ Head → IsReaderOf cursor reader → CanResume run.at cursor reader
+can_resume_line {tool} {s} {old} {run} {was} {is} p {cursor} {reader} rest head own = by run.failed p.ends
+  where
+    by : (failed : Bool)
+        → MatchBool failed (HasFailedAlone tool s old p.now was is) (ArePassedAlone tool s old p.now was is)
+        → CanResume run.at cursor reader
+    by true f = can_resume rest (passed_one tool.cmp (tool.key s) f.merged.passed f.next) p.at head own
+    by false a = can_resume rest a.passed p.at head own

@@ -3,39 +3,33 @@
 use Rattle.ptmerge.proofs
 use proofs.Common.{◌≡◌, ℕ, List, [], ◌∷◌, ◌++◌, refl, sym, arith, Comm, Output, PushEffect, Reader, Slots, line, rules}
 use proofs.Common.{unlines, Side, First, Second, Sorted, Lines, MergeTool, entries_by_key, AdvanceOkPost, AdvancePre}
-use proofs.Common.{MergeState, Cmp, Key, both, with_side, HaveEqualKeys, HasOnlyLeastKey, suc, append-nil, Bool}
+use proofs.Common.{MergeRunPre, MergeState, merge_state, Cmp, Key, both, with_side, HaveEqualKeys, HasOnlyLeastKey, suc}
+use proofs.Common.{append-nil, Bool}
 use proofs.MergeLemmas.{BetweenSteps, between_next, advance_pre, EndsIfFails, LoopInvariant, advance_ok, goes_merging}
 use proofs.MergeLemmas.{passing_now, runs_on, read_facts_current, iteration_fails, alone, wrote_alone, alone_breaks}
 use proofs.MergeLemmas.{place_is, wrote_and_sent, IsKeyOrder, same_bytes, Written, MergeInvariant, line_is_least_run}
 use proofs.MergeLemmas.{lag_invariant_starts, write_least_run, all_keys, at_current_line, state_by_side, IsOpenMerge}
-use proofs.MergeLemmas.{IsLineByLine}
+use proofs.MergeLemmas.{open_merge}
 use Rattle.ptmerge.specs.Calls.Comm.{comm_with}
 use Rattle.ptmerge.specs.Comm.{entries, column_entries, tab_if_shown}
-use Rattle.ptmerge.specs.Private.BlockLines.{IsColumn, lines_in}
-use Rattle.ptmerge.specs.declared.tools.comm.block_lines.Column.{Column}
+use Rattle.ptmerge.specs.Private.Comm.{IsColumn, hidden_of, lines_in, tabs_of}
+use Rattle.ptmerge.specs.declared.tools.comm.column.Column.{Column}
 
 -- ---- each line adds one entry
 
 pub no_entries : (hidden : Bool) (tabs line : List ℕ) → column_entries hidden tabs 0 line ≡ []
 no_entries = grind arith
 
--- whether the column of a line of one input alone is hidden
-abbrev pub hidden_of : Comm → Side → Bool
-hidden_of job First = job.hide1
-hidden_of job Second = job.hide2
-
-abbrev pub tabs_of : Comm → Side → List ℕ
-tabs_of job First = []
-tabs_of job Second = tab_if_shown job.hide1 ++ []
-
 pub entries_both : (job : Comm) (x : List ℕ) (n k : ℕ)
     → entries job x (suc n) (suc k) ≡ entries job x 1 1 ++ entries job x n k
 entries_both = grind (arith, no_entries)
 
-module _ (job : Comm) (cmp : Cmp) (key : Side → Key) where
-  pub is_line_by_line : IsLineByLine (comm_with job cmp key)
-  is_line_by_line = grind (arith, no_entries, append-nil)
+pub comm_opens : (job : Comm) (cmp : Cmp) (key : Side → Key) {first second : Reader} {out : Output} {store : Slots}
+    → IsKeyOrder cmp → MergeRunPre job.terminator first second out store
+    → IsOpenMerge (comm_with job cmp key) (merge_state first second out store)
+comm_opens job cmp key o begins = open_merge o (grind (arith, no_entries, append-nil)) (λ ls. omega arith) begins
 
+module _ (job : Comm) (cmp : Cmp) (key : Side → Key) where
   pub entries_alone : (s : Side) (x : List ℕ) → key s x ≡ x → entries_by_key (comm_with job cmp key) all_keys
       (alone s x) ≡ column_entries (hidden_of job s) (tabs_of job s) 1 x
   entries_alone = grind (arith, same_bytes, append-nil)

@@ -7,17 +7,19 @@ pub mod Fields
 use Rattle.ptmerge.proofs
 use Rattle.ptmerge.specs
 use proofs.Common.{cond, Err, flat_map-append, Cmp, MergeFault, IsReadyToContinue, AdvanceOkPost, MergePost}
-use proofs.Common.{both, lines_of, Memory, HaveEqualKeys, HasOnlyLeastKey, ◌⊎◌, AdvancePre}
+use proofs.Common.{MergeRunPre, merge_state, both, lines_of, Memory, HaveEqualKeys, HasOnlyLeastKey, ◌⊎◌, AdvancePre}
 use proofs.Common.{push_nothing, inl, inr, ◌==◌, length_push, nil_from_length}
 use specs.Private.JoinGroup.{IsInItsSlot, IsCopiedToGroup, ReadGroupLineOkPost, ReadGroupLinePost, IsGroup}
 use specs.Private.JoinGroup.{JoinStepPre}
 use specs.Private.JoinGroup.{JoinLinePre, group_lines}
 use proofs.MergeLemmas.{BetweenSteps, between_next, advance_pre, alone, wrote_alone}
 use proofs.MergeLemmas.{alone_breaks, place_is, LoopInvariant, Extends, input_split_of, extends}
-use proofs.MergeLemmas.{extends_on, runs_on, valid_cursors_kept, wrote_and_sent, others_stay, IsLineByLine, IsOpenMerge}
+use proofs.MergeLemmas.{extends_on, runs_on, valid_cursors_kept, wrote_and_sent, others_stay, open_merge, IsKeyOrder}
+use proofs.MergeLemmas.{IsOpenMerge}
 use proofs.MergeLemmas.{exit_is_merge_post, continues, same_bound, bounds_change, EachKey-at, Kept}
 use Rattle.std.proofs.lemmas.Bool.{false≢true}
-use specs.Join.{unpaired_entries1, join_entries}
+use specs.Join.{unpaired_entries1, unpaired_entries2, join_entries}
+use specs.Private.BlockLines as lines
 use specs.Calls.Join.{join_with, join_key}
 use specs.Private.Join.{unpaired_entry}
 use Group.*
@@ -27,13 +29,20 @@ use Group.*
 cond_of_empty : (t : Bool) → cond {A = Lines} t [] [] ≡ []
 cond_of_empty = grind arith
 
+pub entry_of_line : (job : Join) (s : Side) {k : List ℕ} (x : List ℕ) → k ≡ join_key job s x
+    → lines.entries_alone (join_entries job) s k x ≡ unpaired_entry job s x
+entry_of_line job First x is = ap (λ l. unpaired_entries1 job l (x ∷ [])) is
+entry_of_line job Second x is = ap (λ l. unpaired_entries2 job l (x ∷ [])) is
+
 module _ (job : Join) (cmp : Cmp) (key : Side → Key) where
   first_alone : (k : List ℕ) (g : Lines) → join_entries job k g [] ≡ unpaired_entries1 job k g
   first_alone k [] = grind arith
   first_alone k (a ∷ g) = refl
 
-  pub is_line_by_line : IsLineByLine (join_with job cmp key)
-  is_line_by_line = grind (arith, cond_of_empty, first_alone)
+  pub join_opens : {first second : Reader} {out : Output} {store : Slots} → IsKeyOrder cmp
+      → MergeRunPre job.terminator first second out store
+      → IsOpenMerge (join_with job cmp key) (merge_state first second out store)
+  join_opens o begins = open_merge o (grind (arith, cond_of_empty, first_alone)) (λ ls. omega arith) begins
 
   some_pairs : job.pairs ≡ true → (k : List ℕ) (f g : Lines) → 0 < length f → 0 < length g
       → 0 < length (pair_entries job k f g)

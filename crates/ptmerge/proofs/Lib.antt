@@ -4,6 +4,7 @@ pub mod Common
 pub mod BlockLemmas
 pub mod CommLemmas
 pub mod Parts
+pub mod PassLemmas
 pub mod PassedLemmas
 pub mod PairLemmas
 pub mod OutputLaws

@@ -130,7 +130,8 @@ module _ {tool : MergeTool} {old : MergeState} (w : IsOpenMerge tool old) (now :
 -- ---- between two steps
 
 pub open_merge : {tool : MergeTool} {first second : Reader} {out : Output} {store : Slots} → IsKeyOrder tool.cmp
-    → IsLineByLine tool → MergeRunPre tool.terminator first second out store
+    → IsLineByLine tool.entries → ((ls : Side → Lines) → HasRoom tool [] ls)
+    → MergeRunPre tool.terminator first second out store
     → IsOpenMerge tool (merge_state first second out store)
 open_merge = grind arith
 
@@ -431,7 +432,7 @@ module _ {tool : MergeTool} {old : MergeState} (w : IsOpenMerge tool old) where
 
     half_store : GroupStore tool old.store s.mid (both began.now_ls []) []
     half_store = group_store_next First (initial_cursor First) (fresh_slots First)
-        (store_starts w.alone.fits s.four w.allowed w.empty) began
+        (store_starts w.fits s.four w.allowed w.empty) began
 
     half_invariant : MergeInvariant tool (both began.bound NoBound) no_lines old.out old.out
     half_invariant = search (rules, bound_changes, began)
@@ -467,7 +468,7 @@ module _ {tool : MergeTool} {old : MergeState} (w : IsOpenMerge tool old) where
     start_fault (inr (inl f)) =
         rw f.unread (advance_fails w (state_by_side old.reader old.out f.made) (initial_cursor First)
         unread refl (λ r piece free. grind (arith, one_line_at_most, free))
-        (store_starts w.alone.fits f.four w.allowed w.empty) (fresh_slots First)
+        (store_starts w.fits f.four w.allowed w.empty) (fresh_slots First)
         (lag_invariant_starts w.o (merge_invariant_starts tool _) w.writable (push_nothing _)) _ _ _
         (inr (w.writable, f.fails)))
     start_fault (inr (inr f)) =

@@ -2,31 +2,34 @@
 -- of the store hold again. So the merge of two blocks keeps the loop invariant of a merge and that of `comm`, and
 -- never adds to the reads that are left; or a write has failed, and the call ends.
 use Rattle.ptmerge.proofs
-use proofs.Common.{◌≡◌, ℕ, ◌-◌, false, List, [], ◌∷◌, ◌++◌, refl, sym, ◌∙◌, ap, subst, arith, length, drop, append_assoc, Some}
-use proofs.Common.{unlines, unlines-append, IsLine, AreLines, Lines, Cmp, Key, Reader, length-append, length_push}
+use proofs.Common.{◌≡◌, ℕ, ◌-◌, false, List, [], ◌∷◌, ◌++◌, refl, sym, ◌∙◌, ap, subst, arith, length, drop, append_assoc}
+use proofs.Common.{Some, unlines, unlines-append, IsLine, AreLines, Lines, Cmp, Key, Reader, length-append, length_push}
 use proofs.Common.{usual, advance_ok_trans}
 use proofs.MergeLemmas.{IsSortedUpTo, IsSortedFrom, LinesRead, is_disordered, unlines_push}
 use proofs.Common.{◌<◌, Side, MergeTool, Sorted, Slots, Head, line, inr, line_of_with_line, length-set}
 use proofs.MergeLemmas.{IsKeyOrder, Bound, AtLeast, SideInvariant, IsAtCurrentLine, at_current_line, reads_nothing}
-use proofs.MergeLemmas.{after_from, self_at_most, low_slot, GroupStore, Extends, group_store_line, side_extends, put_same}
+use proofs.MergeLemmas.{after_from, self_at_most, low_slot, GroupStore, Extends, group_store_line, side_extends}
+use proofs.MergeLemmas.{put_same}
 use proofs.Common.{◌≤◌, HasSlots, with_line, with_side, max_length}
 use Rattle.ptlines.specs.Calls.Readers.{IsSound}
-use Rattle.ptmerge.specs.Calls.MergeSteps.{AreValidCursors}
+use Rattle.ptmerge.specs.Calls.MergeSteps.{AreValidCursors, IsReaderOf}
 use Rattle.ptmerge.specs.Private.BlockLines.{AreMerged, ArePassed, IsMoved, IsUnmoved, IsReached, HasFailed}
-use Rattle.ptmerge.specs.Private.Passed.{IsPassed, IsResumed, AreBlocksMerged, BlocksPost}
+use Rattle.ptmerge.specs.Private.BlockLines.{ArePassedAlone, HasFailedAlone, only}
+use Rattle.ptmerge.specs.Private.Passed.{IsPassed, IsResumed, AreBlocksMerged, BlocksPost, IsOtherPassed}
 use Rattle.ptmerge.specs.declared.merging.cursor.Reached.{Reached}
 use Rattle.ptmerge.specs.Calls.Comm.{comm_with}
 use Rattle.std.specs.List.{slice_range}
-use proofs.Common.{budget, length-drop, other, MergeState, merge_state, both, Comm, First, Second, Result, Err, MergeFault, MergePost}
-use proofs.Common.{Write, true, ⊎_elim, append-nil, Output, Ok, Bool, cond}
+use proofs.Common.{budget, length-drop, other, MergeState, merge_state, both, Comm, First, Second, Result, Err}
+use proofs.Common.{MergeFault, MergePost, Write, true, ⊎_elim, append-nil, Output, Ok, Bool, cond}
 use proofs.MergeLemmas.{CursorsInvariant, IsOpenMerge, side_case, put_other, slots_apart, line_other, max_length-append}
 use proofs.MergeLemmas.{MergeInvariant, bounds_change, same_bound, reads_ahead, read_facts_current}
 use proofs.MergeLemmas.{state_by_side, Kept, kept_order, LoopInvariant, BetweenSteps, LagInvariant, AllWritten}
 use proofs.MergeLemmas.{exit_is_merge_post, fits_emptied, both_begun}
-use proofs.BlockLemmas.{at_heads, merged_on, step_written, RunLines, lines_merged, lines_failed, lines_of}
+use proofs.BlockLemmas.{at_heads, merged_on, step_written, RunLines, lines_merged, lines_failed, lines_of, passed_one}
+use proofs.PassLemmas.{line_added_to, line_written, passed_on, set_back, set_twice}
 use proofs.CommLemmas.{IterationInvariant}
 use Rattle.ptmerge.specs.declared.merging.block_lines.BlockLine.{BlockLine}
-use Rattle.std.specs.Prelude.{take}
+use Rattle.std.specs.Prelude.{MatchBool, take}
 use Rattle.ptlines.proofs.LineSearch.{advance_ok_take}
 use Rattle.ptlines.proofs.TextLaws.{AreLines_push}
 
@@ -167,7 +170,8 @@ module _ {tool : MergeTool} {old : MergeState} {w : IsOpenMerge tool old} {reade
   Goal = HasPassed tool old s (cursor (other s)) next (reader s) is store after ls (p s ++ q) now.head.now
 
   reads_on : budget is ≤ budget (reader s)
-  reads_on = rw resumed.reader (omega (arith, length-drop (length (reader s).buffered - reached.left) (reader s).buffered))
+  reads_on = rw resumed.reader
+      (omega (arith, length-drop (length (reader s).buffered - reached.left) (reader s).buffered))
 
   by_unmoved : IsUnmoved first now q → Goal
   by_unmoved u =
@@ -179,8 +183,15 @@ module _ {tool : MergeTool} {old : MergeState} {w : IsOpenMerge tool old} {reade
       let head_is : now.head.now ≡ line store (cursor s).current_slot = ap (λ l. l.head.now) u.same ∙ at_head in
       record {
         now_ls = ls s;
-        side = rw (same, cursor_is, store_is, u.none, append-nil (p s), head_is, ← (at_current_line (a.sides s) head).bound)
-            (a.sides s);
+        side = rw (
+          same,
+          cursor_is,
+          store_is,
+          u.none,
+          append-nil (p s),
+          head_is,
+          ← (at_current_line (a.sides s) head).bound,
+        ) (a.sides s);
         status_is = rw cursor_is head;
         line_is = rw (cursor_is, store_is, head_is) refl;
         current = rw store_is refl;
@@ -202,13 +213,16 @@ module _ {tool : MergeTool} {old : MergeState} {w : IsOpenMerge tool old} {reade
       (exchanged s (cursor s) (a.sides s).slots) (a.sides (other s)).slots in
       let up : Extends (ls s) ((p s ++ q) ++ x ∷ []) = record {
         more = m.middle ++ x ∷ [];
-        is = sym (all_lines tool w.o s (a.sides s) head at_head at_rest m (rw reached_is.left at resumed.reader) resumed.sound on);
+        is = sym (all_lines tool w.o s (a.sides s) head at_head at_rest m (rw reached_is.left at resumed.reader)
+            resumed.sound on);
       } in
       record {
         now_ls = (p s ++ q) ++ x ∷ [];
-        side = side_moved tool w.o s (a.sides s) head at_head at_rest m (rw reached_is.left at resumed.reader) resumed.sound on;
+        side = side_moved tool w.o s (a.sides s) head at_head at_rest m (rw reached_is.left at resumed.reader)
+            resumed.sound on;
         status_is = ap (λ c. c.status) on.cursor ∙ head;
-        line_is = rw (on.cursor, on.store) (line_of_with_line store _ x (omega (arith, at_slot.current, (a.sides s).four)));
+        line_is = rw (on.cursor, on.store)
+            (line_of_with_line store _ x (omega (arith, at_slot.current, (a.sides s).four)));
         current = rw on.store (line_other store _ _ x apart.0);
         previous = rw on.store (line_other store _ _ x apart.1);
         keeps = store_moved s (cursor s) (a.sides s).slots a.keeps _ up x
@@ -324,6 +338,105 @@ module _ {tool : MergeTool} {old was : MergeState} {one two : Sorted} {w : IsOpe
         (subst (λ (l : Side → Lines). AllWritten tool (at_heads tool now) l old.out out)
         (λ i side. append_assoc (p side) (f.merged.q side) (f.step.f side) i) lag) f.failed
 
+-- ---- the lines of one block
+
+fewer : (s : Side) (f : Side → Reader) (first second : Reader) (one two one2 two2 : Sorted)
+    → both first second (other s) ≡ f (other s) → both one2 two2 (other s) ≡ both one two (other s)
+    → (both one2 two2 s).status ≡ (both one two s).status → budget (both first second s) ≤ budget (f s)
+    → reads_ahead (both first second) one2 two2 ≤ reads_ahead f one two
+fewer First f first second one two one2 two2 reader cursor status less =
+    rw (reader, cursor, status) (omega (arith, less))
+fewer Second f first second one two one2 two2 reader cursor status less =
+    rw (reader, cursor, status) (omega (arith, less))
+
+by_other : (s : Side) (one two one2 two2 : Sorted) (first second : Reader) (reader : Side → Reader)
+    → both first second (other s) ≡ reader (other s) → both one2 two2 (other s) ≡ both one two (other s)
+    → IsReaderOf (both one two (other s)) (reader (other s)) → IsReaderOf (both one2 two2 s) (both first second s)
+    → (side : Side) → IsReaderOf (both one2 two2 side) (both first second side)
+by_other s one two one2 two2 first second reader readers cursors others own =
+    side_case _ s own (rw (readers, cursors) others)
+
+placed : {tool : MergeTool} {old : MergeState} {w : IsOpenMerge tool old} (s : Side) (reader : Side → Reader)
+    (cursor : Side → Sorted) {first second : Reader} {one two : Sorted} {after : Slots} {ls p : Side → Lines}
+    {b : Side → Bound} → both first second (other s) ≡ reader (other s) → both one two (other s) ≡ cursor (other s)
+    → CursorsInvariant w (with_side s (both first second s) reader) (with_side s (both one two s) cursor) after ls p b
+    → CursorsInvariant w (both first second) (both one two) after ls p b
+placed {w = w} s reader cursor {first} {second} {one} {two} {after} {ls} {p} {b} readers cursors c =
+    subst (λ r. CursorsInvariant w r (both one two) after ls p b) (set_back s reader first second readers)
+    (subst (λ at. CursorsInvariant w (with_side s (both first second s) reader) at after ls p b)
+    (set_back s cursor one two cursors) c)
+
+module _ {tool : MergeTool} {old was : MergeState} {one two : Sorted} {w : IsOpenMerge tool old}
+    (loop : LoopInvariant w was (both one two)) (between : BetweenSteps tool.key was one two) where
+  open tool use {cmp, key, terminator}
+  open loop use {ls, p, b, sides, merge_invariant, cursors as before}
+
+  module _ {first second : Reader} {out : Output} {after : Slots} {one2 two2 : Sorted}
+      {result : Result (Unit {0}) MergeFault} (m : IsOtherPassed tool (both one two) (both one2 two2) was
+      (merge_state first second out after) result) where
+    open m use {s, passed}
+    open passed use {head, run, post, post.{now}, resumed}
+
+    abbrev Ends : Bool → Type 0
+    Ends failed = MatchBool failed (HasFailedAlone tool s passed.old now was.out out)
+        (ArePassedAlone tool s passed.old now was.out out)
+
+    module _ (q : Lines) (by : ArePassed terminator cmp (key s) passed.old now q) where
+      step : HasPassed tool old s (both one two (other s)) (both one2 two2 s) (was.reader s) (both first second s)
+          was.store after ls (p s ++ q) now.head.now
+      step = has_passed before s head passed.head_is passed.rest_is by post.at resumed
+
+      whole_passed : CursorsInvariant w (both first second) (both one2 two2) after (with_side s step.now_ls ls)
+          (with_side s (p s ++ q) p) (with_side s (AtLeast (key s now.head.now)) b)
+      whole_passed = placed s was.reader (both one two) m.reader m.others
+          (cursors_on before s head passed.head_is passed.rest_is by post.at resumed step)
+
+      reads_passed : reads_ahead (both first second) one2 two2 ≤ reads_ahead was.reader one two
+      reads_passed = fewer s was.reader first second one two one2 two2 m.reader m.others
+          (step.status_is ∙ sym head) step.reads
+
+    passed_all : {at : BlockLine} {mid : Output} → (a : ArePassedAlone tool s passed.old at was.out mid)
+        → MergeInvariant tool (with_side s (AtLeast (key s at.head.now)) b) (with_side s (p s ++ a.q) p) old.out mid
+    passed_all = passed_on tool w.o w.alone s merge_invariant
+        ((at_current_line (sides s) head).bound ∙ ap (λ x. AtLeast (key s x)) (sym passed.head_is))
+        (rw m.ended at (sides (other s)).status_is).0 between.clean
+
+    pub passed_goes_on : run.failed ≡ false → AreValidCursors key one2 two2 after
+        → LoopInvariant w (merge_state first second out after) (both one2 two2)
+        × BetweenSteps key (merge_state first second out after) one2 two2
+    passed_goes_on none valid =
+        let a : ArePassedAlone tool s passed.old now was.out out = subst Ends none post.ends in (
+          record { ls = _; p = _; b = _; cursors = whole_passed a.q a.passed; merge_invariant = passed_all a },
+          record {
+            valid_cursors = valid;
+            own_reader = by_other s one two one2 two2 first second was.reader m.reader m.others
+                (between.own_reader (other s)) resumed.own_reader;
+            clean = a.clean;
+          },
+        )
+
+    pub passed_fails : run.failed ≡ true → MergePost tool old (merge_state first second out after) (Err Write)
+    passed_fails some =
+        let f : HasFailedAlone tool s passed.old now was.out out = subst Ends some post.ends in
+        let x = f.before.head.now in
+        let m1 = f.merged in
+        let (_, lag) = line_written tool w.o w.alone s now.head.now (put_same s _ b)
+        (put_other s _ b ∙ (rw m.ended at (sides (other s)).status_is).0) f.next.ordered m1.clean (passed_all m1)
+        f.wrote in
+        failed_at (whole_passed (m1.q ++ x ∷ []) (passed_one cmp (key s) m1.passed f.next))
+        (subst (λ (l : Side → Lines). AllWritten tool (with_side s (AtLeast (key s now.head.now)) b) l old.out out)
+        (line_added_to s p m1.q x)
+        (subst (λ (d : Side → Bound). AllWritten tool d
+        (λ side. with_side s (p s ++ m1.q) p side ++ only s (x ∷ []) side) old.out out) (set_twice s _ _ b) lag))
+        f.failed
+
+    pub passed_reads : reads_ahead (both first second) one2 two2 ≤ reads_ahead was.reader one two
+    passed_reads = by run.failed post.ends
+      where
+        by : (failed : Bool) → Ends failed → reads_ahead (both first second) one2 two2 ≤ reads_ahead was.reader one two
+        by true f = reads_passed _ (passed_one cmp (key s) f.merged.passed f.next)
+        by false a = reads_passed _ a.passed
+
 abbrev end_of : Bool → Result (Unit {0}) MergeFault
 end_of failed = cond failed (Err Write) (Ok tt)
 
@@ -343,22 +456,33 @@ module _ {tool : MergeTool} {old was : MergeState} {one two : Sorted} {w : IsOpe
   blocks_on {u} well valid =
       ⊎_elim
       (λ e. rw (ap (λ (c : Side → Sorted). c First) e.0, ap (λ (c : Side → Sorted). c Second) e.0)
-      (subst (λ state. LoopInvariant w state (both one two) × BetweenSteps tool.key state one two) (sym e.1) (loop, between)))
-      (λ m. merged_goes_on loop between m (ended_well m.run.failed u (sym well ∙ m.resumed.result_is)) valid) post
+      (subst (λ state. LoopInvariant w state (both one two) × BetweenSteps tool.key state one two) (sym e.1)
+      (loop, between)))
+      (⊎_elim
+      (λ m. merged_goes_on loop between m (ended_well m.run.failed u (sym well ∙ m.resumed.result_is)) valid)
+      (λ m. passed_goes_on loop between m (ended_well m.passed.run.failed u (sym well ∙ m.passed.result_is)) valid))
+      post
 
   pub blocks_read : reads_ahead (both first second) one2 two2 ≤ reads_ahead was.reader one two
   blocks_read =
       ⊎_elim
-      (λ e. rw (ap (λ (c : Side → Sorted). c First) e.0, ap (λ (c : Side → Sorted). c Second) e.0, ap (λ (state : MergeState). state.reader) e.1) (omega arith))
-      (λ m. merged_reads loop between m) post
+      (λ e. rw (
+        ap (λ (c : Side → Sorted). c First) e.0,
+        ap (λ (c : Side → Sorted). c Second) e.0,
+        ap (λ (state : MergeState). state.reader) e.1,
+      ) (omega arith))
+      (⊎_elim (λ m. merged_reads loop between m) (λ m. passed_reads loop between m)) post
 
   pub blocks_fail : {fault : MergeFault} → result ≡ Err fault
       → MergePost tool old (merge_state first second out after) (Err fault)
   blocks_fail {fault} badly =
       ⊎_elim
       (λ e. (let never : Ok tt ≡ Err fault = sym e.2 ∙ badly in cc))
+      (⊎_elim
       (λ m. (let (some, write) = ended_badly m.run.failed fault (sym badly ∙ m.resumed.result_is) in
-      rw write (merged_fails loop between m some))) post
+      rw write (merged_fails loop between m some)))
+      (λ m. (let (some, write) = ended_badly m.passed.run.failed fault (sym badly ∙ m.passed.result_is) in
+      rw write (passed_fails loop between m some)))) post
 
 -- the invariant of the loop of `comm`, in whatever order
 pub kept_by_blocks : {O : Type 0} (cmp : O → Cmp) (key : O → Side → Key) {job : Comm} {old was : MergeState}

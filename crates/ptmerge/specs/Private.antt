@@ -1,5 +1,6 @@
 -- Definitions that only private functions and proofs use.
 pub mod BlockLines
+pub mod Comm
 pub mod Join
 pub mod JoinFields
 pub mod JoinGroup

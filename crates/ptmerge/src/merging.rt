@@ -2,10 +2,10 @@
 //! select the current line with the least key, and the calls that advance an input. It can also go on after lines that
 //! were merged in the blocks of the readers.
 //!
-//! `cursor` is one input of the merge, with its order check; `block_lines` are lines that are merged in the blocks of
-//! the readers; `four_slots` manages the store slots that both inputs use.
+//! `cursor` is one input of the merge, with its order check; `block_merge` merges lines in the blocks of the readers
+//! (`block_lines`); `four_slots` manages the store slots that both inputs use.
 
-ghost use Rattle.std.specs.Prelude.{◌≡◌, None, true, false, [], OnOk, IfOk, IfErr};
+ghost use Rattle.std.specs.Prelude.{◌≡◌, None, false, [], OnOk, IfOk, IfErr};
 ghost use Rattle.std.specs.Ordering.{is_gt};
 ghost use Rattle.ptlines.specs.Calls.Outputs.{PushEffect};
 ghost use Rattle.ptlines.specs.Calls.Slots.{line};
@@ -17,16 +17,17 @@ ghost use Rattle.ptmerge.specs.Calls.MergeSteps.{merge_inputs, AreValidCursors, 
 ghost use Rattle.ptmerge.specs.Calls.MergeSteps.{StartErrPost};
 ghost use Rattle.ptmerge.specs.Calls.MergeSteps.{previous_key};
 ghost use Rattle.ptmerge.specs.Private.BlockLines.{CanMerge};
-ghost use Rattle.ptmerge.specs.Private.Passed.{AreResumed, CanResume, IsResumed};
+ghost use Rattle.ptmerge.specs.Private.Passed.{AreResumed, AreShortHeads, CanResume, IsResumed};
 ghost use Rattle.ptmerge.specs.declared.key_order.Side.{Side as SideType};
 
 pub(crate) mod block_lines;
+pub(crate) mod block_merge;
 pub(crate) mod cursor;
 pub(crate) mod four_slots;
 
 use crate::faults::MergeFault;
 use crate::key_order::Side::{First, Second};
-use crate::key_order::{KeyOrder, Side, Span};
+use crate::key_order::{KeyOrder, Side};
 use crate::merging::block_lines::{BlockLine, BlockRun};
 use crate::merging::cursor::CursorStatus::{Disorder, Ended, Head};
 use crate::merging::cursor::{Reached, Sorted};
@@ -50,6 +51,14 @@ pub enum Step {
     /// it has in order. If both inputs are out of order, the one whose last key is less is reported, or the first one
     /// if their last keys are equal.
     Stop(Side, u64),
+}
+
+// The inputs whose blocks are merged: both, or one if the other has ended.
+#[derive(Clone, Copy)]
+pub(crate) enum ShortHeads {
+    Both,
+    Only(Side),
+    Neither,
 }
 
 /// A merge of two sorted inputs. The current line of each input is in one of the slots 0 to 3 of the store. After
@@ -187,23 +196,30 @@ impl<K: KeyOrder> Merge<K> {
         &self.order
     }
 
-    // Checks whether both inputs are at lines of fewer than 64 bytes, and after such lines. Among longer lines, a merge
-    // of their blocks would soon end, and cost more than it saves.
+    // Returns which inputs are at lines of fewer than 64 bytes, and after such lines: both, or the only one that has not
+    // ended. Among longer lines, a merge of blocks would soon end, and cost more than it saves.
     #[inline(always)]
-    pub(crate) fn has_short_heads<A: Allocator + Copy>(&self, store: &Store<A>) -> bool
+    pub(crate) fn short_heads<A: Allocator + Copy>(&self, store: &Store<A>) -> ShortHeads
         requires { AreValidCursors (K.key_of self.now.order) self.now.first self.now.second store.now }
-        ensures { let cursor = both self.now.first self.now.second in
-            result ≡ true → (side : SideType) → (cursor side).status ≡ status_is.Head }
+        ensures { AreShortHeads (both self.now.first self.now.second) result }
     {
         match (self.first.status, self.second.status) {
-            (Head, Head) => {
-                store.line(self.first.current_slot).len() < 64
-                    && store.line(self.second.current_slot).len() < 64
-                    && store.line(self.first.previous_slot).len() < 64
-                    && store.line(self.second.previous_slot).len() < 64
+            (Head, Head) if self.is_short(First, store) && self.is_short(Second, store) => {
+                ShortHeads::Both
             }
-            _ => false,
+            (Head, Ended) if self.is_short(First, store) => ShortHeads::Only(First),
+            (Ended, Head) if self.is_short(Second, store) => ShortHeads::Only(Second),
+            _ => ShortHeads::Neither,
         }
+    }
+
+    // Checks whether the current and the previous line of an input have fewer than 64 bytes.
+    #[inline(always)]
+    fn is_short<A: Allocator + Copy>(&self, side: Side, store: &Store<A>) -> bool
+        requires { AreValidCursors (K.key_of self.now.order) self.now.first self.now.second store.now }
+    {
+        let cursor = self.cursor(side);
+        store.line(cursor.current_slot).len() < 64 && store.line(cursor.previous_slot).len() < 64
     }
 
     // Returns the current line of an input with the bytes in its block after this line.
@@ -220,7 +236,8 @@ impl<K: KeyOrder> Merge<K> {
         ensures rest { result.rest.now ≡ reader.now.buffered }
         ensures begins { CanMerge (K.key_of self.now.order side) result }
     {
-        BlockLine::new(self.head(side, store), self.span(side), reader.buffered())
+        let (head, key) = (self.head(side, store), self.key(side, store));
+        BlockLine::new(head, key, reader.buffered())
     }
 
     // Consumes the lines that were merged in both blocks, and makes the lines reached the current ones.
@@ -250,7 +267,7 @@ impl<K: KeyOrder> Merge<K> {
 
     // Consumes the lines of an input that were merged in its block, and makes the line reached its current line.
     #[inline(always)]
-    fn resume<A: Allocator + Copy, S: Source, R: Source>(
+    pub(crate) fn resume<A: Allocator + Copy, S: Source, R: Source>(
         &mut self,
         side: Side,
         at: Reached,
@@ -282,14 +299,6 @@ impl<K: KeyOrder> Merge<K> {
             Side::First => &self.first,
             Side::Second => &self.second,
         }
-    }
-
-    // Returns the span of the key of an input's current line.
-    #[inline(always)]
-    fn span(&self, side: Side) -> Span
-        ensures { result ≡ (both self.now.first self.now.second side).key }
-    {
-        self.cursor(side).key
     }
 
     // Returns the key of an input's current line.

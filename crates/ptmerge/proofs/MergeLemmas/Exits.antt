@@ -27,6 +27,7 @@ pub use Invariant.*
 pub use SlotLines.*
 pub use specs.Calls.MergeCall.{both_sides, merge_end}
 pub use specs.Calls.MergeSpec.{merge_engine}
+pub use specs.Private.BlockLines.{IsLineByLine}
 use Rattle.ptlines.specs.declared.sizes.TheConstants.{BLOCK}
 
 -- ---- bounded lag: lines in order
@@ -474,18 +475,11 @@ pub both_begun : {end : ℕ} {old now new : Side → Reader} {ls : Side → Line
     → ((side : Side) → HasBegun (now side) (ls side)) → FirstReads end old now new ls piece
 both_begun = search rules
 
--- the output for a key of one input alone is the output of each line, and the measure has room for two lines of each
--- input
-pub record IsLineByLine (tool : MergeTool) : Type 0 where
-  pub none : (k : List ℕ) → tool.entries k [] [] ≡ []
-  pub first : (k x : List ℕ) (g : Lines) → tool.entries k (x ∷ g) [] ≡ tool.entries k (x ∷ []) [] ++ tool.entries k g []
-  pub second : (k x : List ℕ) (g : Lines)
-      → tool.entries k [] (x ∷ g) ≡ tool.entries k [] (x ∷ []) ++ tool.entries k [] g
-  pub fits : (ls : Side → Lines) → HasRoom tool [] ls
-
 pub record IsOpenMerge (tool : MergeTool) (old : MergeState) : Type 0 where
   pub o : IsKeyOrder tool.cmp
-  pub alone : IsLineByLine tool
+  pub alone : IsLineByLine tool.entries
+  -- the measure has room for two lines of each input
+  pub fits : (ls : Side → Lines) → HasRoom tool [] ls
   pub terminator : (side : Side) → (old.reader side).terminator ≡ tool.terminator
   pub sound : (side : Side) → IsSound (old.reader side)
   pub readable : (side : Side) → (old.reader side).fault ≡ None

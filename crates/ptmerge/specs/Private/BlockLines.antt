@@ -10,17 +10,15 @@ use Rattle.ptlines.specs.Laws.Text.{AreLines}
 use Rattle.ptlines.specs.Text.{unlines}
 use Rattle.ptlines.specs.ByteOrder.{Cmp}
 use Rattle.ptlines.specs.declared.sizes.TheConstants.{BLOCK}
-use Rattle.ptmerge.specs.Calls.KeySpan.{IsKeySpan}
 use Rattle.ptmerge.specs.Calls.MergeSpec.{MergeTool, entries_by_key, entries_of_key}
-use Rattle.ptmerge.specs.Calls.Sides.{both}
-use Rattle.ptmerge.specs.Comm.{column_entries}
-use Rattle.ptmerge.specs.MergeSpec.{Lines, lines_with_key}
+use Rattle.ptmerge.specs.Calls.Sides.{both, with_side}
+use Rattle.ptmerge.specs.MergeSpec.{Entries, Lines, lines_with_key}
 use Rattle.ptmerge.specs.Orders.{Key}
 use Rattle.ptmerge.specs.declared.key_order.Side.{Side}
 use Rattle.ptmerge.specs.declared.key_order.Side.TheVariants.{First, Second}
 use Rattle.ptmerge.specs.declared.merging.block_lines.BlockLine.{BlockLine}
 use Rattle.ptmerge.specs.declared.merging.block_lines.BlockRun.{BlockRun}
-use Rattle.ptmerge.specs.declared.tools.comm.block_lines.Column.{Column}
+use Rattle.ptmerge.specs.declared.merging.block_lines.LineRun.{LineRun}
 use Rattle.ptmerge.specs.declared.merging.cursor.Reached.{Reached}
 
 -- ---- keys in order
@@ -48,16 +46,32 @@ abbrev pub IsSortedFrom : Cmp → Key → Option (List ℕ) → Lines → Type 0
 IsSortedFrom cmp key last [] = Unit {0}
 IsSortedFrom cmp key last (x ∷ xs) = (is_disordered cmp last (key x) ≡ false) × IsSortedFrom cmp key (Some (key x)) xs
 
--- ---- the columns
+-- ---- the tool
 
--- The column has these tabs before its lines, and is hidden or not.
-pub record IsColumn (column : Column) (hidden : Bool) (tabs : List ℕ) : Type 0 where
-  pub hidden_is : column.hidden ≡ hidden
-  pub tabs_are : column.tabs.now ≡ tabs
+-- The tool in an order of its keys.
+abbrev pub in_order : MergeTool → Cmp → (Side → Key) → MergeTool
+in_order tool cmp key = record tool { cmp = cmp; key = key }
 
--- The output lines for a line in a column.
-abbrev pub lines_in : Column → List ℕ → Lines
-lines_in column x = column_entries column.hidden column.tabs.now 1 x
+-- The output lines for a line that one input alone has, which has the key `k`.
+abbrev pub entries_alone : Entries → Side → List ℕ → List ℕ → Lines
+entries_alone entries First k x = entries k (x ∷ []) []
+entries_alone entries Second k x = entries k [] (x ∷ [])
+
+-- The output for a key that one input alone has is that of each line.
+pub record IsLineByLine (entries : Entries) : Type 0 where
+  pub none : (k : List ℕ) → entries k [] [] ≡ []
+  pub first : (k x : List ℕ) (g : Lines) → entries k (x ∷ g) [] ≡ entries k (x ∷ []) [] ++ entries k g []
+  pub second : (k x : List ℕ) (g : Lines) → entries k [] (x ∷ g) ≡ entries k [] (x ∷ []) ++ entries k [] g
+
+-- The output for a key is that of a line of each input, and then that of the others.
+abbrev pub IsPairByPair : Entries → Type 0
+IsPairByPair entries = (k x y : List ℕ) (f g : Lines)
+    → entries k (x ∷ f) (y ∷ g) ≡ entries k (x ∷ []) (y ∷ []) ++ entries k f g
+
+-- The lines of both inputs are merged by the keys of the tool.
+pub record IsBlockTool (tool : MergeTool) (key : Side → Key) : Type 0 where
+  pub keys : (side : Side) (x : List ℕ) → key side x ≡ tool.key side x
+  pub alone : IsLineByLine tool.entries
 
 -- ---- the lines of one input
 
@@ -65,15 +79,15 @@ lines_in column x = column_entries column.hidden column.tabs.now 1 x
 abbrev pub IsInBlock : BlockLine → Type 0
 IsInBlock line = line.passed + length line.rest.now ≤ BLOCK
 
--- The span selects the key of the line.
-abbrev pub HasKeySpan : Key → BlockLine → Type 0
-HasKeySpan key line = IsKeySpan line.head.now (key line.head.now) line.span
+-- The line has this key.
+abbrev pub HasKey : Key → BlockLine → Type 0
+HasKey key line = line.key.now ≡ key line.head.now
 
 -- No line was passed yet.
 pub record CanMerge (key : Key) (line : BlockLine) : Type 0 where
   pub passed : line.passed ≡ 0
   pub in_block : IsInBlock line
-  pub span : HasKeySpan key line
+  pub key_is : HasKey key line
 
 -- The next line of an input is in its block and in order.
 pub record IsNextLine (end : ℕ) (cmp : Cmp) (key : Key) (line next : BlockLine) : Type 0 where
@@ -82,7 +96,7 @@ pub record IsNextLine (end : ℕ) (cmp : Cmp) (key : Key) (line next : BlockLine
   pub short : length next.head.now < 64
   pub ordered : AtMost cmp (key line.head.now) (key next.head.now)
   pub same : next.same ≡ is_eq (cmp (key line.head.now) (key next.head.now))
-  pub span : HasKeySpan key next
+  pub key_is : HasKey key next
   pub passed : next.passed ≡ line.passed + 1
 
 -- No line was passed.
@@ -130,12 +144,13 @@ pub record AreMerged (tool : MergeTool) (old now : Side → BlockLine) (was is :
   pub wrote : PushEffect was is (unlines tool.terminator (entries_by_key tool (λ k. true) q))
   pub clean : is.write_failed ≡ false
   pub in_block : (side : Side) → IsInBlock (now side)
-  pub span : (side : Side) → HasKeySpan (tool.key side) (now side)
+  pub key_is : (side : Side) → HasKey (tool.key side) (now side)
 
 -- The current line, which has the key `k`, is passed. Or it stays, with a greater key.
 abbrev pub IsPassedOrAbove : MergeTool → Side → List ℕ → BlockLine → BlockLine → Lines → Type 0
 IsPassedOrAbove tool side k now next f =
-    ((f ≡ now.head.now ∷ []) × (tool.key side now.head.now ≡ k) × IsNextLine tool.terminator tool.cmp (tool.key side) now next)
+    ((f ≡ now.head.now ∷ []) × (tool.key side now.head.now ≡ k)
+    × IsNextLine tool.terminator tool.cmp (tool.key side) now next)
     ⊎ ((f ≡ []) × (is_gt (tool.cmp (tool.key side now.head.now) k) ≡ true) × (next ≡ now))
 
 -- The current lines with the least key `k` are passed, and were written. They are the lines `f`, and come before
@@ -168,3 +183,38 @@ pub record BlockRunPost (tool : MergeTool) (old : Side → BlockLine) (run : Blo
   pub now : Side → BlockLine
   pub end : IsRunEnd run.failed now run
   pub ends : MatchBool run.failed (HasFailed tool old now was is) (AreMerged tool old now was is)
+
+-- ---- the lines of one input, after the end of the other
+
+-- These lines of one input, and none of the other.
+abbrev pub only : Side → Lines → Side → Lines
+only s q = with_side s q (λ side. [])
+
+-- The lines passed come first, whatever follows of keys that are not below the current one, and were written.
+pub record ArePassedAlone (tool : MergeTool) (s : Side) (old now : BlockLine) (was is : Output) : Type 0 where
+  pub q : Lines
+  pub passed : ArePassed tool.terminator tool.cmp (tool.key s) old now q
+  pub first : (wanted : List ℕ → Bool) (r : Lines) → EachKey (AtMost tool.cmp (tool.key s now.head.now)) (tool.key s) r
+      → entries_by_key tool wanted (only s (q ++ r))
+      ≡ entries_by_key tool wanted (only s q) ++ entries_by_key tool wanted (only s r)
+  pub under : EachKey (λ k. AtMost tool.cmp k (tool.key s now.head.now)) (tool.key s) q
+  pub wrote : PushEffect was is (unlines tool.terminator (entries_by_key tool (λ k. true) (only s q)))
+  pub clean : is.write_failed ≡ false
+  pub in_block : IsInBlock now
+  pub key_is : HasKey (tool.key s) now
+
+-- The lines are passed, and the write of the last one failed.
+pub record HasFailedAlone (tool : MergeTool) (s : Side) (old now : BlockLine) (was is : Output) : Type 0 where
+  pub before : BlockLine
+  pub mid : Output
+  pub merged : ArePassedAlone tool s old before was mid
+  pub next : IsNextLine tool.terminator tool.cmp (tool.key s) before now
+  pub wrote : PushEffect mid is
+      (unlines tool.terminator (entries_by_key tool (λ k. true) (only s (before.head.now ∷ []))))
+  pub failed : is.write_failed ≡ true
+
+-- The lines of a block are passed: up to one that was not, or to a failed write.
+pub record LineRunPost (tool : MergeTool) (s : Side) (old : BlockLine) (run : LineRun) (was is : Output) : Type 0 where
+  pub now : BlockLine
+  pub at : IsReached now run.at
+  pub ends : MatchBool run.failed (HasFailedAlone tool s old now was is) (ArePassedAlone tool s old now was is)

@@ -1,6 +1,8 @@
 -- The contracts of calls by which an input of a merge, or both, goes on after lines that were passed in the blocks of
--- the readers, and never were in a slot of the store; and of the merge of both blocks as a whole (`BlocksPost`).
-use Rattle.std.specs.Prelude.{◌≡◌, ◌⊎◌, ℕ, ◌+◌, ◌-◌, ◌<◌, ◌≤◌, false, List, length, drop, if◌then◌else◌, Result, Ok, Err}
+-- the readers, and never were in a slot of the store; and of the merge of both blocks, or of one after the end of the
+-- other input, as a whole (`BlocksPost`).
+use Rattle.std.specs.Prelude.{◌≡◌, ◌⊎◌, ℕ, ◌+◌, ◌-◌, ◌<◌, ◌≤◌, false, List, length, drop, if◌then◌else◌, Result, Ok}
+use Rattle.std.specs.Prelude.{Err}
 use Rattle.std.specs.List.{slice_range}
 use Rattle.ptlines.specs.Calls.Outputs.{Output}
 use Rattle.ptlines.specs.Calls.Readers.{IsSound}
@@ -10,15 +12,19 @@ use Rattle.ptlines.specs.Slots.{Slots}
 use Rattle.ptmerge.specs.Calls.MergeCall.{MergeState}
 use Rattle.ptmerge.specs.Calls.MergeSpec.{MergeTool}
 use Rattle.ptmerge.specs.Calls.MergeSteps.{IsReaderOf}
-use Rattle.ptmerge.specs.Private.BlockLines.{BlockRunPost}
+use Rattle.ptmerge.specs.Calls.Sides.{other}
+use Rattle.ptmerge.specs.Private.BlockLines.{BlockRunPost, LineRunPost}
 use Rattle.ptmerge.specs.declared.faults.MergeFault.{MergeFault}
 use Rattle.ptmerge.specs.declared.faults.MergeFault.TheVariants.{Write}
 use Rattle.ptmerge.specs.declared.key_order.Side.{Side}
 use Rattle.ptmerge.specs.declared.key_order.Side.TheVariants.{First, Second}
-use Rattle.ptmerge.specs.declared.merging.cursor.CursorStatus.TheVariants.{Head}
+use Rattle.ptmerge.specs.declared.merging.cursor.CursorStatus.TheVariants.{Ended, Head}
 use Rattle.ptmerge.specs.declared.merging.cursor.Sorted.{Sorted}
 use Rattle.ptmerge.specs.declared.merging.block_lines.BlockLine.{BlockLine}
 use Rattle.ptmerge.specs.declared.merging.block_lines.BlockRun.{BlockRun}
+use Rattle.ptmerge.specs.declared.merging.block_lines.LineRun.{LineRun}
+use Rattle.ptmerge.specs.declared.merging.ShortHeads.{ShortHeads}
+use Rattle.ptmerge.specs.declared.merging.ShortHeads.TheVariants.{Both, Neither, Only}
 use Rattle.ptmerge.specs.declared.merging.cursor.Reached.{Reached}
 
 -- The current line is now `line`, which is `count` lines after the one before.
@@ -54,7 +60,7 @@ pub record AreResumed (run : BlockRun) (cursor next : Side → Sorted) (was is :
 -- Each reader is that of its input, and no write has failed.
 pub record AreReady (end : ℕ) (cursor : Side → Sorted) (reader : Side → Reader) (out : Output) : Type 0 where
   pub own_reader : (side : Side) → IsReaderOf (cursor side) (reader side)
-  pub terminator : (reader First).terminator ≡ end
+  pub terminator : (side : Side) → (reader side).terminator ≡ end
   pub clean : out.write_failed ≡ false
 
 -- Both inputs were at a line. The lines of their blocks are merged, and both are at the lines reached.
@@ -68,8 +74,38 @@ pub record AreBlocksMerged (tool : MergeTool) (cursor next : Side → Sorted) (w
   pub post : BlockRunPost tool old run was.out is.out
   pub resumed : AreResumed run cursor next was.reader is.reader was.store is.store result
 
--- The lines of both blocks are merged, or nothing happened.
+-- An input was at a line. The lines of its block are passed, and it is at the line reached. If a write has failed, this
+-- is the result.
+pub record IsBlockPassed (tool : MergeTool) (s : Side) (cursor next : Sorted) (was is : Reader) (before after : Slots)
+    (sent out : Output) (result : Result (Unit {0}) MergeFault) : Type 0 where
+  pub head : cursor.status ≡ Head
+  pub run : LineRun
+  pub old : BlockLine
+  pub head_is : old.head.now ≡ line before cursor.current_slot
+  pub rest_is : old.rest.now ≡ was.buffered
+  pub post : LineRunPost tool s old run sent out
+  pub resumed : IsResumed run.at cursor next was is before after
+  pub result_is : result ≡ (if run.failed then Err Write else Ok tt)
+
+-- One input had ended. The lines of the other one's block are passed.
+pub record IsOtherPassed (tool : MergeTool) (cursor next : Side → Sorted) (was is : MergeState)
+    (result : Result (Unit {0}) MergeFault) : Type 0 where
+  pub s : Side
+  pub ended : (cursor (other s)).status ≡ Ended
+  pub others : next (other s) ≡ cursor (other s)
+  pub reader : is.reader (other s) ≡ was.reader (other s)
+  pub passed : IsBlockPassed tool s (cursor s) (next s) (was.reader s) (is.reader s) was.store is.store was.out is.out
+      result
+
+-- The lines of both blocks are merged, or those of one are passed, or nothing happened.
 abbrev pub BlocksPost : MergeTool → (Side → Sorted) → (Side → Sorted) → MergeState → MergeState
     → Result (Unit {0}) MergeFault → Type 0
 BlocksPost tool cursor next was is result =
-    ((next ≡ cursor) × (is ≡ was) × (result ≡ Ok tt)) ⊎ AreBlocksMerged tool cursor next was is result
+    ((next ≡ cursor) × (is ≡ was) × (result ≡ Ok tt))
+    ⊎ (AreBlocksMerged tool cursor next was is result ⊎ IsOtherPassed tool cursor next was is result)
+
+-- The inputs that are at lines: both, or one that is left.
+abbrev pub AreShortHeads : (Side → Sorted) → ShortHeads → Type 0
+AreShortHeads cursor Both = (side : Side) → (cursor side).status ≡ Head
+AreShortHeads cursor (Only s) = ((cursor s).status ≡ Head) × ((cursor (other s)).status ≡ Ended)
+AreShortHeads cursor Neither = Unit {0}

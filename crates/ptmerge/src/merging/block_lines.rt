@@ -2,21 +2,21 @@
 //! store. `BlockLine` is the line reached in one block, with its key and the step to the next line; `BlockRun` is
 //! where a merge of two blocks ended. The loops of that merge are in `tools`.
 
-ghost use Rattle.std.specs.Prelude.{◌≡◌, IfSome};
+ghost use Rattle.std.specs.Prelude.{◌≡◌, IfSome, true, false};
 ghost use Rattle.ptmerge.specs.Calls.Sides.{both};
-ghost use Rattle.ptmerge.specs.Private.BlockLines.{HasKeySpan, IsInBlock, IsNextLine, IsReached, IsRunEnd};
+ghost use Rattle.ptmerge.specs.Private.BlockLines.{HasKey, IsInBlock, IsNextLine, IsReached, IsRunEnd};
 
-use crate::key_order::{KeyOrder, Side, Span};
+use crate::key_order::{KeyOrder, Side};
 use crate::merging::cursor::Reached;
 use ptlines::find_byte;
 
-// The current line of an input with the span of its key, and the bytes in its block after this line. `passed` lines
+// The current line of an input with its key, and the bytes in its block after this line. `passed` lines
 // came before it since the merge of the blocks began. `same` is true if there are such lines, and the last of them has
 // the same key.
 #[derive(Clone, Copy)]
 pub(crate) struct BlockLine<'a> {
     pub head: &'a [u8],
-    pub span: Span,
+    pub key: &'a [u8],
     pub rest: &'a [u8],
     pub passed: usize,
     pub same: bool,
@@ -31,30 +31,29 @@ pub(crate) struct BlockRun {
     pub failed: bool,
 }
 
+// Where an input is after lines of its block were passed, while the other input had ended. `failed` is true if a write
+// has failed; the line that was to be written is then passed.
+#[derive(Clone, Copy)]
+pub(crate) struct LineRun {
+    pub at: Reached,
+    pub failed: bool,
+}
+
 impl<'a> BlockLine<'a> {
     // Returns the current line of an input, before others are passed.
     #[inline(always)]
-    pub(crate) fn new(head: &'a [u8], span: Span, rest: &'a [u8]) -> BlockLine<'a>
+    pub(crate) fn new(head: &'a [u8], key: &'a [u8], rest: &'a [u8]) -> BlockLine<'a>
         ensures bytes { (result.head.now ≡ head.now) × (result.rest.now ≡ rest.now) }
-        ensures span { result.span ≡ span }
+        ensures key { result.key.now ≡ key.now }
         ensures passed { result.passed ≡ 0 }
     {
         BlockLine {
             head,
-            span,
+            key,
             rest,
             passed: 0,
             same: false,
         }
-    }
-
-    // Returns the key of the line.
-    #[inline(always)]
-    pub(crate) fn key<K: KeyOrder>(self, order: &K, side: Side) -> &'a [u8]
-        requires { HasKeySpan (K.key_of order.now side) self }
-        ensures { result.now ≡ K.key_of order.now side self.entry.head.now }
-    {
-        order.key(side, self.span, self.head)
     }
 
     // Returns the next line, if its terminator is among the next 64 bytes and it is in order. Longer lines take the
@@ -67,21 +66,21 @@ impl<'a> BlockLine<'a> {
         terminator: u8,
     ) -> Option<BlockLine<'a>>
         requires passed { IsInBlock self }
-        requires span { HasKeySpan (K.key_of order.now side) self }
+        requires key { HasKey (K.key_of order.now side) self }
         ensures { let key = K.key_of order.now side in
             IfSome result (λ next. IsNextLine terminator (K.order order.now) key self.entry next) }
     {
         let near = &self.rest[..self.rest.len().min(64)];
         let size = find_byte(terminator, near)?;
         let head = &self.rest[..size];
-        let span = order.span(side, head);
-        let ordering = order.cmp(self.key(order, side), order.key(side, span, head));
+        let key = order.key(side, order.span(side, head), head);
+        let ordering = order.cmp(self.key, key);
         if ordering.is_gt() {
             return None;
         }
         Some(BlockLine {
             head,
-            span,
+            key,
             rest: &self.rest[size + 1..],
             passed: self.passed + 1,
             same: ordering.is_eq(),
@@ -101,14 +100,28 @@ impl<'a> BlockLine<'a> {
     }
 }
 
-// Returns where a merge of blocks ended.
-#[inline(always)]
-pub(crate) fn end_run(first: BlockLine, second: BlockLine, failed: bool) -> BlockRun
-    ensures { IsRunEnd failed (both first.entry second.entry) result }
-{
-    BlockRun {
-        first: first.reached(),
-        second: second.reached(),
-        failed,
+impl BlockRun {
+    // Returns the end of a merge before these lines, which are not passed.
+    #[inline(always)]
+    pub(crate) fn stopped(first: BlockLine, second: BlockLine) -> BlockRun
+        ensures { IsRunEnd false (both first.entry second.entry) result }
+    {
+        BlockRun {
+            first: first.reached(),
+            second: second.reached(),
+            failed: false,
+        }
+    }
+
+    // Returns the end of a merge at a failed write, after which these lines would come.
+    #[inline(always)]
+    pub(crate) fn failed(first: BlockLine, second: BlockLine) -> BlockRun
+        ensures { IsRunEnd true (both first.entry second.entry) result }
+    {
+        BlockRun {
+            first: first.reached(),
+            second: second.reached(),
+            failed: true,
+        }
     }
 }

@@ -1,5 +1,5 @@
-//! The engine of `comm`: each step of the merge writes one line, of one input or of both. Before a step, short
-//! lines are merged in the blocks where they are (`block_lines`).
+//! The engine of `comm`: each step of the merge writes one line, of one input or of both, in a `column`. Before a
+//! step, short lines are merged in the blocks where they are.
 
 ghost use Rattle.std.specs.Prelude.{◌≡◌, ℕ, List, false};
 ghost use Rattle.ptlangs.specs.Jobs.{comm_job};
@@ -11,19 +11,18 @@ ghost use Rattle.ptmerge.specs.Private.MergeCall.{MergeRunPre};
 ghost use Rattle.ptmerge.specs.Calls.MergeCall.{MergePost, MergePre, merge_state};
 ghost use Rattle.ptmerge.specs.Private.WriteAndAdvance.{WriteThenAdvancePost, AdvancePre};
 ghost use Rattle.ptmerge.specs.Calls.Sides.{both};
-ghost use Rattle.ptmerge.specs.Calls.MergeSteps.{AreValidCursors};
-ghost use Rattle.ptmerge.specs.Private.BlockLines.{lines_in};
-ghost use Rattle.ptmerge.specs.Private.Passed.{AreReady, BlocksPost};
+ghost use Rattle.ptmerge.specs.Private.Comm.{lines_in};
 ghost use Rattle.ptmerge.specs.declared.key_order.Side.{Side as SideType};
 
-mod block_lines;
+mod column;
 
 use crate::faults::MergeFault;
 use crate::key_order::Side::{First, Second};
 use crate::key_order::{Descending, KeyOrder, Side, WholeLine};
+use crate::merging::block_merge::merge_in_blocks;
 use crate::merging::four_slots::clear_four_slots;
 use crate::merging::{Merge, Step};
-use crate::tools::comm::block_lines::{Column, merge_blocks};
+use crate::tools::comm::column::Column;
 use ptlangs::jobs::CommJob;
 use ptlines::{LineReader, Out, Sink, Source, Store};
 use std::alloc::Allocator;
@@ -52,56 +51,24 @@ fn write_head<K: KeyOrder, A: Allocator + Copy, S: Source, R: Source, W: Sink>(
     merge.write_out_and_advance(side, reader, store, out)
 }
 
-// Merges the lines of both blocks where they are, if both inputs are at lines of fewer than 64 bytes, and after such
-// lines.
-#[inline(always)]
-fn merge_in_blocks<K: KeyOrder, A: Allocator + Copy, S: Source, R: Source, W: Sink>(
-    merge: &mut Merge<K>,
-    job: &CommJob,
-    first: &mut LineReader<S, R>,
-    second: &mut LineReader<S, R>,
-    store: &mut Store<A>,
-    out: &mut Out<W>,
-) -> Result<(), MergeFault>
-    requires whole_line_keys { (side : SideType) (line : List ℕ) → K.key_of merge.old.order side line ≡ line }
-    requires valid_cursors { AreValidCursors (K.key_of merge.old.order) merge.old.first merge.old.second store.old }
-    requires ready { AreReady (comm_job job.now).terminator (both merge.old.first merge.old.second)
-        (both first.old second.old) out.old }
-    ensures merges { let tool = comm_with (comm_job job.now) (K.order merge.old.order) (K.key_of merge.old.order) in
-        let was = merge_state first.old second.old out.old store.old in
-        let is = merge_state first.new second.new out.new store.new in
-        BlocksPost tool (both merge.old.first merge.old.second) (both merge.new.first merge.new.second) was is result }
-    ensures order { merge.new.order ≡ merge.old.order }
-    ensures valid_cursors { AreValidCursors (K.key_of merge.new.order) merge.new.first merge.new.second store.new }
-{
-    if !merge.has_short_heads(store) {
-        return Ok(());
-    }
-    let one = merge.block_line(First, first, store);
-    let two = merge.block_line(Second, second, store);
-    let run = merge_blocks(merge.order(), job, first.terminator(), one, two, out);
-    merge.resume_both(run, first, second, store)
-}
-
 // Runs `comm` in an order of whole lines. The terminator of both readers is already set.
 fn comm_with_order<K: KeyOrder, A: Allocator + Copy, S: Source, R: Source, W: Sink>(
     order: K,
-    job: &CommJob,
+    job: CommJob,
     first: &mut LineReader<S, R>,
     second: &mut LineReader<S, R>,
     store: &mut Store<A>,
     out: &mut Out<W>,
 ) -> Result<(), MergeFault>
     requires whole_line_keys { (side : SideType) (line : List ℕ) → K.key_of order side line ≡ line }
-    requires begins { MergeRunPre (comm_job job.now).terminator first.old second.old out.old store.old }
-    ensures { let tool = comm_with (comm_job job.now) (K.order order) (K.key_of order) in
+    requires begins { MergeRunPre (comm_job job).terminator first.old second.old out.old store.old }
+    ensures { let tool = comm_with (comm_job job) (K.order order) (K.key_of order) in
         let was = merge_state first.old second.old out.old store.old in
         MergePost tool was (merge_state first.new second.new out.new store.new) result }
 {
-    let [hide1, hide2, hide3] = job.hide;
-    let alone1 = Column::new(hide1, true, true);
-    let alone2 = Column::new(hide2, hide1, true);
-    let common = Column::new(hide3, hide1, hide2);
+    let alone1 = Column::alone(job, First);
+    let alone2 = Column::alone(job, Second);
+    let common = Column::common(job);
     let mut merge = Merge::start(order, first, second, store)?;
     'steps: loop {
         merge_in_blocks(&mut merge, job, first, second, store, out)?;
@@ -162,7 +129,8 @@ pub fn comm<A: Allocator + Copy, S: Source, R: Source, W: Sink>(
     first.set_ending(job.zero);
     second.set_ending(job.zero);
     if job.descending {
-        return comm_with_order(Descending { of: WholeLine }, job, first, second, store, out);
+        let order = Descending { of: WholeLine };
+        return comm_with_order(order, *job, first, second, store, out);
     }
-    comm_with_order(WholeLine, job, first, second, store, out)
+    comm_with_order(WholeLine, *job, first, second, store, out)
 }

@@ -1,6 +1,5 @@
 //! The engine of `join`: a merge that keeps the second input's lines of one key at a time, if it writes pairs.
 //!
-//! `block_pairs` pairs lines in the blocks of the readers, as long as each is the only one of its key in its input.
 //! `field_keys` is the order of lines by their join fields, and `key_group` copies the lines of a key. `fields` splits
 //! a line into fields, `output` writes an output line, and `separators` and `words` find separators and blanks by
 //! `masks`.
@@ -12,7 +11,6 @@ ghost use Rattle.ptlines.specs.Calls.Slots.{line};
 ghost use Rattle.ptlines.specs.Text.{unlines};
 ghost use Rattle.ptmerge.specs.Private.JoinGroup.{IsGroup, JoinStepPre, JoinLinePre, group_lines};
 ghost use Rattle.ptmerge.specs.Private.MergeCall.{MergeRunPre};
-ghost use Rattle.ptmerge.specs.Private.Passed.{AreReady, BlocksPost};
 ghost use Rattle.ptmerge.specs.Calls.MergeCall.{MergePost, MergePre, merge_state};
 ghost use Rattle.ptmerge.specs.Calls.MergeSteps.{AreValidCursors};
 ghost use Rattle.ptmerge.specs.declared.key_order.Side.{Side as SideType};
@@ -25,7 +23,6 @@ ghost use Rattle.ptmerge.specs.Calls.Sides.{both};
 ghost use Rattle.ptmerge.specs.declared.key_order.Side.TheVariants as sides;
 ghost use Rattle.ptmerge.specs.declared.merging.cursor.CursorStatus.TheVariants as status_is;
 
-mod block_pairs;
 mod field_keys;
 mod fields;
 mod key_group;
@@ -38,39 +35,15 @@ mod words;
 use crate::faults::MergeFault;
 use crate::key_order::Side::{First, Second};
 use crate::key_order::{Descending, KeyOrder, Side};
+use crate::merging::block_merge::{MergeWriter, merge_in_blocks};
 use crate::merging::four_slots::clear_four_slots;
 use crate::merging::{Merge, Step};
-use crate::tools::join::block_pairs::pair_blocks;
 use crate::tools::join::field_keys::FieldKeys;
 use crate::tools::join::key_group::Group;
-use crate::tools::join::output::{Pair, is_unchanged, write_alone, write_pair};
+use crate::tools::join::output::{Pair, is_unchanged, write_pair};
 use ptlangs::jobs::JoinJob;
 use ptlines::{LineReader, Out, Sink, Source, Store, WriteFault};
 use std::alloc::Allocator;
-
-// Writes the output line of an unpaired line, if the options ask for it. Inlined, since most of its calls only ask.
-#[inline(always)]
-fn write_unpaired_entry<B: Allocator, W: Sink>(
-    job: &JoinJob<B>,
-    side: Side,
-    key: &[u8],
-    line: &[u8],
-    terminator: u8,
-    out: &mut Out<W>,
-) -> Result<(), WriteFault>
-    requires { join_key (join_job job.now) side line.now ≡ key.now }
-    ensures { let entry = unpaired_entry (join_job job.now) side line.now in
-        WriteBytesPost out.old out.new (unlines terminator entry) result }
-{
-    let is_written = match side {
-        First => job.unpaired[0],
-        Second => job.unpaired[1],
-    };
-    if !is_written {
-        return Ok(());
-    }
-    write_alone(job, side, key, line, terminator, out)
-}
 
 // Writes the output lines of the first input's current line with each line of the group.
 #[tactic(auto, using(crate::proofs::JoinLemmas::Group::pair_steps))]
@@ -131,7 +104,7 @@ fn write_unpaired<K: KeyOrder, A: Allocator + Copy, B: Allocator, S: Source, R: 
 {
     let key = merge.key(side, store);
     let line = merge.head(side, store);
-    write_unpaired_entry(job, side, key, line, reader.terminator(), out)?;
+    job.write_alone(side, key, line, reader.terminator(), out)?;
     merge.write_out_and_advance(side, reader, store, out)
 }
 
@@ -167,38 +140,6 @@ fn write_pairs<K: KeyOrder, A: Allocator + Copy, B: Allocator, S: Source, R: Sou
     write_pair_entries(merge, job, group, store, reader.terminator(), out)?;
     merge.write_out_and_advance(First, reader, store, out)?;
     Ok(merge.has_same_key(First))
-}
-
-// Merges the lines of both blocks where they are, if both inputs are at lines of fewer than 64 bytes, and after such
-// lines.
-#[inline(always)]
-fn merge_in_blocks<K: KeyOrder, A: Allocator + Copy, B: Allocator, S: Source, R: Source, W: Sink>(
-    merge: &mut Merge<K>,
-    job: &JoinJob<B>,
-    first: &mut LineReader<S, R>,
-    second: &mut LineReader<S, R>,
-    store: &mut Store<A>,
-    out: &mut Out<W>,
-) -> Result<(), MergeFault>
-    requires keys { (side : SideType) (line : List ℕ) →
-        K.key_of merge.old.order side line ≡ join_key (join_job job.now) side line }
-    requires valid_cursors { AreValidCursors (K.key_of merge.old.order) merge.old.first merge.old.second store.old }
-    requires ready { AreReady (join_job job.now).terminator (both merge.old.first merge.old.second)
-        (both first.old second.old) out.old }
-    ensures merges { let tool = join_with (join_job job.now) (K.order merge.old.order) (K.key_of merge.old.order) in
-        let was = merge_state first.old second.old out.old store.old in
-        let is = merge_state first.new second.new out.new store.new in
-        BlocksPost tool (both merge.old.first merge.old.second) (both merge.new.first merge.new.second) was is result }
-    ensures order { merge.new.order ≡ merge.old.order }
-    ensures valid_cursors { AreValidCursors (K.key_of merge.new.order) merge.new.first merge.new.second store.new }
-{
-    if !merge.has_short_heads(store) {
-        return Ok(());
-    }
-    let one = merge.block_line(First, first, store);
-    let two = merge.block_line(Second, second, store);
-    let run = pair_blocks(merge.order(), job, first.terminator(), one, two, out);
-    merge.resume_both(run, first, second, store)
 }
 
 // Runs `join` in an order of join fields. The terminator of both readers is already set.

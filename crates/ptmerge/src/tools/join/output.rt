@@ -6,7 +6,7 @@ ghost use Rattle.std.proofs.Props.{props};
 ghost use Rattle.ptlines.specs.Calls.Outputs.{PushPost};
 ghost use Rattle.ptlangs.specs.Jobs.{join_job};
 ghost use Rattle.ptmerge.specs.Join.{join_fields, other_fields, output_separator, or_filler, field_named};
-ghost use Rattle.ptmerge.specs.Calls.Join.{join_key};
+ghost use Rattle.ptmerge.specs.Calls.Join.{join_key, join_tool};
 ghost use Rattle.ptmerge.specs.Join.{entry};
 ghost use Rattle.ptmerge.specs.Private.JoinFields.{HasOneLine, IsCanonical, IsKeyOf, IsSplit, IsUnchanged, around};
 ghost use Rattle.ptmerge.specs.Private.JoinFields.{entry_with_list, remaining_fields};
@@ -16,6 +16,7 @@ ghost use Rattle.ptmerge.specs.Private.Write.{WriteBytesPost};
 ghost use Rattle.ptmerge.specs.declared.key_order.Side.TheVariants.{First, Second};
 
 use crate::key_order::{Side, Span};
+use crate::merging::block_merge::MergeWriter;
 use crate::tools::join::fields::{SplitLine, next_word};
 use crate::tools::join::row::Row;
 use ptlangs::jobs::JoinJob;
@@ -315,8 +316,53 @@ pub(crate) fn write_pair<'a, A: Allocator, W: Sink>(
     write_entry(&entry, terminator, out)
 }
 
+impl<'a, A: Allocator> MergeWriter for &'a JoinJob<A> {
+    ghost tool = { λ job. join_tool (join_job job.now) };
+
+    // Each line of a key is paired with each.
+    #[inline(always)]
+    fn is_pair_by_pair(self) -> bool {
+        false
+    }
+
+    #[inline(always)]
+    fn write_alone<W: Sink>(
+        self,
+        side: Side,
+        key: &[u8],
+        line: &[u8],
+        terminator: u8,
+        out: &mut Out<W>,
+    ) -> Result<(), WriteFault> {
+        let is_written = match side {
+            Side::First => self.unpaired[0],
+            Side::Second => self.unpaired[1],
+        };
+        if !is_written {
+            return Ok(());
+        }
+        write_unpaired_line(self, side, key, line, terminator, out)
+    }
+
+    #[inline(always)]
+    fn write_both<W: Sink>(
+        self,
+        key: &[u8],
+        one: &[u8],
+        two: &[u8],
+        terminator: u8,
+        out: &mut Out<W>,
+    ) -> Result<(), WriteFault> {
+        if !self.pairs {
+            return Ok(());
+        }
+        let begins = is_unchanged(self, Side::First, one);
+        write_pair(self, Pair { key, one, two }, begins, terminator, out)
+    }
+}
+
 // Writes the output line of an unpaired line, whose join field is `key`, and its terminator.
-pub(crate) fn write_alone<'a, A: Allocator, W: Sink>(
+fn write_unpaired_line<'a, A: Allocator, W: Sink>(
     job: &'a JoinJob<A>,
     side: Side,
     key: &'a [u8],

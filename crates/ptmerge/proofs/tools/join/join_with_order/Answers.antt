@@ -4,13 +4,14 @@
 use Rattle.ptmerge.proofs
 use Rattle.ptmerge.specs
 use proofs.Common.{◌≡◌, refl, sym, ◌∙◌, arith, ℕ, ◌<◌, ◌≤◌, both, inl, join_job, merge_state, Ok}
-use proofs.JoinLemmas.{BetweenGroups, LoopOfJoin, alone_continues, alone_fails, is_line_by_line, joins, group_opens}
+use proofs.JoinLemmas.{BetweenGroups, LoopOfJoin, alone_continues, alone_fails, join_opens, joins}
+use proofs.JoinLemmas.{group_opens}
 use proofs.JoinLemmas.{read_group_in, read_group_pre, read_group_continues, read_group_fails, write_pairs_next}
 use proofs.JoinLemmas.{write_pairs_pre, write_pairs_group, write_pairs_continues, pair_fails, group_there, group_closed}
-use proofs.MergeLemmas.{advance_pre, fails_by, start_fault, start_ok, open_merge, ends_well, ends_fallen, kept_order}
+use proofs.MergeLemmas.{advance_pre, fails_by, start_fault, start_ok, ends_well, ends_fallen, kept_order}
 use proofs.MergeLemmas.{fails, ends, reads_less}
 use proofs.PassedLemmas.{blocks_fail, blocks_read, reads_once}
-use proofs.PairLemmas.{joined_by_blocks}
+use proofs.PairLemmas.{blocks_joined, joined_by_blocks}
 use specs.declared.key_order.Side.TheVariants as sides
 use specs.Calls.Join.{join_with}
 use specs.Calls.MergeSteps.{AreValidCursors}
@@ -34,7 +35,8 @@ module _ (g : given.Over) (c : After-step g) where
       elim c.if-not-after_group.branch [
         | then-not-after_group+in_ok-merge_in_blocks w ↦
             simp (w.first-is, w.second-is, w.store-is, w.out-is, w.merge-is) (
-              w.in_ok-merge_in_blocks.ensures.merges,
+              blocks_joined (join_job c.args.job.now) c.steps.invariant.iteration.keys
+                  w.in_ok-merge_in_blocks.ensures.merges,
               w.merge_in_blocks.ensures.order,
               w.merge_in_blocks.ensures.valid_cursors,
             )
@@ -55,14 +57,14 @@ module _ (g : given.Over) (c : After-step g) where
 
 pub returns-in_err-merge : goal.returns-in_err-merge
 returns-in_err-merge g c =
-    let w = open_merge (record { total = g.met.K.KeyOrder.total _; exact = g.met.K.KeyOrder.exact _ })
-    (is_line_by_line (join_job c.args.job.now) _ _) c.requires.begins in
+    let w = join_opens (join_job c.args.job.now) _ _
+    (record { total = g.met.K.KeyOrder.total _; exact = g.met.K.KeyOrder.exact _ }) c.requires.begins in
     fails_by c.from_residual.ensures.1 (start_fault w c.in_err-merge.ensures.fails)
 
 pub steps-init : goal.steps-init
 steps-init g c =
-    let w = open_merge (record { total = g.met.K.KeyOrder.total _; exact = g.met.K.KeyOrder.exact _ })
-    (is_line_by_line (join_job c.args.job.now) _ _) c.requires.begins in
+    let w = join_opens (join_job c.args.job.now) _ _
+    (record { total = g.met.K.KeyOrder.total _; exact = g.met.K.KeyOrder.exact _ }) c.requires.begins in
     let e = c.in_ok-merge.ensures in
     kept_order e.order refl (record {
       w = w;
@@ -75,15 +77,16 @@ steps-init g c =
       };
     })
 
-pub merge_in_blocks-requires-clause-keys : goal.merge_in_blocks-requires-clause-keys
-merge_in_blocks-requires-clause-keys g c = c.steps.invariant.iteration.keys
+pub merge_in_blocks-requires-clause-tool : goal.merge_in_blocks-requires-clause-tool
+merge_in_blocks-requires-clause-tool g c =
+    let t = c.steps.invariant.iteration in record { keys = t.keys; alone = t.w.alone }
 
 pub merge_in_blocks-requires-clause-ready : goal.merge_in_blocks-requires-clause-ready
 merge_in_blocks-requires-clause-ready g c =
     let t = c.steps.invariant.iteration in
     record {
       own_reader = t.between.own_reader;
-      terminator = (t.here.sides sides.First).lines_read.terminator;
+      terminator = λ side. (t.here.sides side).lines_read.terminator;
       clean = t.between.clean;
     }
 
@@ -91,7 +94,8 @@ pub returns-in_err-merge_in_blocks : goal.returns-in_err-merge_in_blocks
 returns-in_err-merge_in_blocks g c =
     let i = c.steps.invariant in
     fails i c.from_residual-in_err-merge_in_blocks.ensures.1
-    (blocks_fail i.iteration.here i.iteration.between c.in_err-merge_in_blocks.ensures.merges refl)
+    (blocks_fail i.iteration.here i.iteration.between
+    (blocks_joined (join_job c.args.job.now) i.iteration.keys c.in_err-merge_in_blocks.ensures.merges) refl)
 
 pub step-requires : goal.step-requires
 step-requires g c =
@@ -290,6 +294,7 @@ steps-smaller g c =
     let pair = c.in_ok-write_pairs-in-Both.ensures.advances in
     reads_once (fewer_after (reads_less wrote.between _ pair.continues (write_pairs_pre wrote).status_is.head pair.came)
     c.pairs.invariant.fewer
-    (reads_less read.between _ line.continues (read_group_pre read).head line.reads_line.1.came) c.lines.invariant.fewer)
+    (reads_less read.between _ line.continues (read_group_pre read).head line.reads_line.1.came)
+    c.lines.invariant.fewer)
     (blocks_read c.steps.invariant.iteration.here c.steps.invariant.iteration.between
     (by_blocks g (goal.at.steps-smaller g c).After-step).0)

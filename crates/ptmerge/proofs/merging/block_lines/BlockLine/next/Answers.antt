@@ -7,4 +7,12 @@ use proofs.merging.block_lines.BlockLine.next.Goals as goal
 
 pub returns : goal.returns
 returns g c = let n = near_line _ _ _ _ c.in_ok-size.ensures in
-    record { bytes = grind (usual, n.bytes); whole = n.whole; short = omega (arith, n.short); ordered = grind usual; same = grind usual; span = c.span-span.ensures; passed = refl }
+    record {
+      bytes = grind (usual, n.bytes);
+      whole = n.whole;
+      short = omega (arith, n.short);
+      ordered = grind usual;
+      same = grind usual;
+      key_is = c.key-key.ensures;
+      passed = refl;
+    }

@@ -10,7 +10,8 @@ pub returns-clause-resumes : goal.returns-clause-resumes
 returns-clause-resumes g c =
     let fits = c.requires.fits in
     let on = own_on c.args.reader.now c.args.self.now.number c.args.at.passed
-    (length c.args.reader.now.buffered - c.args.at.left) c.buffered.ensures.sound fits.own_reader.clean fits.own_reader.counted
+    (length c.args.reader.now.buffered - c.args.at.left) c.buffered.ensures.sound fits.own_reader.clean
+    fits.own_reader.counted
     (omega (arith, fits.within)) (omega arith) in
     elim c.if-at-gt0.branch [
       | then-at-gt0 w ↦ record {

@@ -3,7 +3,7 @@
 use Rattle.ptmerge.proofs
 use proofs.Common.{ap, join_job}
 use proofs.JoinLemmas.Fields.{alone_is, one_line_is}
-use proofs.tools.join.output.write_alone.Goals as goal
+use proofs.tools.join.output.write_unpaired_line.Goals as goal
 
 pub returns-then-is_unchanged : goal.returns-then-is_unchanged
 returns-then-is_unchanged g c =
@@ -14,4 +14,5 @@ returns-then-is_unchanged g c =
 pub returns : goal.returns
 returns g c =
     let alone = c.alone-entry.ensures in
-    rw (one_line_is c.args.side c.args.line.now _ _ (ap join_job alone.job) alone.key alone.lines) at c.write_entry.ensures
+    rw (one_line_is c.args.side c.args.line.now _ _ (ap join_job alone.job) alone.key alone.lines)
+    at c.write_entry.ensures

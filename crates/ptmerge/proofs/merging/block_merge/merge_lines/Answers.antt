@@ -1,0 +1,131 @@
+-- Each arm passes one line, or one of each input.
+use Rattle.ptmerge.proofs
+use proofs.Common.{sym, ◌∙◌, ap, arith, is_gt, First, Second, both}
+use proofs.MergeLemmas.{less_flips, IsKeyOrder}
+use proofs.BlockLemmas.{alone_passes, merge_starts, pair_passes, pairs_or_new, run_failed, step_on}
+use proofs.merging.block_merge.merge_lines.Goals as goal
+
+pub lines-init : goal.lines-init
+lines-init g c =
+    let law = g.met.K.KeyOrder in
+    let o : IsKeyOrder _ = record { total = law.total c.args.order.now; exact = law.exact c.args.order.now } in
+    merge_starts _ o c.requires.begins c.requires.clean
+
+pub next-requires-clause-passed : goal.next-requires-clause-passed
+next-requires-clause-passed g c = c.lines.invariant.in_block First
+
+pub next-requires-clause-key : goal.next-requires-clause-key
+next-requires-clause-key g c = c.lines.invariant.key_is First
+
+pub next-requires-in-Greater-clause-passed : goal.next-requires-in-Greater-clause-passed
+next-requires-in-Greater-clause-passed g c = c.lines.invariant.in_block Second
+
+pub next-requires-in-Greater-clause-key : goal.next-requires-in-Greater-clause-key
+next-requires-in-Greater-clause-key g c = c.lines.invariant.key_is Second
+
+pub next-requires-in-Equal-clause-passed : goal.next-requires-in-Equal-clause-passed
+next-requires-in-Equal-clause-passed g c = c.lines.invariant.in_block First
+
+pub next-requires-in-Equal-clause-key : goal.next-requires-in-Equal-clause-key
+next-requires-in-Equal-clause-key g c = c.lines.invariant.key_is First
+
+pub next-requires-in-Equal-2-clause-passed : goal.next-requires-in-Equal-2-clause-passed
+next-requires-in-Equal-2-clause-passed g c = c.lines.invariant.in_block Second
+
+pub next-requires-in-Equal-2-clause-key : goal.next-requires-in-Equal-2-clause-key
+next-requires-in-Equal-2-clause-key g c = c.lines.invariant.key_is Second
+
+pub write_alone-requires-clause-key : goal.write_alone-requires-clause-key
+write_alone-requires-clause-key g c = sym (c.lines.invariant.key_is First ∙ c.requires.tool.keys First _)
+
+pub write_alone-requires-in-Greater-clause-key : goal.write_alone-requires-in-Greater-clause-key
+write_alone-requires-in-Greater-clause-key g c = sym (c.lines.invariant.key_is Second ∙ c.requires.tool.keys Second _)
+
+pub write_both-requires-clause-one : goal.write_both-requires-clause-one
+write_both-requires-clause-one g c = sym (c.lines.invariant.key_is First ∙ c.requires.tool.keys First _)
+
+pub write_both-requires-clause-two : goal.write_both-requires-clause-two
+write_both-requires-clause-two g c =
+    sym (g.met.K.KeyOrder.exact c.args.order.now _ _ (grind arith) ∙ c.lines.invariant.key_is Second
+    ∙ c.requires.tool.keys Second _)
+
+pub lines-preserved-in-Less : goal.lines-preserved-in-Less
+lines-preserved-in-Less g c =
+    let i = c.lines.invariant in
+    let law = g.met.K.KeyOrder in
+    let o : IsKeyOrder (g.K.KeyOrder.order c.args.order.now) = record { total = law.total _; exact = law.exact _ } in
+    step_on _ o c.requires.tool.alone.none
+    (alone_passes _ _ _ o c.requires.tool First {now = both c.lines.one c.lines.two}
+    (i.key_is First) (i.key_is Second) (ap is_gt (less_flips _ o _ _ (grind arith)))
+    (rw c.requires.ends at c.write_alone.ensures.wrote) (rw c.requires.ends at c.in-Some.ensures))
+    i (c.in-Ok.ensures.clean i.clean)
+
+pub returns-in_default-write_alone : goal.returns-in_default-write_alone
+returns-in_default-write_alone g c =
+    let i = c.lines.invariant in
+    let law = g.met.K.KeyOrder in
+    let o : IsKeyOrder (g.K.KeyOrder.order c.args.order.now) = record { total = law.total _; exact = law.exact _ } in
+    run_failed _ o c.failed.ensures i
+    (alone_passes _ _ _ o c.requires.tool First {now = both c.lines.one c.lines.two}
+    (i.key_is First) (i.key_is Second) (ap is_gt (less_flips _ o _ _ (grind arith)))
+    (rw c.requires.ends at c.write_alone.ensures.wrote) (rw c.requires.ends at c.in-Some.ensures))
+    (grind arith)
+
+pub lines-preserved-in-Greater : goal.lines-preserved-in-Greater
+lines-preserved-in-Greater g c =
+    let i = c.lines.invariant in
+    let law = g.met.K.KeyOrder in
+    let o : IsKeyOrder (g.K.KeyOrder.order c.args.order.now) = record { total = law.total _; exact = law.exact _ } in
+    step_on _ o c.requires.tool.alone.none
+    (alone_passes _ _ _ o c.requires.tool Second {now = both c.lines.one c.lines.two}
+    (i.key_is Second) (i.key_is First) (grind arith)
+    (rw c.requires.ends at c.write_alone-in-Greater.ensures.wrote) (rw c.requires.ends at c.in-Some-next.ensures))
+    i (c.in-Ok-write_alone.ensures.clean i.clean)
+
+pub returns-in_default-write_alone-2 : goal.returns-in_default-write_alone-2
+returns-in_default-write_alone-2 g c =
+    let i = c.lines.invariant in
+    let law = g.met.K.KeyOrder in
+    let o : IsKeyOrder (g.K.KeyOrder.order c.args.order.now) = record { total = law.total _; exact = law.exact _ } in
+    run_failed _ o c.failed-in_default-write_alone-2.ensures i
+    (alone_passes _ _ _ o c.requires.tool Second {now = both c.lines.one c.lines.two}
+    (i.key_is Second) (i.key_is First) (grind arith)
+    (rw c.requires.ends at c.write_alone-in-Greater.ensures.wrote) (rw c.requires.ends at c.in-Some-next.ensures))
+    (grind arith)
+
+pub lines-preserved : goal.lines-preserved
+lines-preserved g c =
+    let i = c.lines.invariant in
+    let law = g.met.K.KeyOrder in
+    let o : IsKeyOrder (g.K.KeyOrder.order c.args.order.now) = record { total = law.total _; exact = law.exact _ } in
+    step_on _ o c.requires.tool.alone.none (pair_passes _ _ _ o c.requires.tool {now = both c.lines.one c.lines.two}
+    {next = both c.in-Some-next-2.next1 c.in-Some-next-3.next2}
+    (i.key_is First) (i.key_is Second) (law.exact c.args.order.now _ _ (grind arith))
+    (rw c.requires.ends at c.write_both.ensures.wrote)
+    (elim [
+      | First ↦ rw c.requires.ends at c.in-Some-next-2.ensures
+      | Second ↦ rw c.requires.ends at c.in-Some-next-3.ensures
+    ])
+    (pairs_or_new c.is_pair_by_pair-by_pairs.result (both c.in-Some-next-2.next1 c.in-Some-next-3.next2)
+    c.is_pair_by_pair-by_pairs.ensures
+    (λ none. (grind arith, grind arith))))
+    i (c.in-Ok-write_both.ensures.clean i.clean)
+
+pub returns-in_default-write_both : goal.returns-in_default-write_both
+returns-in_default-write_both g c =
+    let i = c.lines.invariant in
+    let law = g.met.K.KeyOrder in
+    let o : IsKeyOrder (g.K.KeyOrder.order c.args.order.now) = record { total = law.total _; exact = law.exact _ } in
+    run_failed _ o c.failed-in_default-write_both.ensures i
+    (pair_passes _ _ _ o c.requires.tool {now = both c.lines.one c.lines.two}
+    {next = both c.in-Some-next-2.next1 c.in-Some-next-3.next2}
+    (i.key_is First) (i.key_is Second) (law.exact c.args.order.now _ _ (grind arith))
+    (rw c.requires.ends at c.write_both.ensures.wrote)
+    (elim [
+      | First ↦ rw c.requires.ends at c.in-Some-next-2.ensures
+      | Second ↦ rw c.requires.ends at c.in-Some-next-3.ensures
+    ])
+    (pairs_or_new c.is_pair_by_pair-by_pairs.result (both c.in-Some-next-2.next1 c.in-Some-next-3.next2)
+    c.is_pair_by_pair-by_pairs.ensures
+    (λ none. (grind arith, grind arith))))
+    (grind arith)

@@ -1,0 +1,30 @@
+use Rattle.ptmerge.proofs
+use proofs.Common.{sym, ◌∙◌}
+use proofs.MergeLemmas.{IsKeyOrder}
+use proofs.BlockLemmas.{line_pushed}
+use proofs.PassLemmas.{passes_on, passing_starts}
+use proofs.merging.block_merge.pass_lines.Goals as goal
+
+pub lines-init : goal.lines-init
+lines-init g c =
+    let law = g.met.K.KeyOrder in
+    let o : IsKeyOrder _ = record { total = law.total c.args.order.now; exact = law.exact c.args.order.now } in
+    passing_starts _ o c.args.side c.requires.begins c.requires.clean
+
+pub next-requires-clause-passed : goal.next-requires-clause-passed
+next-requires-clause-passed g c = c.lines.invariant.in_block
+
+pub next-requires-clause-key : goal.next-requires-clause-key
+next-requires-clause-key g c = c.lines.invariant.key_is
+
+pub write_alone-requires-clause-key : goal.write_alone-requires-clause-key
+write_alone-requires-clause-key g c = sym (c.lines.invariant.key_is ∙ c.requires.tool.keys c.args.side _)
+
+pub lines-preserved : goal.lines-preserved
+lines-preserved g c =
+    let i = c.lines.invariant in
+    let law = g.met.K.KeyOrder in
+    let o : IsKeyOrder (g.K.KeyOrder.order c.args.order.now) = record { total = law.total _; exact = law.exact _ } in
+    passes_on _ o c.requires.tool.alone c.args.side i (rw c.requires.ends at c.in-Some.ensures)
+    (line_pushed _ _ _ o c.requires.tool c.args.side i.key_is (rw c.requires.ends at c.write_alone.ensures.wrote))
+    (c.in-Ok.ensures.clean i.clean)

@@ -1,0 +1,261 @@
+//! The merge of the lines that end in the blocks of both readers, for any tool: `MergeWriter` is what a tool writes.
+
+ghost use Rattle.std.specs.Prelude.{◌≡◌, ◌∷◌, [], true, false};
+ghost use Rattle.ptlines.specs.Text.{unlines};
+ghost use Rattle.ptmerge.specs.Calls.MergeCall.{merge_state};
+ghost use Rattle.ptmerge.specs.Calls.MergeSpec.{MergeTool};
+ghost use Rattle.ptmerge.specs.Calls.MergeSteps.{AreValidCursors};
+ghost use Rattle.ptmerge.specs.Calls.Sides.{both, other};
+ghost use Rattle.ptmerge.specs.Private.BlockLines.{BlockRunPost, CanMerge, IsBlockTool, IsPairByPair};
+ghost use Rattle.ptmerge.specs.Private.BlockLines.{LineRunPost, entries_alone, in_order};
+ghost use Rattle.ptmerge.specs.Private.Passed.{AreBlocksMerged, AreReady, BlocksPost, IsBlockPassed};
+ghost use Rattle.ptmerge.specs.Private.Write.{WriteBytesPost};
+ghost use Rattle.ptmerge.specs.Private.WriteAndAdvance.{AdvancePre};
+ghost use Rattle.ptmerge.specs.declared.key_order.Side.{Side as SideType};
+ghost use Rattle.ptmerge.specs.declared.key_order.Side.TheVariants as sides;
+ghost use Rattle.ptmerge.specs.declared.merging.cursor.CursorStatus.TheVariants as status_is;
+
+use crate::faults::MergeFault;
+use crate::key_order::Side::{First, Second};
+use crate::key_order::{KeyOrder, Side};
+use crate::merging::block_lines::{BlockLine, BlockRun, LineRun};
+use crate::merging::{Merge, ShortHeads};
+use ptlines::{LineReader, Out, Sink, Source, Store, WriteFault};
+use std::alloc::Allocator;
+use std::cmp::Ordering;
+
+/// What a tool that merges two inputs writes for their lines.
+pub(crate) trait MergeWriter: Copy {
+    /// The tool. Its lines may also be in another order of the same keys.
+    ghost tool: { Self → MergeTool };
+
+    /// Checks whether the output for a key with several lines is that of a line of each input, and then that of the
+    /// others.
+    fn is_pair_by_pair(self) -> bool
+        ensures { result ≡ true → IsPairByPair (tool self).entries };
+
+    /// Writes the output for a line with a key that the other input does not have.
+    fn write_alone<W: Sink>(
+        self,
+        side: Side,
+        key: &[u8],
+        line: &[u8],
+        terminator: u8,
+        out: &mut Out<W>,
+    ) -> Result<(), WriteFault>
+        requires key { (tool self).key side line.now ≡ key.now }
+        requires clean { out.old.write_failed ≡ false }
+        ensures { let entries = entries_alone (tool self).entries side key.now line.now in
+            WriteBytesPost out.old out.new (unlines terminator entries) result };
+
+    /// Writes the output for a line of each input, both with this key.
+    fn write_both<W: Sink>(
+        self,
+        key: &[u8],
+        one: &[u8],
+        two: &[u8],
+        terminator: u8,
+        out: &mut Out<W>,
+    ) -> Result<(), WriteFault>
+        requires one { (tool self).key sides.First one.now ≡ key.now }
+        requires two { (tool self).key sides.Second two.now ≡ key.now }
+        requires clean { out.old.write_failed ≡ false }
+        ensures { let entries = (tool self).entries key.now (one.now ∷ []) (two.now ∷ []) in
+            WriteBytesPost out.old out.new (unlines terminator entries) result };
+}
+
+// Merges the lines of two blocks, up to the first line that is not near the line before it or is out of order. If the
+// tool does not write pair by pair, this also ends before a key with several lines of an input. Inlined, so that keys
+// that are whole lines take no registers.
+#[inline(always)]
+fn merge_lines<K: KeyOrder, T: MergeWriter, W: Sink>(
+    order: &K,
+    tool: T,
+    terminator: u8,
+    first: BlockLine,
+    second: BlockLine,
+    out: &mut Out<W>,
+) -> BlockRun
+    requires ends { terminator ≡ (T.tool tool).terminator }
+    requires tool { IsBlockTool (T.tool tool) (K.key_of order.now) }
+    requires begins { (side : SideType) → CanMerge (K.key_of order.now side) (both first second side) }
+    requires clean { out.old.write_failed ≡ false }
+    ensures { let tool = in_order (T.tool tool) (K.order order.now) (K.key_of order.now) in
+        BlockRunPost tool (both first.entry second.entry) result out.old out.new }
+{
+    let by_pairs = tool.is_pair_by_pair();
+    let (mut one, mut two) = (first, second);
+    'lines: loop {
+        match order.cmp(one.key, two.key) {
+            Ordering::Less => {
+                let Some(next) = one.next(order, First, terminator) else {
+                    return BlockRun::stopped(one, two);
+                };
+                let Ok(()) = tool.write_alone(First, one.key, one.head, terminator, out) else {
+                    return BlockRun::failed(next, two);
+                };
+                one = next;
+            }
+            Ordering::Greater => {
+                let Some(next) = two.next(order, Second, terminator) else {
+                    return BlockRun::stopped(one, two);
+                };
+                let Ok(()) = tool.write_alone(Second, two.key, two.head, terminator, out) else {
+                    return BlockRun::failed(one, next);
+                };
+                two = next;
+            }
+            Ordering::Equal => {
+                let Some(next1) = one.next(order, First, terminator) else {
+                    return BlockRun::stopped(one, two);
+                };
+                let Some(next2) = two.next(order, Second, terminator) else {
+                    return BlockRun::stopped(one, two);
+                };
+                if !by_pairs && (next1.same || next2.same) {
+                    return BlockRun::stopped(one, two);
+                }
+                let Ok(()) = tool.write_both(one.key, one.head, two.head, terminator, out) else {
+                    return BlockRun::failed(next1, next2);
+                };
+                one = next1;
+                two = next2;
+            }
+        }
+    }
+}
+
+// Merges the lines of both blocks where they are.
+#[inline(never)]
+fn merge_blocks<K: KeyOrder, T: MergeWriter, A: Allocator + Copy, S: Source, R: Source, W: Sink>(
+    merge: &mut Merge<K>,
+    tool: T,
+    first: &mut LineReader<S, R>,
+    second: &mut LineReader<S, R>,
+    store: &mut Store<A>,
+    out: &mut Out<W>,
+) -> Result<(), MergeFault>
+    requires tool { IsBlockTool (T.tool tool) (K.key_of merge.old.order) }
+    requires valid_cursors { AreValidCursors (K.key_of merge.old.order) merge.old.first merge.old.second store.old }
+    requires ready { AreReady (T.tool tool).terminator (both merge.old.first merge.old.second)
+        (both first.old second.old) out.old }
+    requires heads { (side : SideType) → (both merge.old.first merge.old.second side).status ≡ status_is.Head }
+    ensures merges { let tool = in_order (T.tool tool) (K.order merge.old.order) (K.key_of merge.old.order) in
+        let was = merge_state first.old second.old out.old store.old in
+        let is = merge_state first.new second.new out.new store.new in
+        AreBlocksMerged tool (both merge.old.first merge.old.second) (both merge.new.first merge.new.second) was is
+        result }
+    ensures order { merge.new.order ≡ merge.old.order }
+    ensures valid_cursors { AreValidCursors (K.key_of merge.new.order) merge.new.first merge.new.second store.new }
+{
+    let one = merge.block_line(First, first, store);
+    let two = merge.block_line(Second, second, store);
+    let run = merge_lines(merge.order(), tool, first.terminator(), one, two, out);
+    merge.resume_both(run, first, second, store)
+}
+
+// Passes the lines of a block, while the other input has ended, up to the first line that is not near the line before
+// it or is out of order.
+#[inline(always)]
+fn pass_lines<K: KeyOrder, T: MergeWriter, W: Sink>(
+    order: &K,
+    tool: T,
+    side: Side,
+    terminator: u8,
+    first: BlockLine,
+    out: &mut Out<W>,
+) -> LineRun
+    requires ends { terminator ≡ (T.tool tool).terminator }
+    requires tool { IsBlockTool (T.tool tool) (K.key_of order.now) }
+    requires begins { CanMerge (K.key_of order.now side) first }
+    requires clean { out.old.write_failed ≡ false }
+    ensures { let tool = in_order (T.tool tool) (K.order order.now) (K.key_of order.now) in
+        LineRunPost tool side first.entry result out.old out.new }
+{
+    let mut line = first;
+    'lines: loop {
+        let Some(next) = line.next(order, side, terminator) else {
+            return LineRun {
+                at: line.reached(),
+                failed: false,
+            };
+        };
+        let Ok(()) = tool.write_alone(side, line.key, line.head, terminator, out) else {
+            return LineRun {
+                at: next.reached(),
+                failed: true,
+            };
+        };
+        line = next;
+    }
+}
+
+// Passes the lines of an input's block where they are, while the other input has ended.
+#[inline(never)]
+fn pass_block<K: KeyOrder, T: MergeWriter, A: Allocator + Copy, S: Source, R: Source, W: Sink>(
+    merge: &mut Merge<K>,
+    tool: T,
+    side: Side,
+    reader: &mut LineReader<S, R>,
+    store: &mut Store<A>,
+    out: &mut Out<W>,
+) -> Result<(), MergeFault>
+    requires tool { IsBlockTool (T.tool tool) (K.key_of merge.old.order) }
+    requires status_is { let key = K.key_of merge.old.order in
+        AdvancePre key side merge.old.first merge.old.second reader.old store.old }
+    requires ends { reader.old.terminator ≡ (T.tool tool).terminator }
+    requires clean { out.old.write_failed ≡ false }
+    ensures passes { let tool = in_order (T.tool tool) (K.order merge.old.order) (K.key_of merge.old.order) in
+        let was = both merge.old.first merge.old.second side in
+        let is = both merge.new.first merge.new.second side in
+        IsBlockPassed tool side was is reader.old reader.new store.old store.new out.old out.new result }
+    ensures others { both merge.new.first merge.new.second (other side)
+        ≡ both merge.old.first merge.old.second (other side) }
+    ensures order { merge.new.order ≡ merge.old.order }
+    ensures valid_cursors { AreValidCursors (K.key_of merge.new.order) merge.new.first merge.new.second store.new }
+{
+    let line = merge.block_line(side, reader, store);
+    let run = pass_lines(merge.order(), tool, side, reader.terminator(), line, out);
+    merge.resume(side, run.at, reader, store);
+    if run.failed {
+        return Err(MergeFault::Write);
+    }
+    Ok(())
+}
+
+// Merges the lines of both blocks, if both inputs are at lines of fewer than 64 bytes, and after such lines. If one
+// input has ended, this passes those of the other.
+#[inline(always)]
+pub(crate) fn merge_in_blocks<
+    K: KeyOrder,
+    T: MergeWriter,
+    A: Allocator + Copy,
+    S: Source,
+    R: Source,
+    W: Sink,
+>(
+    merge: &mut Merge<K>,
+    tool: T,
+    first: &mut LineReader<S, R>,
+    second: &mut LineReader<S, R>,
+    store: &mut Store<A>,
+    out: &mut Out<W>,
+) -> Result<(), MergeFault>
+    requires tool { IsBlockTool (T.tool tool) (K.key_of merge.old.order) }
+    requires valid_cursors { AreValidCursors (K.key_of merge.old.order) merge.old.first merge.old.second store.old }
+    requires ready { AreReady (T.tool tool).terminator (both merge.old.first merge.old.second)
+        (both first.old second.old) out.old }
+    ensures merges { let tool = in_order (T.tool tool) (K.order merge.old.order) (K.key_of merge.old.order) in
+        let was = merge_state first.old second.old out.old store.old in
+        let is = merge_state first.new second.new out.new store.new in
+        BlocksPost tool (both merge.old.first merge.old.second) (both merge.new.first merge.new.second) was is result }
+    ensures order { merge.new.order ≡ merge.old.order }
+    ensures valid_cursors { AreValidCursors (K.key_of merge.new.order) merge.new.first merge.new.second store.new }
+{
+    match merge.short_heads(store) {
+        ShortHeads::Both => merge_blocks(merge, tool, first, second, store, out),
+        ShortHeads::Only(First) => pass_block(merge, tool, First, first, store, out),
+        ShortHeads::Only(Second) => pass_block(merge, tool, Second, second, store, out),
+        ShortHeads::Neither => Ok(()),
+    }
+}
