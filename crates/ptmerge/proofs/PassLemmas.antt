@@ -1,4 +1,5 @@
--- The lines of one input that are passed in its block, after the end of the other input.
+-- The lines of one input that are passed in its block, after the end of the other input: they come first in the merge,
+-- the loop over them keeps its invariant, and the input goes on after them.
 use Rattle.ptmerge.proofs
 use Rattle.ptmerge.specs
 use proofs.Common.{◌≡◌, inl, ℕ, List, [], ◌∷◌, ◌++◌, Bool, refl, sym, ◌∙◌, ap, false, append_assoc, append-nil}

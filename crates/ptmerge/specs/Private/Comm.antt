@@ -1,4 +1,4 @@
--- The columns of the output of `comm`.
+-- The columns of the output of `comm`: whether each is hidden, the tabs before its lines, and its output lines.
 use Rattle.std.specs.Prelude.{◌≡◌, ℕ, List, [], Bool}
 use Rattle.ptlangs.specs.Jobs.{Comm}
 use Rattle.ptmerge.specs.Comm.{column_entries, tab_if_shown}

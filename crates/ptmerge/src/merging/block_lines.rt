@@ -1,6 +1,6 @@
 //! Lines of the inputs of a merge that end in the blocks of their readers, and are merged there without a copy in the
-//! store. `BlockLine` is the line reached in one block, with its key and the step to the next line; `BlockRun` is
-//! where a merge of two blocks ended. The loops of that merge are in `tools`.
+//! store. `BlockLine` is the line reached in one block, with its key and the step to the next line; `BlockRun` and
+//! `LineRun` are where a merge of two blocks, or of one, ended. The loops are in `block_merge`.
 
 ghost use Rattle.std.specs.Prelude.{◌≡◌, IfSome, true, false};
 ghost use Rattle.ptmerge.specs.Calls.Sides.{both};

@@ -1,4 +1,5 @@
-//! The merge of the lines that end in the blocks of both readers, for any tool: `MergeWriter` is what a tool writes.
+//! The merge of the lines that end in the blocks of both readers, or of one after the end of the other input, for any
+//! tool: `MergeWriter` is what a tool writes.
 
 ghost use Rattle.std.specs.Prelude.{◌≡◌, ◌∷◌, [], true, false};
 ghost use Rattle.ptlines.specs.Text.{unlines};

@@ -1,4 +1,4 @@
-//! The columns of the output of `comm`.
+//! The columns of the output of `comm` (`Column`), and what `comm` writes of the lines of a merge.
 
 ghost use Rattle.std.specs.Prelude.{◌≡◌, ◌++◌, false};
 ghost use Rattle.ptlangs.specs.Jobs.{comm_job};

@@ -1,3 +1,5 @@
+-- Answers for `merge_blocks`: what the calls require, that both inputs can go on from where the loop ended, and the
+-- contract, which is put together from those of the calls.
 use Rattle.ptmerge.proofs
 use proofs.Common.{◌∙◌, First, Second}
 use proofs.BlockLemmas.{can_resume_both}

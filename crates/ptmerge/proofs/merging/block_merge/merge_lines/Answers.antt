@@ -1,4 +1,5 @@
--- Each arm passes one line, or one of each input.
+-- Answers for `merge_lines`: its loop at the start, after each arm, which passes one line or one of each input, and at its
+-- exits, where no line is near or a write has failed.
 use Rattle.ptmerge.proofs
 use proofs.Common.{sym, ◌∙◌, ap, arith, is_gt, First, Second, both}
 use proofs.MergeLemmas.{less_flips, IsKeyOrder}

@@ -1,3 +1,5 @@
+-- Answers for `pass_lines`: its loop at the start, after one more line, and at its exits, where no line is near or a
+-- write has failed.
 use Rattle.ptmerge.proofs
 use proofs.Common.{sym, ◌∙◌}
 use proofs.MergeLemmas.{IsKeyOrder}

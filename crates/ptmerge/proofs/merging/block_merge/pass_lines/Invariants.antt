@@ -1,4 +1,4 @@
--- The lines before the current one are passed.
+-- The loop of `pass_lines`: the lines before the current one are passed and written.
 use Rattle.ptmerge.proofs
 use proofs.Common.{length}
 use Rattle.ptmerge.specs.Private.BlockLines.{ArePassedAlone, in_order}

@@ -1,4 +1,4 @@
--- The match is in the window, or after it, or there is none.
+-- Answers for `ByteMatches::after_nth`: the n-th match is in the window, or after it, or there is none.
 use Rattle.ptflow.proofs
 use proofs.Common.{arith, is_byte, refl}
 use proofs.Vectors.FindNth.{window_counted, nth_in_window, window_inside, after_in_window, after_all, count_up_to}

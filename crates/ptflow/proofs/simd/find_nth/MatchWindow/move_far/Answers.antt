@@ -1,4 +1,5 @@
--- A window with too few matches is skipped; otherwise a bit of its mask is the match.
+-- Answers for `MatchWindow::move_far`: a window with too few matches is skipped, and otherwise a bit of its mask is the
+-- match.
 use Rattle.ptflow.proofs
 use proofs.Common.{◌+◌, arith, usual, ones-mask_l, is_byte}
 use proofs.Vectors.FindNth.{count_chunk, full_window, window_counted, nth_in_window, window_inside, after_in_window}

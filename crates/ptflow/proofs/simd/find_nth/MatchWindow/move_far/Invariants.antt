@@ -1,4 +1,4 @@
--- `left` matches are still to be skipped.
+-- The loop of `MatchWindow::move_far`: so many matches are still to be skipped.
 use Rattle.ptflow.proofs
 use proofs.Common.{◌≡◌, ◌≤◌, ◌+◌, ◌-◌, length, take, count_by, is_byte}
 use proofs.simd.find_nth.MatchWindow.move_far.Given as goal

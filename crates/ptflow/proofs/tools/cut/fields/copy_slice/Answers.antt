@@ -1,4 +1,4 @@
--- The vector begins with the slice.
+-- Answers for `copy_slice`: the vector that is stored begins with the slice.
 use Rattle.ptflow.proofs
 use proofs.Common.{arith, length-chunk, take_more_put_chunk}
 use Rattle.ptlines.proofs.CopyFacts.{copied_prefix}
