@@ -658,7 +658,8 @@ merge_without_slots {tool} {old} w {new} same_output unread slots =
       split = refl;
     } in
     record {
-      call = call_without_slots both_sides (merge_engine tool) old new w.writable same_output (λ side read. refl) (search rules)
+      call = call_without_slots both_sides (merge_engine tool) old new w.writable same_output (λ side read. refl)
+          (search rules)
           (λ side none. cc) (λ side read. w.sound side) (λ side read. w.unfailed side) slots.denied slots.peak
           slots.least slots.few (λ texts. omega arith)
           (λ side read. decided_by w.o (given_before old) lag seen side (point side)

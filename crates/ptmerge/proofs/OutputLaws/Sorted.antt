@@ -1,4 +1,5 @@
--- The output of sorted texts is the entries of all keys; and a merge by whole lines is `comm`, one by join fields `join`.
+-- The output of sorted texts is the entries of all keys; and a merge by whole lines is `comm`, one by join fields
+-- `join`.
 use Rattle.ptmerge.proofs
 use Rattle.ptmerge.specs
 use Rattle.std.proofs.Common.{◌≡◌, refl, ap, map, ◌∙◌, ◌++◌}
@@ -29,7 +30,8 @@ comm_of_sorted job first second e =
     let tool = comm_tool job in
     let a = lines job.terminator first in
     let b = lines job.terminator second in
-    let of_keys : Lines → Lines = λ ks. flat_map (entries_of_key tool (both a b)) (distinct_keys (line_cmp job.descending) ks) in
+    let of_keys : Lines → Lines =
+    λ ks. flat_map (entries_of_key tool (both a b)) (distinct_keys (line_cmp job.descending) ks) in
     ap (unlines job.terminator) (in_order tool (line_order job.descending) (both a b) e
     ∙ ap of_keys (whole_lines a b))
 

@@ -68,7 +68,16 @@ pub lines_read_more : {end : ℕ} {old now new : Reader} {ls : List (List ℕ)} 
 lines_read_more {end} {old} {now} {new} c e =
     record {
       given = c.given ++ (e.line ++ e.terminator);
-      so_far = search (rules, done_gives_nothing, unlines_push, AreLines_push, lines_of_unlines, lines_of_last, append-nil, length-append);
+      so_far = search (
+        rules,
+        done_gives_nothing,
+        unlines_push,
+        AreLines_push,
+        lines_of_unlines,
+        lines_of_last,
+        append-nil,
+        length-append,
+      );
       advance_ok = advance_ok_trans old now new _ _ c.advance_ok e.advance_ok;
       terminator = grind arith;
     }

@@ -46,8 +46,11 @@ fn copy_to_group<A: Allocator + Copy>(
     Ok(next)
 }
 
-// The second input's lines of one key. Those that were copied are in the slots from 4 to before `end`. If none was, the
-// group is the input's previous line, which stays in the slot into which it was read.
+// The first slot of a group: those before it are the slots of the merge.
+const FIRST_SLOT: usize = 4;
+
+// The second input's lines of one key. Those that were copied are in the slots from `FIRST_SLOT` to before `end`. If
+// none was, the group is the input's previous line, which stays in the slot into which it was read.
 #[derive(Clone, Copy)]
 pub(crate) struct Group {
     end: usize,
@@ -59,7 +62,7 @@ impl Group {
     pub(crate) fn new() -> Group
         ensures { result.end ≡ 4 }
     {
-        Group { end: 4 }
+        Group { end: FIRST_SLOT }
     }
 
     // Advances the second input, and copies its previous line, if a group is to be kept and that line is not the only
@@ -86,7 +89,7 @@ impl Group {
     {
         merge.write_out_and_advance(Side::Second, reader, store, out)?;
         let has_more = merge.has_same_key(Side::Second);
-        if keep && (has_more || self.end > 4) {
+        if keep && (has_more || self.end > FIRST_SLOT) {
             match copy_to_group(store, merge.previous_slot_of(Side::Second), self.end) {
                 Ok(next) => self.end = next,
                 Err(_) => return Err(MergeFault::Memory),
@@ -102,11 +105,11 @@ impl Group {
         ensures first { result.start ≡ group_first_slot merge.now.second self.end }
         ensures last { result.end ≡ group_end_slot merge.now.second self.end }
     {
-        if self.end == 4 {
+        if self.end == FIRST_SLOT {
             let only = merge.previous_slot_of(Side::Second);
             return only..only + 1;
         }
-        4..self.end
+        FIRST_SLOT..self.end
     }
 
     // Empties the slots of the copied lines.
@@ -115,7 +118,7 @@ impl Group {
         requires { (4 ≤ self.end) × (self.end ≤ length store.old.lines) }
         ensures { ClearGroupPost store.old store.new self.end }
     {
-        for slot in 4..self.end {
+        for slot in FIRST_SLOT..self.end {
             store.clear(slot);
         }
     }

@@ -9,16 +9,16 @@ use proofs.tools.join.output.write_listed_fields.Goals as goal
 pub returns-in_err-add : goal.returns-in_err-add
 returns-in_err-add g c =
     let e = c.args.entry.now in
-    let whole = entry_listed (join_job e.job.now) e.key.now (option_copied e.one) (option_copied e.two) c.args.items.now _
-    c.in-len1-up.len_at_least c.item_or_filler.ensures in
+    let whole = entry_listed (join_job e.job.now) e.key.now (option_copied e.one) (option_copied e.two)
+    c.args.items.now _ c.in-len1-up.len_at_least c.item_or_filler.ensures in
     first_piece_fails _ _ _ _ c.new-row.ensures whole c.add.ensures.split c.add.ensures.wrote.wrote
     c.in_err-add.ensures.wrote.fault _ c.from_residual.ensures.1
 
 pub items-init : goal.items-init
 items-init g c =
     let e = c.args.entry.now in
-    let whole = entry_listed (join_job e.job.now) e.key.now (option_copied e.one) (option_copied e.two) c.args.items.now _
-    c.in-len1-up.len_at_least c.item_or_filler.ensures in
+    let whole = entry_listed (join_job e.job.now) e.key.now (option_copied e.one) (option_copied e.two)
+    c.args.items.now _ c.in-len1-up.len_at_least c.item_or_filler.ensures in
     piece_added c.new-row.result _ _ _ (partial_starts (rw c.new-row.ensures whole)) refl c.add.ensures.split
     c.add.ensures.wrote.wrote (λ fine. c.in_ok-add.ensures.wrote.clean fine)
 
