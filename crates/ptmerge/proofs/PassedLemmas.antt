@@ -26,7 +26,7 @@ use proofs.MergeLemmas.{MergeInvariant, bounds_change, same_bound, reads_ahead, 
 use proofs.MergeLemmas.{state_by_side, Kept, kept_order, LoopInvariant, BetweenSteps, LagInvariant, AllWritten}
 use proofs.MergeLemmas.{exit_is_merge_post, fits_emptied, both_begun}
 use proofs.BlockLemmas.{at_heads, merged_on, step_written, RunLines, lines_merged, lines_failed, lines_of, passed_one}
-use proofs.PassLemmas.{line_added_to, line_written, passed_on, set_back, set_twice}
+use proofs.AloneLemmas.{line_added_to, line_written, passed_on, set_back, set_twice}
 use proofs.CommLemmas.{IterationInvariant}
 use Rattle.ptmerge.specs.declared.merging.block_lines.BlockLine.{BlockLine}
 use Rattle.std.specs.Prelude.{MatchBool, take}

@@ -4,7 +4,7 @@ use Rattle.ptmerge.proofs
 use proofs.Common.{sym, ◌∙◌}
 use proofs.MergeLemmas.{IsKeyOrder}
 use proofs.BlockLemmas.{line_pushed}
-use proofs.PassLemmas.{passes_on, passing_starts}
+use proofs.AloneLemmas.{passes_on, passing_starts}
 use proofs.merging.block_merge.pass_lines.Goals as goal
 
 pub lines-init : goal.lines-init
