@@ -1,13 +1,14 @@
 -- The n-th item of a list that passes a test: the lowest set bit of a mask of which the lowest n were cleared. Then
 -- counts of such items, and the n-th of them, in a chunk and in the first bytes, and by the first match. The
--- terminators in 64 bytes are processed in order by clearing the lowest bit (`NextTerminator`).
+-- terminators in 64 bytes are processed in order by clearing the lowest bit (`NextTerminator`). Last, a window of a list,
+-- which moves after an item as its mask is shifted.
 use Rattle.ptflow.proofs
 use Rattle.std.proofs.lemmas
 use proofs.Common.{◌≡◌, ℕ, zero, suc, ◌+◌, ◌-◌, ◌/◌, ◌%◌, ◌^◌, ◌<◌, ◌≤◌, Bool, true, false, cond, not}
 use proofs.Common.{Some, List, [], ◌∷◌, length, map, take, drop, get_or, refl, sym, ◌∙◌, ap, arith, get_or-take, usual}
 use proofs.Common.{count_ones, count_by, prefix_len, mask_l, chunk, take-add, take-take, length-take-le}
 use proofs.Common.{get_or-le-sum_by, sum_by-append, sum_by-take-le, ones-mask_l, get_or-chunk, length-chunk}
-use proofs.Common.{IsFirstByte, NoneBefore, Passes, is_byte, line_before_terminator, line_if_not_found, Nowhere, None}
+use proofs.Common.{IsFirstByte, NoneBefore, Passes, is_byte, Nowhere}
 use proofs.Common.{IsLine, byte_ne, IsNth, IsTerminatorMask, none_if_zero_mask, drop-drop, cases_lt, inl, inr}
 use proofs.Common.{length-drop, get_or-drop, take_all}
 use Rattle.ptflow.specs.Private.Vectors.FindNth.{IsMatchWindow, IsAfterNth}
@@ -195,10 +196,10 @@ module _ (p : ℕ → Bool) (bytes : List ℕ) where
     size : w.at + (w.end - w.at) ≤ length bytes
     size = omega (arith, is.order, is.within)
 
-    pub window_few : length part ≤ 64
+    window_few : length part ≤ 64
     window_few = omega (arith, length-chunk w.at (w.end - w.at) bytes size, is.few)
 
-    pub window_ones : count_ones w.mask ≡ count_by p part
+    window_ones : count_ones w.mask ≡ count_by p part
     window_ones = ap count_ones is.is ∙ ones-mask_l p part
 
     pub window_counted : count_by p (take w.end bytes) ≡ count_by p (take w.at bytes) + count_ones w.mask
