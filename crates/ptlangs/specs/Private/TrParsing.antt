@@ -20,7 +20,7 @@ use Rattle.ptlangs.specs.declared.tr.segments.Member.{Member}
 use Rattle.ptlangs.specs.declared.tr.segments.Segment.{Segment}
 use Rattle.ptlangs.specs.declared.tr.segments.Segment.TheVariants.{Class, Fill, Range, Repeat}
 
--- the byte of the first character, or its fault
+-- the byte of the first character, or its fault; without a character, that the text is empty
 abbrev pub first_byte : List SetChar → Result ℕ SetFaultKind
 first_byte [] = Err Empty
 first_byte (u ∷ us) = byte_of u

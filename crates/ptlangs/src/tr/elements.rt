@@ -57,7 +57,7 @@ fn after_byte(text: &[u8], byte: u8) -> Option<&[u8]>
     }
 }
 
-/// The bytes from `first` to `last` at the start of the text, and the rest after them.
+/// The longest run of bytes from `first` to `last` at the start of the text, and the rest after it.
 fn split_run(text: &[u8], first: u8, last: u8) -> (&[u8], &[u8])
     requires { is_in_range first last 92 ≡ false }
     ensures run { result.0.now ≡ plain_run (is_in_range first last) (chars text.now) }

@@ -119,7 +119,7 @@ fn write_fields<A: Allocator + Copy, W: Sink>(
     Ok(())
 }
 
-// A job that selects fields, its delimiter, and the terminator.
+// A job that selects fields, with its delimiter, which is needed for each line, and the terminator.
 #[derive(Drop)]
 struct FieldSelection<'a, A: Allocator> {
     job: &'a CutJob<A>,
