@@ -1,6 +1,6 @@
-//! Tests of `tr` with inputs in pieces, some with a read or a write that fails, and with inputs of every length at
-//! which vectors, masks and blocks end; and of maps by shifted ranges. The expected output is computed byte by byte
-//! from the plan.
+//! Tests of `tr`: examples in pieces, some with a read or a write that fails, whose output is written by hand; and
+//! inputs of each length at which vectors, masks and blocks end, and maps by shifted ranges, whose output is computed
+//! byte by byte from the plan.
 
 use crate::asserts::assert_for;
 use crate::one_input::{Case, Job, LONG, NO_FAILURE, SHORT, check_run};

@@ -1,4 +1,5 @@
--- Consuming moves the start of the block, so the bytes consumed and those left are the two parts of what was buffered.
+-- What is left of the buffered bytes once some of them were consumed: the range of the block that begins so many bytes
+-- later is what was buffered without its first bytes.
 use Rattle.ptlines.proofs
 use proofs.Common.{◌≡◌, ℕ, ◌+◌, ◌-◌, ◌≤◌, List, length, drop, sym, arith, slice_range, drop-drop, drop-take, usual}
 

@@ -1,4 +1,6 @@
--- The contracts of the calls for C: how their arguments are split, and what they do with them.
+-- The contracts of the two calls for C over bytes in memory, which run a command and name its files. Words end with
+-- byte 0; files lie one after another, and are cut at their ends. Words that are not UTF-8 are refused, and so are, for
+-- a run, ends that are not in order; a run that is refused has a message.
 use Rattle.std.specs.Prelude.{◌≡◌, ◌⊎◌, ◌^◌, ◌-◌, ◌==◌, ◌&&◌, ℕ, Bool, true, false, List, [], ◌∷◌, Some}
 use Rattle.std.specs.Prelude.{None, codes, drop, length, nat_le, take, if◌then◌else◌}
 use Rattle.std.specs.Str.{IsUtf8}

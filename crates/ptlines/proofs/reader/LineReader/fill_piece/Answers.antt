@@ -1,4 +1,5 @@
--- The block is refilled if it is empty; then the bytes up to the first terminator, or all, are moved to the slot.
+-- Answers for `fill_piece`, once a piece was moved to the slot: the bytes before the terminator that was found are the
+-- rest of the line, and without a terminator all buffered bytes are a part of it.
 use Rattle.ptlines.proofs
 use proofs.Common.{usual, drop_all}
 use proofs.reader.LineReader.fill_piece.Goals as goal

@@ -1,4 +1,5 @@
--- The loop of `MatchWindow::move_far`: so many matches are still to be skipped.
+-- The loop of `MatchWindow::move_far`: the matches passed since the start and those that are still to be skipped are
+-- together those that were to be skipped. The bytes that are left become fewer.
 use Rattle.ptflow.proofs
 use proofs.Common.{◌≡◌, ◌≤◌, ◌+◌, ◌-◌, length, take, count_by, is_byte}
 use proofs.simd.find_nth.MatchWindow.move_far.Given as goal
