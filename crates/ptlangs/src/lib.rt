@@ -6,6 +6,7 @@
 pub mod delims;
 mod faults;
 pub mod jobs;
+mod lists;
 pub mod numbers;
 pub mod outlist;
 pub mod ranges;

@@ -1,14 +1,14 @@
 //! The output list of `join` (option `-o`), as `ptopts` reads it and `ptmerge` uses it: `OutList`, its fields and
 //! faults, and the law that a list is read as the grammar says.
-ghost use Rattle.std.specs.Prelude.{◌≡◌, None, MatchResult};
-ghost use Rattle.std.specs.Result.{result_err};
+ghost use Rattle.std.specs.Prelude.{◌≡◌};
 ghost use Rattle.ptlangs.specs.Calls.Results.{ValidatedParsePost};
 ghost use Rattle.ptlangs.specs.Laws.OutLists.{OutListMatchesGrammar};
 ghost use Rattle.ptlangs.specs.Calls.OutLists.{out_list_fault};
-ghost use Rattle.ptlangs.specs.OutLists.{field_of, element_field, out_list};
+ghost use Rattle.ptlangs.specs.OutLists.{field_of, out_list};
 ghost use Rattle.ptlangs.specs.Calls.OutLists.{field_at};
 
-use crate::numbers::{decimal, is_decimal, is_list_separator};
+use crate::lists::{Element, first_fault, read_elements};
+use crate::numbers::{decimal, is_decimal};
 use std::alloc::{AllocError, Allocator, Global};
 use std::marker::Model;
 
@@ -26,6 +26,24 @@ pub enum OutField {
     Join,
     /// The field of `File` with this number, counted from 1.
     Field(File, u64),
+}
+
+impl Element for OutField {
+    ghost use Rattle.ptlangs.specs.OutLists.{element_field};
+
+    type Fault = OutFault;
+
+    ghost meaning = { element_field };
+
+    fn read(text: &[u8]) -> Result<OutField, OutFault> {
+        match text {
+            [] => Err(OutFault::Empty),
+            [b'0'] => Ok(OutField::Join),
+            [b'1', b'.', number @ ..] => read_field(File::First, number),
+            [b'2', b'.', number @ ..] => read_field(File::Second, number),
+            _ => Err(OutFault::Malformed),
+        }
+    }
 }
 
 /// Why a list is rejected: the fault of its first faulty element, from left to right.
@@ -81,13 +99,10 @@ impl<A: Allocator> OutList<A> {
     pub fn read(alloc: A, text: &[u8]) -> Result<OutList<A>, OutFault>
         ensures { ValidatedParsePost (λ l. l) out_list_fault result (out_list text.now) }
     {
-        if let Some(fault) = first_fault(text) {
+        if let Some(fault) = first_fault::<OutField>(text) {
             return Err(fault);
         }
-        // Memory for all elements is requested once.
-        let elements = text.split(is_list_separator);
-        let mut kept = Vec::with_capacity(alloc, text.split(is_list_separator).count())?;
-        kept.extend(elements.filter_map(|element| read_element(element).ok()))?;
+        let kept = read_elements(alloc, text)?;
         Ok(OutList { kept })
     }
 
@@ -117,27 +132,6 @@ impl<A: Allocator> OutList<A> {
 pub fn accepts_the_grammar()
     ensures { OutListMatchesGrammar }
 {}
-
-/// The first fault of a list, if there is one. Nothing is allocated.
-fn first_fault(text: &[u8]) -> Option<OutFault>
-    ensures { result ≡ result_err (out_list text.now) }
-{
-    let mut fields = text.split(is_list_separator).map(read_element);
-    fields.find(Result::is_err).and_then(Result::err)
-}
-
-/// The field that one element names.
-fn read_element(text: &[u8]) -> Result<OutField, OutFault>
-    ensures { result ≡ element_field text.now }
-{
-    match text {
-        [] => Err(OutFault::Empty),
-        [b'0'] => Ok(OutField::Join),
-        [b'1', b'.', number @ ..] => read_field(File::First, number),
-        [b'2', b'.', number @ ..] => read_field(File::Second, number),
-        _ => Err(OutFault::Malformed),
-    }
-}
 
 /// The field of `file` with this number.
 fn read_field(file: File, number: &[u8]) -> Result<OutField, OutFault>

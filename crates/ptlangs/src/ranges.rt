@@ -1,18 +1,18 @@
 //! The list of `cut` (options `-b`, `-c` and `-f`), as `ptopts` reads it and `ptflow` uses it: `Ranges`, the set
 //! that a list selects, as merged intervals; its faults; and the law that a list is read as the grammar says.
-ghost use Rattle.std.specs.Prelude.{◌≡◌, ◌≤◌, ◌<◌, ◌∷◌, [], None, Some, IfOk, IsTrue, MatchResult, Ok};
-ghost use Rattle.std.specs.Result.{result_err};
+ghost use Rattle.std.specs.Prelude.{◌≡◌, ◌≤◌, ◌<◌, ◌∷◌, [], Some, IfOk, IsTrue, MatchResult};
 ghost use Rattle.ptlangs.specs.Calls.Results.{ValidatedParsePost};
 ghost use Rattle.ptlangs.specs.Laws.CutLists.{CutListMatchesGrammar};
 ghost use Rattle.ptlangs.specs.Calls.CutLists.{cut_list_fault};
 ghost use Rattle.ptlangs.specs.CutLists.{is_bound, value_or, interval_of_bounds};
-ghost use Rattle.ptlangs.specs.CutLists.{checked_interval, element_interval, cut_list, is_selected, selection};
+ghost use Rattle.ptlangs.specs.CutLists.{checked_interval, is_selected, selection};
 ghost use Rattle.ptlangs.specs.Calls.CutLists.{AreSeparated};
 ghost use Rattle.ptlangs.specs.Private.CutLists.{AreSortedFrom};
 ghost use Rattle.ptlangs.specs.CutLists.{interval_of_parts};
 ghost use Rattle.ptlangs.specs.Numbers.{max_u64};
 
-use crate::numbers::{decimal, is_decimal, is_list_separator};
+use crate::lists::{Element, first_fault, read_elements};
+use crate::numbers::{decimal, is_decimal};
 use std::alloc::{AllocError, Allocator, Global};
 use std::marker::Model;
 
@@ -35,6 +35,24 @@ impl Interval {
             return Err(ListFault::Descending);
         }
         Ok(Interval { first, last })
+    }
+}
+
+impl Element for Interval {
+    ghost use Rattle.ptlangs.specs.CutLists.{element_interval};
+
+    type Fault = ListFault;
+
+    ghost meaning = { element_interval };
+
+    fn read(text: &[u8]) -> Result<Interval, ListFault> {
+        if text.is_empty() {
+            return Err(ListFault::Empty);
+        }
+        match text.iter().position(|byte| *byte == b'-') {
+            None => read_single(text),
+            Some(dash) => read_bounds(&text[..dash], &text[dash + 1..]),
+        }
     }
 }
 
@@ -96,10 +114,10 @@ impl<A: Allocator + Copy> Ranges<A> {
     pub fn read(alloc: A, text: &[u8]) -> Result<Ranges<A>, ListFault>
         ensures { ValidatedParsePost is_selected cut_list_fault result (selection text.now) }
     {
-        if let Some(fault) = first_fault(text) {
+        if let Some(fault) = first_fault::<Interval>(text) {
             return Err(fault);
         }
-        let mut listed = read_elements(alloc, text)?;
+        let mut listed: Vec<Interval, A> = read_elements(alloc, text)?;
         listed.sort_unstable_by_key(|interval| interval.first);
         let kept = merge(alloc, listed.as_slice())?;
         Ok(Ranges { kept })
@@ -130,38 +148,6 @@ impl<A: Allocator> Ranges<A> {
 pub fn accepts_the_grammar()
     ensures { CutListMatchesGrammar }
 {}
-
-/// The first fault of a list, if there is one. Nothing is allocated.
-fn first_fault(text: &[u8]) -> Option<ListFault>
-    ensures { result ≡ result_err (cut_list text.now) }
-{
-    let mut intervals = text.split(is_list_separator).map(read_element);
-    intervals.find(Result::is_err).and_then(Result::err)
-}
-
-/// The intervals of the elements, in order, if no element has a fault. Memory is requested once.
-fn read_elements<A: Allocator>(alloc: A, text: &[u8]) -> Result<Vec<Interval, A>, AllocError>
-    requires { result_err (cut_list text.now) ≡ None }
-    ensures { IfOk result (λ v. cut_list text.now ≡ Ok v.items) }
-{
-    let elements = text.split(is_list_separator);
-    let mut listed = Vec::with_capacity(alloc, text.split(is_list_separator).count())?;
-    listed.extend(elements.filter_map(|element| read_element(element).ok()))?;
-    Ok(listed)
-}
-
-/// The interval of one element.
-fn read_element(text: &[u8]) -> Result<Interval, ListFault>
-    ensures { result ≡ element_interval text.now }
-{
-    if text.is_empty() {
-        return Err(ListFault::Empty);
-    }
-    match text.iter().position(|byte| *byte == b'-') {
-        None => read_single(text),
-        Some(dash) => read_bounds(&text[..dash], &text[dash + 1..]),
-    }
-}
 
 /// The interval of one number.
 fn read_single(text: &[u8]) -> Result<Interval, ListFault>

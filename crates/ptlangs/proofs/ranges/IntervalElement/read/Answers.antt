@@ -2,7 +2,7 @@
 use Rattle.ptlangs.proofs
 use proofs.Common.{YieldsList-from_slice, is_dash, position_from_yields_List, rules, sym, ◌∙◌}
 use proofs.ListElements.{not_empty, parts_around_dash, split_whole}
-use proofs.ranges.read_element.Goals as goal
+use proofs.ranges.IntervalElement.read.Goals as goal
 
 pub returns-in-None : goal.returns-in-None
 returns-in-None c =
