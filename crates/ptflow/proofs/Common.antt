@@ -91,7 +91,7 @@ pub use specs.Private.Cut.CutFrom.{cut_list_from}
 pub use specs.Private.Cut.FieldSlices.{IsFieldCursor, IsNextSlice, output_from_cursor}
 pub use specs.Private.Passes.LineLoop.{IsLineFilter}
 pub use specs.Private.Paste.Replaced.{IsDelimiterCycle, IsReplacedTo, cycle_byte, with_replacements}
-pub use specs.Private.Paste.FillRow.{SetTerminatorsPost, FillCellPost, SlotsBound, SlotsKept, RowAmid, RowFailed}
+pub use specs.Private.Paste.FillRow.{SetTerminatorsPost, FillCellPost, SlotsBound, SlotsKept, RowFilledTo, RowFailed}
 pub use specs.Private.Paste.FillRow.{RowFilled, ClearSlotsPost, is_write_fault}
 pub use specs.Private.Paste.RowCells.{RowShape, BegunText, CellsFilled, CellsTaken, after_cell, begun_in, cells_text}
 pub use specs.Private.Paste.RowCells.{job_shape, shape_of, slots_text}

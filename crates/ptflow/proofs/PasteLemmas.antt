@@ -538,20 +538,21 @@ module _ {job : Paste} {cells : List ℕ} {old set now : List Reader} {was is : 
         );
       }) (λ p. refl)
 
-  row_kept : {n : ℕ} {begun : BegunText} {after : Slots} (a : RowAmid shape n now store begun after) → n ≤ length cells
+  row_kept : {n : ℕ} {begun : BegunText} {after : Slots} (a : RowFilledTo shape n now store begun after)
+      → n ≤ length cells
       → Kept cells first (λ p. s.rows.ls p ++ a.filled.input_lines p) after
   row_kept a few top high =
       a.slots.kept first top (s.kept top (grind (arith, max_length-append)))
       (grind (arith, max_length-append, line_le_max_length, uses_before_lt))
 
-  module _ {begun : BegunText} {after : Slots} (a : RowAmid shape (length cells) now store begun after) where
+  module _ {begun : BegunText} {after : Slots} (a : RowFilledTo shape (length cells) now store begun after) where
     pub row_slots : length cells ≤ length after.lines
     row_slots = omega (arith, invariant_slots)
 
     module _ (some : begun.any_line ≡ true) {is' : Output}
         (wrote : PushEffect is is' (begun.text ++ slots_text shape begun.count after)) where
       row_wrote : PushEffect is is' (cells_text shape 0 a.fields)
-      row_wrote = rw (amid_text a row_slots) at wrote
+      row_wrote = rw (filled_to_text a row_slots) at wrote
 
       pub invariant_more : is'.write_failed ≡ false
           → PasteInvariant job cells old set begun.readers was is' first after
@@ -634,8 +635,8 @@ module _ {job : Paste} {cells : List ℕ} {old set now : List Reader} {was is : 
     row_to = record {
       n = b.column;
       last = b.begun.readers;
-      taken = b.amid.filled.input_lines;
-      lines_taken = b.amid.filled.consumed.lines_taken;
+      taken = b.filled_to.filled.input_lines;
+      lines_taken = b.filled_to.filled.consumed.lines_taken;
       part = part_to;
       reads = λ p. (part_is p).0;
       is_line = λ p. (part_is p).1;
@@ -643,7 +644,7 @@ module _ {job : Paste} {cells : List ℕ} {old set now : List Reader} {was is : 
     }
 
     bound_to : Bound no_more row_to b.buffered
-    bound_to top high = row_kept b.amid (omega arith) top (grind (arith, max_length-append))
+    bound_to top high = row_kept b.filled_to (omega arith) top (grind (arith, max_length-append))
 
     bound_with_piece : Bound no_more row_to (with_line b.buffered b.column piece)
     bound_with_piece top high = slots_bound_line (bound_to top high) _ _ b.within

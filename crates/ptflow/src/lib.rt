@@ -4,7 +4,7 @@
 //! - `tools` has a module for each tool: its engine, and the code that only this tool needs.
 //! - `simd` has the vector code. It uses no reader and no output.
 //! - `block_loop` is the loop of the tools that work block by block, and `line_loop` that of the tools that work line
-//!   by line. `slots` adds the missing slots of a store.
+//!   by line. `start` begins a call over one input of lines, and `slots` adds the missing slots of a store.
 //! - `laws` states which tools can be run on parts of their input, and laws of their output.
 #![tactic(auto)]
 
@@ -14,6 +14,7 @@ mod laws;
 mod line_loop;
 mod simd;
 mod slots;
+mod start;
 mod tools;
 
 pub use faults::FlowFault;

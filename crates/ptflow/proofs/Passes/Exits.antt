@@ -372,7 +372,7 @@ module _ (end : ℕ) (bytes : List ℕ) (at : ℕ) (first : IsFirstByte (is_byte
   split_of = cc (take-append-drop at bytes, drop_at_terminator end _ at first)
 
 -- some lines of the block were processed, and `rest` is left
-pub record TakenLines (end : ℕ) (block rest : List ℕ) : Type 0 where
+pub record IsAfterLines (end : ℕ) (block rest : List ℕ) : Type 0 where
   pub front : List ℕ
   pub split : block ≡ front ++ rest
   pub texts : unlines end (complete_lines end block) ≡ front ++ unlines end (complete_lines end rest)
@@ -389,7 +389,7 @@ module _ (end : ℕ) where
 
   pub taken_more : {block rest : List ℕ} (size : ℕ)
       → unlines end (complete_lines end rest) ≡ take size rest ++ unlines end (complete_lines end (drop size rest))
-      → TakenLines end block rest → TakenLines end block (drop size rest)
+      → IsAfterLines end block rest → IsAfterLines end block (drop size rest)
   taken_more {rest} size texts taken =
       let front = take size rest in record {
         front = taken.front ++ front;

@@ -13,7 +13,7 @@ use proofs.Common.{first_line, current_run_of, rules, ◌⊎◌, inl, inr, ⊎_e
 use proofs.Common.{the_lines_of_parts, lines-unlines, lines_are, BeginsWith, EndsWith, line_before_terminator}
 use proofs.Common.{take_with_terminator, ◌≢◌, zero, suc, IsLineFilter}
 use proofs.Passes.Exits.{wrote_then, split_of, ended_next}
-use specs.Private.Uniq.BlockRuns.{EndRunPre, first_of, repeated, IsInBlock, RunsFailed, IsPending}
+use specs.Private.Uniq.BlockRuns.{EndRunPre, first_of, repeated, IsRangeOf, RunsFailed, IsPending}
 use specs.Private.Uniq.RunsFrom.{count_prefix, run_text, count_of, has_output, current_run, run_output, runs_after}
 use specs.Private.Uniq.RunsFrom.{runs_from}
 use specs.declared.tools.uniq.block_runs.BlockRange.{BlockRange}
@@ -131,7 +131,7 @@ module _ {end : ℕ} {block rest : List ℕ} {front : List (List ℕ)} (lies : B
 
 -- ---- deferred output
 
-ranges_join : {block : List ℕ} {a b : BlockRange} → IsInBlock block a → IsInBlock block b → a.to ≡ b.from
+ranges_join : {block : List ℕ} {a b : BlockRange} → IsRangeOf block a → IsRangeOf block b → a.to ≡ b.from
     → bytes_in_range block (record { from = a.from; to = b.to }) ≡ bytes_in_range block a ++ bytes_in_range block b
 ranges_join {block} {a} {b} fits next touch =
     let back = bytes_in_range block b in

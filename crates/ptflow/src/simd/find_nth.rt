@@ -152,9 +152,7 @@ impl<'a> ByteMatches<'a> {
         if window.end >= to {
             return MatchWindow::past(to);
         }
-        let mut moved = window;
-        moved.move_far(self.byte, self.bytes, to, before);
-        moved
+        window.move_far(self.byte, self.bytes, to, before)
     }
 }
 
@@ -194,11 +192,11 @@ impl MatchWindow {
     }
 
     // Like `ByteMatches::after_nth`, for a match that is not in the window. The windows after it are searched in turn.
-    fn move_far(&mut self, byte: u8, bytes: &[u8], to: usize, before: u64)
-        requires within { (self.old.at ≤ to) × (to ≤ length bytes.now) }
-        requires window { IsMatchWindow (is_byte byte) bytes.now self.old }
-        requires far { count_ones self.old.mask ≤ before }
-        ensures { IsAfterNth (is_byte byte) bytes.now to before self.old self.new }
+    fn move_far(self, byte: u8, bytes: &[u8], to: usize, before: u64) -> MatchWindow
+        requires within { (self.at ≤ to) × (to ≤ length bytes.now) }
+        requires window { IsMatchWindow (is_byte byte) bytes.now self }
+        requires far { count_ones self.mask ≤ before }
+        ensures { IsAfterNth (is_byte byte) bytes.now to before self result }
     {
         let mut at = self.end;
         let mut left = before - u64::from(self.mask.count_ones());
@@ -207,16 +205,12 @@ impl MatchWindow {
             let count = u64::from(mask.count_ones());
             if left < count {
                 let end = at + 64;
-                *self = MatchWindow { at, mask, end }.after(nth_bit(mask, left));
-                return;
+                return MatchWindow { at, mask, end }.after(nth_bit(mask, left));
             }
             left -= count;
             at += 64;
         }
-        *self = match nth_tail(byte, bytes, at, to, left) {
-            Some(index) => MatchWindow::past(index),
-            None => MatchWindow::past(to),
-        };
+        MatchWindow::past(nth_tail(byte, bytes, at, to, left).unwrap_or(to))
     }
 }
 

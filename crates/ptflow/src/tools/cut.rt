@@ -14,6 +14,7 @@ mod shuffle;
 use crate::block_loop::run_blocks;
 use crate::faults::FlowFault;
 use crate::line_loop::run_lines;
+use crate::start::start_pass;
 use crate::tools::cut::bytes::ByteCut;
 use crate::tools::cut::fields::FieldCut;
 use ptlangs::jobs::CutJob;
@@ -41,11 +42,7 @@ pub fn cut<A: Allocator + Copy, B: Allocator + Copy, S: Source, R: Source, W: Si
     requires { PassPre reader.old store.old }
     ensures { PassPost (cut_tool (cut_job job.now)) reader.old reader.new out.old out.new store.old store.new result }
 {
-    if out.has_failed() {
-        return Err(FlowFault::Write);
-    }
-    reader.set_ending(job.zero);
-    let terminator = reader.terminator();
+    let terminator = start_pass(job.zero, reader, out)?;
     if job.fields {
         return run_lines(&mut FieldCut::new(job, terminator), 1, reader, store, out);
     }

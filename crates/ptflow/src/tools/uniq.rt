@@ -16,6 +16,7 @@ mod line_key;
 
 use crate::faults::FlowFault;
 use crate::line_loop::{LineFilter, run_lines};
+use crate::start::start_pass;
 use crate::tools::uniq::block_runs::{CountedRun, RunWriter};
 use crate::tools::uniq::line_key::key;
 use arrayvec::ArrayVec;
@@ -53,16 +54,17 @@ impl CurrentRun {
 // The writer of runs, and the current run.
 #[derive(Drop)]
 pub(crate) struct LineUniq<'a> {
-    pub by: RunWriter<'a>,
+    pub writer: RunWriter<'a>,
     pub run: CurrentRun,
 }
 
 impl LineUniq<'_> {
     // Checks whether `line` belongs to the current run, which begins with `first`.
     fn is_same_run(&self, first: &[u8], line: &[u8]) -> bool
-        ensures { result ≡ (nat_lt 0 self.now.run.count && is_same (uniq_job self.now.by.job.now) first.now line.now) }
+        ensures { result
+            ≡ (nat_lt 0 self.now.run.count && is_same (uniq_job self.now.writer.job.now) first.now line.now) }
     {
-        let job = self.by.job;
+        let job = self.writer.job;
         self.run.count > 0 && key(job, first, first.len()) == key(job, line, line.len())
     }
 
@@ -88,7 +90,7 @@ impl<'a> LineFilter for LineUniq<'a> {
 
     ghost Job = { Uniq };
 
-    ghost job = { λ t. uniq_job t.by.job.now };
+    ghost job = { λ t. uniq_job t.writer.job.now };
 
     ghost tool = { uniq_tool };
 
@@ -114,7 +116,7 @@ impl<'a> LineFilter for LineUniq<'a> {
             self.run.count += 1;
             return Ok(());
         }
-        self.by
+        self.writer
             .write_run(self.run.count, self.first_line(store), out)?;
         store.swap(0, 1);
         self.run.count = 1;
@@ -130,7 +132,7 @@ impl<'a> LineFilter for LineUniq<'a> {
         out: &mut Out<W>,
     ) -> Result<usize, WriteFault> {
         let last = self
-            .by
+            .writer
             .write_runs(self.run.count, self.first_line(store), block, out)?;
         self.run.set_to_last(last.run, block);
         Ok(last.len)
@@ -141,7 +143,7 @@ impl<'a> LineFilter for LineUniq<'a> {
         store: &mut Store<A>,
         out: &mut Out<W>,
     ) -> Result<(), WriteFault> {
-        self.by
+        self.writer
             .write_run(self.run.count, self.first_line(store), out)?;
         store.clear(0);
         Ok(())
@@ -169,13 +171,9 @@ pub fn uniq<A: Allocator + Copy, S: Source, R: Source, W: Sink>(
     requires { PassPre reader.old store.old }
     ensures { PassPost (uniq_tool (uniq_job job.now)) reader.old reader.new out.old out.new store.old store.new result }
 {
-    if out.has_failed() {
-        return Err(FlowFault::Write);
-    }
-    reader.set_ending(job.zero);
-    let terminator = reader.terminator();
+    let terminator = start_pass(job.zero, reader, out)?;
     let mut tool = LineUniq {
-        by: RunWriter { job, terminator },
+        writer: RunWriter { job, terminator },
         run: CurrentRun {
             count: 0,
             is_copied: false,

@@ -9,7 +9,8 @@ pub use proofs.Common.{get_or-set_same, get_or_append_left, get_or_default, get_
 pub use proofs.Common.{take-take, take_all, sum_by-append, sum_by, advance_trans, lines_of_unlines, unlines-append}
 pub use proofs.Common.{FillPost, AdvanceOk, IsDone, IsSound, Reader, ReaderAdvance, budget, reader_at, Slots, line}
 pub use proofs.Common.{total_bytes, with_line, AddedSlots, AreLines, max_length, SetTerminatorsPost, FillCellPost}
-pub use proofs.Common.{SlotsBound, SlotsKept, RowAmid, RowFilled, RowShape, BegunText, CellsFilled, CellsTaken, usual}
+pub use proofs.Common.{SlotsBound, SlotsKept, RowFilledTo, RowFilled, RowShape, BegunText, CellsFilled}
+pub use proofs.Common.{CellsTaken, usual}
 pub use proofs.Common.{after_cell, cells_text, slots_text, AreReceivedLines, LinesTaken, BufferedRowsPre, AreFirstRows}
 pub use proofs.Common.{take-append-le, RowsTaken, CopyColumnsPost, CopyRowsPost, FlowFault, Memory, Read, Write, rules}
 pub use proofs.Passes.Exits.{lines_none, lines_are_given, lines_more, eof_gives_nothing}
@@ -370,17 +371,18 @@ slot_held ls fields field c width room under before = grind usual
 
 module _ {row : RowShape} where
   -- The begun row was moved to the front of the buffer.
-  pub amid_starts : {old : List Reader} {copied : List ℕ} {begun moved : BegunText} {store : Slots}
-      (p : CopyRowsPost row old copied begun) → moved ≡ begun → RowAmid row moved.count p.mid store moved store
-  amid_starts p same = grind usual
+  pub filled_to_starts : {old : List Reader} {copied : List ℕ} {begun moved : BegunText} {store : Slots}
+      (p : CopyRowsPost row old copied begun) → moved ≡ begun → RowFilledTo row moved.count p.mid store moved store
+  filled_to_starts p same = grind usual
 
-  module _ {n : ℕ} {from : List Reader} {first store : Slots} {now : BegunText} (a : RowAmid row n from first now store)
+  module _ {n : ℕ} {from : List Reader} {first store : Slots} {now : BegunText}
+      (a : RowFilledTo row n from first now store)
       {b : Reader} (x : IsNextReader row now.readers n b) where
-    pub amid_next : (r : Reader) (after : Slots) → n < length store.lines → IsSound r → (has : Bool)
+    pub filled_to_next : (r : Reader) (after : Slots) → n < length store.lines → IsSound r → (has : Bool)
         → FillPost b r store after n (Ok has)
-        → RowAmid row (n + 1) from first
+        → RowFilledTo row (n + 1) from first
         (record now { readers = set now.readers (get_or row.cells n 0) r; any_line = now.any_line || has }) after
-    amid_next r after room sound has e =
+    filled_to_next r after room sound has e =
         let (field, stored, taken) = field_in_slot row.terminator b r store after n has x.clean x.ends sound e in
         let width = a.filled.consumed.width in
         let fits : now.count ≤ length a.fields = omega arith in
@@ -397,34 +399,34 @@ module _ {row : RowShape} where
           };
         })
 
-    pub amid_failed : (r : Reader) (after : Slots) (into : List ℕ) (e : FlowFault)
+    pub filled_to_failed : (r : Reader) (after : Slots) (into : List ℕ) (e : FlowFault)
         → FillCellPost (get_or row.cells n 0) n b r store after (Err e)
         → RowFilled row from first (set now.readers (get_or row.cells n 0) r) after into (Err e)
-    amid_failed r after into (Read input) (p, sound, named) = (
+    filled_to_failed r after into (Read input) (p, sound, named) = (
       record {
         column = n;
         within = x.low;
         begun = now;
         buffered = store;
-        amid = a;
+        filled_to = a;
         failure = search rules;
         others = search rules;
         few = search rules;
       },
       named,
     )
-    amid_failed r after into Write (same, kept, going) = search rules
-    amid_failed r after into Memory (p, sound) = search rules
+    filled_to_failed r after into Write (same, kept, going) = search rules
+    filled_to_failed r after into Memory (p, sound) = search rules
 
-  pub amid_copied : {n : ℕ} {from : List Reader} {first store : Slots} {now : BegunText}
-      → RowAmid row (n + 1) from first now store → now.count ≡ n
-      → RowAmid row (n + 1) from first (with_slot row n store now) store
-  amid_copied = grind (usual, cells_text-append)
+  pub filled_to_copied : {n : ℕ} {from : List Reader} {first store : Slots} {now : BegunText}
+      → RowFilledTo row (n + 1) from first now store → now.count ≡ n
+      → RowFilledTo row (n + 1) from first (with_slot row n store now) store
+  filled_to_copied = grind (usual, cells_text-append)
 
-  pub amid_columns : {from : List Reader} {first store : Slots} {now next : BegunText}
-      → RowAmid row now.count from first now store → CopyColumnsPost row now next
-      → RowAmid row next.count from first next store
-  amid_columns a p = record {
+  pub filled_to_columns : {from : List Reader} {first store : Slots} {now next : BegunText}
+      → RowFilledTo row now.count from first now store → CopyColumnsPost row now next
+      → RowFilledTo row next.count from first next store
+  filled_to_columns a p = record {
     fields = a.fields ++ p.fields;
     filled = p.filled _ a.fields a.filled;
     within = omega arith;
@@ -433,10 +435,10 @@ module _ {row : RowShape} where
     slots = slots_kept_more a.slots p.fields;
   }
 
-  pub amid_text : {from : List Reader} {first store : Slots} {now : BegunText}
-      (a : RowAmid row (length row.cells) from first now store) → length row.cells ≤ length store.lines
+  pub filled_to_text : {from : List Reader} {first store : Slots} {now : BegunText}
+      (a : RowFilledTo row (length row.cells) from first now store) → length row.cells ≤ length store.lines
       → now.text ++ slots_text row now.count store ≡ cells_text row 0 a.fields
-  amid_text {store = store} {now} a room =
+  filled_to_text {store = store} {now} a room =
       let n = length row.cells in
       let k = now.count in
       let front = take k a.fields in

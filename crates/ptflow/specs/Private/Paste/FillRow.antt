@@ -1,5 +1,5 @@
 -- A row of `paste` that is finished with the store: a line that is not complete in the buffer of its reader is read
--- into the slot of its column. The state in between (`RowAmid`), the bytes in the slots (`SlotsBound`), and the
+-- into the slot of its column. The state in between (`RowFilledTo`), the bytes in the slots (`SlotsBound`), and the
 -- contracts of `fill_cell`, `fill_row` and `clear_slots`, with their faults. Also that of `set_terminators`.
 use Rattle.std.specs.Prelude.{◌≡◌, ◌≢◌, ℕ, ◌<◌, ◌≤◌, Bool, true, false, List, [], Result, Ok, Err, length, take, drop}
 use Rattle.std.specs.Prelude.{max, sum_by, slice_index_or}
@@ -44,7 +44,7 @@ pub record SlotsKept (cells : List ℕ) (fields : List (List ℕ)) (before store
 
 -- The first n columns of a row are filled, since the states `from` and `first`: the columns up to `now.count` are
 -- copied, and the slots of the others hold their fields.
-pub record RowAmid (row : RowShape) (n : ℕ) (from : List Reader) (first : Slots) (now : BegunText)
+pub record RowFilledTo (row : RowShape) (n : ℕ) (from : List Reader) (first : Slots) (now : BegunText)
     (store : Slots) : Type 0 where
   pub fields : List (List ℕ)
   pub filled : CellsFilled row n from now.readers fields now.any_line
@@ -61,7 +61,7 @@ pub record RowFailed (CellFailed : Reader → Reader → Slots → Slots → ℕ
   pub within : column < length row.cells
   pub begun : BegunText
   pub buffered : Slots
-  pub amid : RowAmid row column old before begun buffered
+  pub filled_to : RowFilledTo row column old before begun buffered
   pub failure : CellFailed (reader_at begun.readers (slice_index_or row.cells column 0))
       (reader_at new (slice_index_or row.cells column 0)) buffered store column
   pub others : (input : ℕ) → input ≢ slice_index_or row.cells column 0
@@ -86,8 +86,8 @@ FillCellPost input column old new before after (Err Memory) = FillMemoryErr old 
 -- `first`.
 abbrev pub RowFilled : RowShape → List Reader → Slots → List Reader → Slots → List ℕ → Result BegunRow FlowFault
     → Type 0
-RowFilled row from first new store into (Ok begun) = RowAmid row (length row.cells) from first (begun_in new begun into)
-    store
+RowFilled row from first new store into (Ok begun) = RowFilledTo row (length row.cells) from first
+    (begun_in new begun into) store
 RowFilled row from first new store into (Err (Read input))
     = (b : RowFailed FillReadErr row from new first store) × (input ≡ slice_index_or row.cells b.column 0)
 RowFilled row from first new store into (Err Write) = RowFailed NotRead row from new first store
@@ -97,7 +97,7 @@ RowFilled row from first new store into (Err Memory) = RowFailed FillMemoryErr r
 abbrev pub FillRowPost : RowShape → BegunText → Slots → List Reader → Slots → List ℕ → Result BegunRow FlowFault
     → Type 0
 FillRowPost row begun before new store into result =
-    (from : List Reader) (first : Slots) → RowAmid row begun.count from first begun before
+    (from : List Reader) (first : Slots) → RowFilledTo row begun.count from first begun before
     → RowFilled row from first new store into result
 
 -- The slots of the first columns are empty, and all others are as before.

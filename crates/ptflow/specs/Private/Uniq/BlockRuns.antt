@@ -28,7 +28,7 @@ abbrev pub bytes_in_range : List ℕ → BlockRange → List ℕ
 bytes_in_range block range = slice_range block range.from range.to
 
 -- the range is in the block
-pub record IsInBlock (block : List ℕ) (range : BlockRange) : Type 0 where
+pub record IsRangeOf (block : List ℕ) (range : BlockRange) : Type 0 where
   pub ordered : range.from ≤ range.to
   pub within : range.to ≤ length block
 
@@ -45,7 +45,7 @@ pub record IsLineRange (end : ℕ) (block : List ℕ) (line : BlockRange) : Type
 
 -- The deferred output is in the block. There is none if the first line of the run is before the block.
 pub record EndRunPre (end : ℕ) (block : List ℕ) (line : Option BlockRange) (pending : BlockRange) : Type 0 where
-  pub pending_in : IsInBlock block pending
+  pub pending_in : IsRangeOf block pending
   pub line_in : IfSome line (IsLineRange end block)
   pub none : line ≡ None → bytes_in_range block pending ≡ []
 
@@ -54,4 +54,4 @@ pub record IsPending (bytes block : List ℕ) (pending : BlockRange) (was is : O
   pub pushed : List ℕ
   pub wrote : PushEffect was is pushed
   pub all : pushed ++ bytes_in_range block pending ≡ bytes
-  pub in_block : IsInBlock block pending
+  pub in_block : IsRangeOf block pending

@@ -234,7 +234,7 @@ impl Selection<'_> {
 /// The selection, how many bytes of the unfinished line were read, and a buffer for the output of a block.
 #[derive(Drop)]
 pub(crate) struct ByteCut<'a> {
-    by: Selection<'a>,
+    selection: Selection<'a>,
     line_offset: u64,
     buffer: PaddedBlock,
 }
@@ -242,12 +242,12 @@ pub(crate) struct ByteCut<'a> {
 impl<'a> ByteCut<'a> {
     /// The tool for a job, at the start of an input.
     pub(crate) fn new<A: Allocator>(job: &'a CutJob<A>, terminator: u8) -> ByteCut<'a>
-        ensures selected { result.by.selected.now ≡ job.now.list }
-        ensures terminator { result.by.terminator ≡ terminator }
+        ensures selected { result.selection.selected.now ≡ job.now.list }
+        ensures terminator { result.selection.terminator ≡ terminator }
         ensures start { result.line_offset ≡ 0 }
     {
         ByteCut {
-            by: Selection {
+            selection: Selection {
                 selected: job.list.intervals(),
                 shuffles: LineShuffles::of(&job.list),
                 terminator,
@@ -262,14 +262,17 @@ impl<'a> BlockFilter for ByteCut<'a> {
     ghost use Rattle.std.specs.Prelude.{◌≡◌};
     ghost use Rattle.ptflow.specs.Private.Cut.CutFrom.{cut_list_from};
 
-    ghost rest = { λ t. cut_list_from t.by.terminator t.by.selected.now t.line_offset };
+    ghost rest = { λ t. cut_list_from t.selection.terminator t.selection.selected.now t.line_offset };
 
     ghost counted = { λ t. t.line_offset };
 
-    ghost IsUnchanged = { λ s t. (t.by.selected.now ≡ s.by.selected.now) × (t.by.terminator ≡ s.by.terminator) };
+    ghost IsUnchanged = { λ s t. (t.selection.selected.now ≡ s.selection.selected.now)
+        × (t.selection.terminator ≡ s.selection.terminator) };
 
     fn process_block<W: Sink>(&mut self, block: &[u8], out: &mut Out<W>) -> Result<(), WriteFault> {
-        let end = self.by.cut_block(self.line_offset, block, &mut self.buffer);
+        let end = self
+            .selection
+            .cut_block(self.line_offset, block, &mut self.buffer);
         out.push(&self.buffer[..end.at])?;
         self.line_offset = end.line_offset;
         Ok(())
@@ -280,6 +283,6 @@ impl<'a> BlockFilter for ByteCut<'a> {
         if self.line_offset == 0 {
             return Ok(());
         }
-        out.push(&[self.by.terminator])
+        out.push(&[self.selection.terminator])
     }
 }

@@ -119,7 +119,8 @@ fn write_fields<A: Allocator + Copy, W: Sink>(
     Ok(())
 }
 
-// A job that selects fields, with its delimiter, which is needed for each line, and the terminator.
+// A job that selects fields, and the terminator. The delimiter is beside the job, not read through it
+// (`cut -d ' ' -f 2,5` of a log: 3.6 instructions a byte for 3.7).
 #[derive(Drop)]
 struct FieldSelection<'a, A: Allocator> {
     job: &'a CutJob<A>,
@@ -133,7 +134,7 @@ struct FieldSelection<'a, A: Allocator> {
 /// The selection, and a buffer for the output of the lines of a block.
 #[derive(Drop)]
 pub(crate) struct FieldCut<'a, A: Allocator> {
-    by: FieldSelection<'a, A>,
+    selection: FieldSelection<'a, A>,
     buffer: PaddedBlock,
 }
 
@@ -142,10 +143,10 @@ impl<'a, A: Allocator> FieldCut<'a, A> {
     pub(crate) fn new(job: &'a CutJob<A>, terminator: u8) -> Self
         requires by_fields { job.now.fields ≡ true }
         requires ends { terminator ≡ (cut_job job.now).terminator }
-        ensures { result.by.job.now ≡ job.now }
+        ensures { result.selection.job.now ≡ job.now }
     {
         FieldCut {
-            by: FieldSelection {
+            selection: FieldSelection {
                 job,
                 delim: job.delim,
                 terminator,
@@ -158,23 +159,23 @@ impl<'a, A: Allocator> FieldCut<'a, A> {
 // Pushes the output of a line, which is given without its terminator. Not inlined, as `map_bytes`.
 #[inline(never)]
 fn write_line<A: Allocator + Copy, W: Sink>(
-    by: &FieldSelection<A>,
+    selection: &FieldSelection<A>,
     line: &[u8],
     out: &mut Out<W>,
 ) -> Result<(), WriteFault>
-    ensures wrote { PushEffect out.old out.new (cut_lines (cut_job by.now.job.now) (line.now ∷ [])) }
+    ensures wrote { PushEffect out.old out.new (cut_lines (cut_job selection.now.job.now) (line.now ∷ [])) }
     ensures clean { OnOk result (out.old.write_failed ≡ false → out.new.write_failed ≡ false) }
     ensures fault { OnErr result (out.new.write_failed ≡ true) }
 {
-    let delimiters = ByteMatches::new(by.delim, line);
+    let delimiters = ByteMatches::new(selection.delim, line);
     if delimiters.first().is_some() {
-        write_fields(by.job, &delimiters, out)?;
-        return out.push(&[by.terminator]);
+        write_fields(selection.job, &delimiters, out)?;
+        return out.push(&[selection.terminator]);
     }
-    if by.job.only {
+    if selection.job.only {
         return Ok(());
     }
-    out.push_line(b"", line, &[by.terminator])
+    out.push_line(b"", line, &[selection.terminator])
 }
 
 // Copies a slice like `copy_short`, and as one vector also if it has 17 to 32 bytes, as the time in a log often does.
@@ -251,16 +252,16 @@ struct CopiedLines {
 // delimiter is not in it, of all complete lines before the first delimiter.
 #[inline(always)]
 fn copy_lines<A: Allocator + Copy>(
-    by: &FieldSelection<A>,
+    selection: &FieldSelection<A>,
     to: usize,
     bytes: &[u8],
     room: &mut [u8],
     start: usize,
 ) -> CopiedLines
-    requires first { IsFirstByte (is_byte by.now.terminator) bytes.now (Some to) }
+    requires first { IsFirstByte (is_byte selection.now.terminator) bytes.now (Some to) }
     requires room { start + length bytes.now + 16 ≤ length room.old }
     ensures long { length room.new ≡ length room.old }
-    ensures put { CopyLinesPost (cut_job by.now.job.now) by.now.terminator bytes.now result.len
+    ensures put { CopyLinesPost (cut_job selection.now.job.now) selection.now.terminator bytes.now result.len
         (take start room.old) (take result.end room.new) }
     ensures end { (start ≤ result.end) × (result.end ≤ start + result.len) }
 {
@@ -268,7 +269,7 @@ fn copy_lines<A: Allocator + Copy>(
         job,
         delim,
         terminator,
-    } = *by;
+    } = *selection;
     let delimiters = ByteMatches::new(delim, bytes);
     let first = delimiters.first().unwrap_or(bytes.len());
     if first < to {
@@ -294,7 +295,7 @@ impl<'a, A: Allocator + Copy> LineFilter for FieldCut<'a, A> {
 
     ghost Job = { Cut };
 
-    ghost job = { λ t. cut_job t.by.job.now };
+    ghost job = { λ t. cut_job t.selection.job.now };
 
     ghost tool = { cut_tool };
 
@@ -316,7 +317,7 @@ impl<'a, A: Allocator + Copy> LineFilter for FieldCut<'a, A> {
         store: &mut Store<B>,
         out: &mut Out<W>,
     ) -> Result<(), WriteFault> {
-        write_line(&self.by, store.line(0), out)
+        write_line(&self.selection, store.line(0), out)
     }
 
     // The output of fields is never longer than the input, so all of it is copied into one buffer and pushed at once.
@@ -328,15 +329,15 @@ impl<'a, A: Allocator + Copy> LineFilter for FieldCut<'a, A> {
     ) -> Result<usize, WriteFault> {
         // A copy, so that the loop does not read the fields through `self` (`cut -d ' ' -f 2,5` of a log: 3.6 instructions
         // a byte for 3.8).
-        let by = FieldSelection {
-            job: self.by.job,
-            delim: self.by.delim,
-            terminator: self.by.terminator,
+        let selection = FieldSelection {
+            job: self.selection.job,
+            delim: self.selection.delim,
+            terminator: self.selection.terminator,
         };
         let mut end = 0;
         let mut rest = block;
-        'lines: while let Some(to) = ByteMatches::new(by.terminator, rest).first() {
-            let copied = copy_lines(&by, to, rest, &mut self.buffer, end);
+        'lines: while let Some(to) = ByteMatches::new(selection.terminator, rest).first() {
+            let copied = copy_lines(&selection, to, rest, &mut self.buffer, end);
             rest = &rest[copied.len..];
             end = copied.end;
         }

@@ -192,59 +192,10 @@ fn copy_segments<S: Source, R: Source>(
     begun
 }
 
-// Copies a row like `copy_columns`, by its segments first.
+// Copies rows like `copy_rows`, each by these segments first. Inlined, so that over no segments nothing is left of the
+// loop over them (`docs/DECISIONS.md`).
 #[inline(always)]
-fn copy_row<S: Source, R: Source>(
-    row: RowFormat,
-    segments: &[Segment],
-    readers: &mut [LineReader<S, R>],
-    into: &mut PaddedBlock,
-    start: BegunRow,
-) -> BegunRow
-    requires readable { BufferedRowsPre (shape_of row) readers.old }
-    requires segments { AreSegments (shape_of row) readers.old start.count segments.now }
-    requires within { start.count ≤ length row.cells.now }
-    ensures cells { CopyColumnsPost (shape_of row.entry) (begun_in readers.old start into.old)
-        (begun_in readers.new result into.new) }
-    ensures within { (result.count ≤ length row.entry.cells.now) × (start.end ≤ result.end) }
-{
-    let begun = copy_segments(row, segments, readers, into, start);
-    if begun.count == row.cells.len() {
-        return begun;
-    }
-    copy_columns(row, readers, into, begun)
-}
-
-// Copies rows like `copy_rows`, column by column.
-fn copy_rows_by_columns<S: Source, R: Source>(
-    row: RowFormat,
-    readers: &mut [LineReader<S, R>],
-    into: &mut PaddedBlock,
-) -> CopiedRows
-    requires { BufferedRowsPre (shape_of row) readers.old }
-    ensures rows { CopyRowsPost (shape_of row.entry) readers.old (take result.end into.new)
-        (begun_after readers.new result into.new) }
-    ensures within { result.begun.count ≤ length row.entry.cells.now }
-{
-    let mut end = 0;
-    'rows: loop {
-        let start = BegunRow {
-            count: 0,
-            end,
-            any_line: false,
-        };
-        let begun = copy_columns(row, readers, into, start);
-        if begun.count < row.cells.len() || !begun.any_line {
-            return CopiedRows { end, begun };
-        }
-        end = begun.end;
-    }
-}
-
-// Copies rows like `copy_rows`, each by these segments first. Out of line (`paste` of 50 files: 44.2 instructions a
-// line for 45.1).
-#[inline(never)]
-fn copy_rows_by_segments<S: Source, R: Source>(
+fn copy_rows_by<S: Source, R: Source>(
     row: RowFormat,
     segments: &[Segment],
     readers: &mut [LineReader<S, R>],
@@ -263,12 +214,31 @@ fn copy_rows_by_segments<S: Source, R: Source>(
             end,
             any_line: false,
         };
-        let begun = copy_row(row, segments, readers, into, start);
+        let mut begun = copy_segments(row, segments, readers, into, start);
+        if begun.count < row.cells.len() {
+            begun = copy_columns(row, readers, into, begun);
+        }
         if begun.count < row.cells.len() || !begun.any_line {
             return CopiedRows { end, begun };
         }
         end = begun.end;
     }
+}
+
+// Copies rows like `copy_rows`, by all segments that begin a row. Out of line (`paste` of 50 files: 44.2 instructions a
+// line for 45.1).
+#[inline(never)]
+fn copy_rows_by_segments<S: Source, R: Source>(
+    row: RowFormat,
+    readers: &mut [LineReader<S, R>],
+    into: &mut PaddedBlock,
+) -> CopiedRows
+    requires { BufferedRowsPre (shape_of row) readers.old }
+    ensures rows { CopyRowsPost (shape_of row.entry) readers.old (take result.end into.new)
+        (begun_after readers.new result into.new) }
+    ensures within { result.begun.count ≤ length row.entry.cells.now }
+{
+    copy_rows_by(row, &segments(row, readers), readers, into)
 }
 
 // Copies rows while all of their lines are complete in the buffers and fit, and the first columns of the next row. If
@@ -285,9 +255,9 @@ pub(crate) fn copy_rows<S: Source, R: Source>(
     ensures within { result.begun.count ≤ length row.entry.cells.now }
 {
     if has_ended_column(row, readers) {
-        return copy_rows_by_segments(row, &segments(row, readers), readers, into);
+        return copy_rows_by_segments(row, readers, into);
     }
-    copy_rows_by_columns(row, readers, into)
+    copy_rows_by(row, &[], readers, into)
 }
 
 // Moves the begun row to the start of the buffer.

@@ -11,6 +11,7 @@ ghost use Rattle.ptflow.specs.Private.Paste.Replaced.{IsDelimiterCycle};
 use crate::block_loop::{BlockFilter, run_blocks};
 use crate::faults::FlowFault;
 use crate::simd::replace::Cycle;
+use crate::start::start_pass;
 use crate::tools::paste::row::{copy_option, delimiter_bytes, next_index};
 use ptlangs::jobs::PasteJob;
 use ptlines::{
@@ -193,12 +194,8 @@ pub fn paste_serial<A: Allocator + Copy, B: Allocator + Copy, S: Source, R: Sour
     ensures { PassPost (paste_serial_tool (paste_job job.now)) reader.old reader.new out.old out.new
         _store.old _store.new result }
 {
-    if out.has_failed() {
-        return Err(FlowFault::Write);
-    }
-    reader.set_ending(job.zero);
+    let terminator = start_pass(job.zero, reader, out)?;
     let delims = job.delims.as_slice();
-    let terminator = reader.terminator();
     let mut tool = SerialPaste {
         format: SerialFormat {
             delims,

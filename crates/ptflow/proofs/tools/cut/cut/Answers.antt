@@ -1,35 +1,28 @@
 -- `cut` by fields is a line tool, and `cut` by bytes a block tool. Setting the terminator does not change the input,
 -- so the contract of each loop carries over. If the output has failed before, nothing is done.
 use Rattle.ptflow.proofs
-use proofs.Common.{Bool, true, false, ◌≡◌, ◌++◌, refl, sym, ◌∙◌, ap, cond, cut_job, cut_tool, cut_list_from, Reader}
-use proofs.Common.{terminator, arith, rules}
+use proofs.Common.{◌++◌, refl, sym, ◌∙◌, ap, cond, cut_job, cut_tool, cut_list_from, Reader, arith}
 use proofs.CutLemmas.CutBytes.{rest_is_decided, made_is, rest_of_all}
 use proofs.Passes.Exits.{pass_unchanged, pass_set, ready_set}
 use proofs.tools.cut.cut.Goals as goal
 use proofs.CutLemmas.Fields.{cut_sure}
 
-ends : (zero : Bool) → cond zero 0 10 ≡ terminator zero
-ends true = refl
-ends false = refl
-
-pub returns-then-has_failed : goal.returns-then-has_failed
-returns-then-has_failed g c = search (rules, pass_unchanged)
+pub returns-in_err-terminator : goal.returns-in_err-terminator
+returns-in_err-terminator g c = grind (arith, pass_unchanged)
 
 pub run_lines-requires-clause-tool : goal.run_lines-requires-clause-tool
-run_lines-requires-clause-tool g c = grind (arith, (cut_sure (cut_job c.new.result.by.job.now)))
+run_lines-requires-clause-tool g c = grind (arith, (cut_sure (cut_job c.new.result.selection.job.now)))
 
 pub returns-then-job : goal.returns-then-job
 returns-then-job g c =
-    pass_set _ (rw c.new.ensures at c.run_lines.ensures) c.set_ending.ensures.set (ends _)
-    refl (sym c.has_failed.ensures ∙ c.if-has_failed.false)
+    let start = c.in_ok-terminator.ensures in
+    pass_set _ (rw c.new.ensures at c.run_lines.ensures) start.set.1 start.set.0 refl start.clean
 
 pub returns : goal.returns
 returns g c =
     let job = cut_job c.args.job.now in
-    let by = c.new-2.result.by in
-    let end =
-    c.new-2.ensures.terminator ∙ c.terminator-terminator.ensures
-    ∙ ap (λ (r : Reader). r.terminator) c.set_ending.ensures.set ∙ ends _ in
+    let begun = c.in_ok-terminator.ensures in
+    let end = c.new-2.ensures.terminator ∙ begun.set.0 in
     let list = c.new-2.ensures.selected in
     let start = c.new-2.ensures.start in
     let pass = c.run_blocks.ensures (cut_tool job)
@@ -43,5 +36,6 @@ returns g c =
       holds = (refl, refl);
       slots = ap (λ b. cond b 1 0) c.if-job.false;
     })
-    (sym (ap (λ (r : Reader). r.terminator) c.set_ending.ensures.set ∙ ends _)) c.args.store.now (ready_set _ c.requires c.set_ending.ensures.set) in
-    pass_set _ pass c.set_ending.ensures.set (ends _) refl (sym c.has_failed.ensures ∙ c.if-has_failed.false)
+    (sym (ap (λ (r : Reader). r.terminator) begun.set.1 ∙ begun.set.0)) c.args.store.now
+    (ready_set _ c.requires begun.set.1) in
+    pass_set _ pass begun.set.1 begun.set.0 refl begun.clean

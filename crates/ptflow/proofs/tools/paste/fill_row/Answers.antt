@@ -1,21 +1,21 @@
 -- For `fill_row`: the start, the steps and the exits of its loop over columns. Each line is read into its slot. If
 -- the columns before it were all copied, it is copied from there, and the next columns from the buffers. Lemmas: the
--- row after a line was read (`filled`, `amid`, `ready`), and that no output was pushed (`sent`).
+-- row after a line was read (`filled`, `filled_to`, `ready`), and that no output was pushed (`sent`).
 use Rattle.ptflow.proofs
 use proofs.Common.{◌≡◌, ◌+◌, List, [], ◌++◌, length, take, get_or, set, ◌∙◌, arith, PushEffect}
-use proofs.Common.{Reader, Slots, push_nothing, push_trans, ◌||◌, BegunText, BufferedRowsPre, RowAmid, after_cell}
+use proofs.Common.{Reader, Slots, push_nothing, push_trans, ◌||◌, BegunText, BufferedRowsPre, RowFilledTo, after_cell}
 use proofs.Common.{begun_in, shape_of, rules}
 use proofs.Passes.Exits.{is_fault}
 use borrow.Author.Rules.{scaled_Fits}
-use proofs.PasteLemmas.BufferedRows.{next_reader, amid_next, amid_failed, with_slot, readable_after, amid_columns}
-use proofs.PasteLemmas.BufferedRows.{amid_copied, still_readable}
+use proofs.PasteLemmas.BufferedRows.{next_reader, filled_to_next, filled_to_failed, with_slot, readable_after}
+use proofs.PasteLemmas.BufferedRows.{filled_to_columns, filled_to_copied, still_readable}
 use Rattle.ptflow.proofs.tools.paste.fill_row.Goals.{After-fill_cell, In_ok-has_line}
 use proofs.tools.paste.fill_row.Given as given
 use proofs.tools.paste.fill_row.Goals as goal
 
 pub cells-init : goal.cells-init
 cells-init g c = record {
-  amid = λ from first a. a;
+  filled_to = λ from first a. a;
   readable = c.requires.readable;
   slots = c.requires.slots;
   within = (omega arith, c.requires.within);
@@ -35,7 +35,7 @@ fill_cell-requires-clause-readable g c = (next_reader c.cells.invariant.readable
 
 pub returns-in_err-has_line-clause-fills : goal.returns-in_err-has_line-clause-fills
 returns-in_err-has_line-clause-fills g c =
-    rw (is_fault c.from_residual.ensures) (λ from first a. amid_failed (c.cells.invariant.amid from first a)
+    rw (is_fault c.from_residual.ensures) (λ from first a. filled_to_failed (c.cells.invariant.filled_to from first a)
     (search next_reader) _ _ c.cells.into c.in_err-has_line.field-0.0 c.in_err-has_line.ensures.fills)
 
 sent : (g : given.Over) (c : After-fill_cell g) → PushEffect c.args.out.now c.fill_cell.new.out []
@@ -52,13 +52,14 @@ module _ (g : given.Over) (c : In_ok-has_line g) where
     any_line = c.cells.begun.any_line || c.in_ok-has_line.has_line;
   }
 
-  amid : (from : List Reader) (first : Slots)
-      → RowAmid (shape_of c.args.row) c.args.begun.count from first
+  filled_to : (from : List Reader) (first : Slots)
+      → RowFilledTo (shape_of c.args.row) c.args.begun.count from first
       (begun_in c.args.readers.now c.args.begun c.args.into.now) c.args.store.now
-      → RowAmid (shape_of c.args.row) (c.cells.column + 1) from first filled c.fill_cell.new.store
-  amid from first a =
+      → RowFilledTo (shape_of c.args.row) (c.cells.column + 1) from first filled c.fill_cell.new.store
+  filled_to from first a =
       let (fills, sound) = c.in_ok-has_line.ensures.fills in
-      amid_next (c.cells.invariant.amid from first a) (search (rules, next_reader)) _ _ (omega arith) sound _ fills
+      filled_to_next (c.cells.invariant.filled_to from first a) (search (rules, next_reader)) _ _ (omega arith) sound _
+      fills
 
   ready : BufferedRowsPre (shape_of c.args.row) filled.readers
   ready = readable_after (search next_reader) _ c.cells.invariant.readable _ _
@@ -79,7 +80,8 @@ cells-preserved-in-Some g c =
     ≡ with_slot (shape_of c.args.row) c.cells.column c.fill_cell.new.store row = λ i.
     record { readers = row.readers; count = count i; any_line = any_line i; text = text i } in
     record {
-      amid = λ from start a. amid_columns (amid_copied (amid g at.In_ok-has_line from start a) first) (rw resumed at p);
+      filled_to = λ from start a.
+          filled_to_columns (filled_to_copied (filled_to g at.In_ok-has_line from start a) first) (rw resumed at p);
       readable = still_readable p.consumed (ready g at.In_ok-has_line);
       slots = omega arith;
       within = (omega arith, c.copy_columns-begun.ensures.within.0);
@@ -91,7 +93,7 @@ pub cells-preserved : goal.cells-preserved
 cells-preserved g c =
     let at = goal.at.cells-preserved g c in
     record {
-      amid = λ from start a. rw c.in-None.ensures.none (amid g at.In_ok-has_line from start a);
+      filled_to = λ from start a. rw c.in-None.ensures.none (filled_to g at.In_ok-has_line from start a);
       readable = ready g at.In_ok-has_line;
       slots = omega arith;
       within = (omega arith, omega arith);
@@ -102,4 +104,4 @@ cells-preserved g c =
 pub returns-clause-fills : goal.returns-clause-fills
 returns-clause-fills g c = λ from first a.
     let all : c.cells.column ≡ length c.args.row.cells.now = omega arith in
-    rw all at (c.cells.invariant.amid from first a)
+    rw all at (c.cells.invariant.filled_to from first a)

@@ -3,14 +3,14 @@
 -- and writes it. If that has no line, all readers are at the end of their inputs. Lemmas: the loop has started
 -- (`starts`), and its invariant after each push (`pushed`, `sent`).
 use Rattle.ptflow.proofs
-use proofs.Common.{sym, ap, subst, arith, length, paste_job, job_shape, RowShape, RowAmid, begun_in, shape_of}
+use proofs.Common.{sym, ap, subst, arith, length, paste_job, job_shape, RowShape, RowFilledTo, begun_in, shape_of}
 use proofs.Common.{length-take-le, call_on_failed_output, push_nothing, refl, [], ◌∙◌, Ok, Output}
 use Rattle.std.proofs.lemmas.Bool.{not-false, not-true}
 use proofs.Passes.Exits.{is_fault}
 use proofs.PasteLemmas.{of_rows, row_job, paste_without_slots, rows_write_failed, paste_done}
 use proofs.PasteLemmas.{paste_fill_failed, paste_row_write_failed, HasStarted, invariant_rows, invariant_written}
 use proofs.PasteLemmas.{row_slots, invariant_slots, invariant_more, now_readable, RowsInvariant, still_readable}
-use proofs.PasteLemmas.{amid_starts, nothing_taken, rows_taken_none, slots_bound_start}
+use proofs.PasteLemmas.{filled_to_starts, nothing_taken, rows_taken_none, slots_bound_start}
 use Rattle.ptflow.proofs.tools.paste.paste.Goals.{After-ensure_slots, In_ok-filled, In_ok-push}
 use proofs.tools.paste.paste.Given as given
 use proofs.tools.paste.paste.Goals as goal
@@ -107,17 +107,17 @@ pub returns-in_err-filled : goal.returns-in_err-filled
 returns-in_err-filled g c =
     of_rows c.row_format-row.ensures (is_fault c.from_residual-in_err-filled.ensures) (paste_fill_failed
     (pushed g (goal.at.returns-in_err-filled g c).In_ok-push) c.fill_row.new.readers c.fill_row.new.into
-    c.in_err-filled.field-0.0 (c.in_err-filled.ensures.fills _ _ (amid_starts c.copy_rows-copied.ensures.rows
+    c.in_err-filled.field-0.0 (c.in_err-filled.ensures.fills _ _ (filled_to_starts c.copy_rows-copied.ensures.rows
     (c.move_to_front-begun.ensures _))) c.in_err-filled.ensures.wrote c.in_err-filled.ensures.write_failed)
 
 module _ (g : given.Over) (c : In_ok-filled g) where
   abbrev here : In_ok-push g
   here = (goal.at.In_ok-filled g c).In_ok-push
 
-  amid : RowAmid (shape g here) (length (shape g here).cells) c.copy_rows-copied.ensures.rows.mid c.rows.store
+  filled_to : RowFilledTo (shape g here) (length (shape g here).cells) c.copy_rows-copied.ensures.rows.mid c.rows.store
       (begun_in c.fill_row.new.readers c.in_ok-filled.filled c.fill_row.new.into) c.fill_row.new.store
-  amid = c.in_ok-filled.ensures.fills _ _
-      (amid_starts c.copy_rows-copied.ensures.rows (c.move_to_front-begun.ensures _))
+  filled_to = c.in_ok-filled.ensures.fills _ _
+      (filled_to_starts c.copy_rows-copied.ensures.rows (c.move_to_front-begun.ensures _))
 
   -- The invariant before the row was written.
   sent : Sent g here c.fill_row.new.out
@@ -125,37 +125,37 @@ module _ (g : given.Over) (c : In_ok-filled g) where
 
 pub clear_slots-requires : goal.clear_slots-requires
 clear_slots-requires g c =
-    let here = (goal.at.clear_slots-requires g c).In_ok-filled in row_slots (sent g here) (amid g here)
+    let here = (goal.at.clear_slots-requires g c).In_ok-filled in row_slots (sent g here) (filled_to g here)
 
 pub returns-then-not-filled : goal.returns-then-not-filled
 returns-then-not-filled g c =
     let here = (goal.at.returns-then-not-filled g c).In_ok-filled in
-    of_rows {result = Ok tt} c.row_format-row.ensures refl (paste_done (sent g here) (amid g here)
+    of_rows {result = Ok tt} c.row_format-row.ensures refl (paste_done (sent g here) (filled_to g here)
     (not-true _ c.if-not-filled.true) c.clear_slots.ensures (push_nothing _) c.in_ok-filled.ensures.write_failed)
 
 pub write_row-requires-clause-within : goal.write_row-requires-clause-within
-write_row-requires-clause-within g c = (amid g (goal.at.write_row-requires-clause-within g c).In_ok-filled).within
+write_row-requires-clause-within g c = (filled_to g (goal.at.write_row-requires-clause-within g c).In_ok-filled).within
 
 pub write_row-requires-clause-slots : goal.write_row-requires-clause-slots
 write_row-requires-clause-slots g c =
-    let here = (goal.at.write_row-requires-clause-slots g c).In_ok-filled in row_slots (sent g here) (amid g here)
+    let here = (goal.at.write_row-requires-clause-slots g c).In_ok-filled in row_slots (sent g here) (filled_to g here)
 
 pub returns-in_err-write_row : goal.returns-in_err-write_row
 returns-in_err-write_row g c =
     let here = (goal.at.returns-in_err-write_row g c).In_ok-filled in
     of_rows c.row_format-row.ensures (is_fault c.from_residual-in_err-write_row.ensures) (paste_row_write_failed
-    (sent g here) (amid g here) (not-false _ c.if-not-filled.false) c.write_row.ensures.wrote
+    (sent g here) (filled_to g here) (not-false _ c.if-not-filled.false) c.write_row.ensures.wrote
     c.in_err-write_row.ensures.fault)
 
 pub rows-smaller : goal.rows-smaller
 rows-smaller g c = omega (
   arith,
-  (amid g (goal.at.rows-smaller g c).In_ok-filled).filled.less (not-false _ c.if-not-filled.false),
+  (filled_to g (goal.at.rows-smaller g c).In_ok-filled).filled.less (not-false _ c.if-not-filled.false),
   c.copy_rows-copied.ensures.rows.rows.least,
 )
 
 pub rows-preserved : goal.rows-preserved
 rows-preserved g c =
     let here = (goal.at.rows-preserved g c).In_ok-filled in
-    invariant_more (sent g here) (amid g here) (not-false _ c.if-not-filled.false) c.write_row.ensures.wrote
+    invariant_more (sent g here) (filled_to g here) (not-false _ c.if-not-filled.false) c.write_row.ensures.wrote
     c.in_ok-write_row.ensures.clean

@@ -16,10 +16,11 @@ returns-then-job-clause-put g c =
     let size = c.whole_lines_len-len in
     let of = c.new-delimiters.ensures in
     let free = rw (← c.unwrap_or-first.ensures)
-    at (free_before _ bytes c.first.result (rw (of.byte, of.bytes, c.args.by.now.delimits) at c.first.ensures)) in
-    puts_dropped (cut_job c.args.by.now.job.now) c.args.by.now.by_fields c.args.by.now.ends bytes _ c.requires.first
-    size.ensures.within.0 size.ensures.within.1 size.ensures.eof size.ensures.up_to c.if-first-to.false free
-    c.if-job.true
+    at (free_before _ bytes c.first.result
+    (rw (of.byte, of.bytes, c.args.selection.now.delimits) at c.first.ensures)) in
+    puts_dropped (cut_job c.args.selection.now.job.now) c.args.selection.now.by_fields c.args.selection.now.ends bytes _
+    c.requires.first size.ensures.within.0 size.ensures.within.1 size.ensures.eof size.ensures.up_to
+    c.if-first-to.false free c.if-job.true
 
 pub returns-clause-put : goal.returns-clause-put
 returns-clause-put g c =
@@ -27,8 +28,9 @@ returns-clause-put g c =
     let size = c.whole_lines_len-len in
     let of = c.new-delimiters.ensures in
     let free = rw (← c.unwrap_or-first.ensures)
-    at (free_before _ bytes c.first.result (rw (of.byte, of.bytes, c.args.by.now.delimits) at c.first.ensures)) in
+    at (free_before _ bytes c.first.result
+    (rw (of.byte, of.bytes, c.args.selection.now.delimits) at c.first.ensures)) in
     let whole : size.result - 0 ≡ size.result = omega arith in
-    puts_kept (cut_job c.args.by.now.job.now) c.args.by.now.by_fields c.args.by.now.ends bytes _ c.requires.first
-    size.ensures.within.0 size.ensures.within.1 size.ensures.eof
+    puts_kept (cut_job c.args.selection.now.job.now) c.args.selection.now.by_fields c.args.selection.now.ends bytes _
+    c.requires.first size.ensures.within.0 size.ensures.within.1 size.ensures.eof
     size.ensures.up_to c.if-first-to.false free c.if-job.false (rw whole at c.copy_short.ensures.copied)

@@ -8,41 +8,42 @@ use proofs.tools.cut.fields.write_line.Given as given
 use proofs.tools.cut.fields.write_line.Goals as goal
 use Rattle.ptflow.proofs.tools.cut.fields.write_line.Goals.{After-is_some}
 
-has : (g : given.Over) (c : After-is_some g) → list_any (is_field_delimiter (cut_job c.args.by.now.job.now))
+has : (g : given.Over) (c : After-is_some g) → list_any (is_field_delimiter (cut_job c.args.selection.now.job.now))
     c.args.line.now ≡ c.is_some.result
 has g c =
     let of = c.new-delimiters.ensures in
-    found _ _ _ (rw (of.byte, of.bytes, c.args.by.now.delimits) at c.first.ensures) ∙ sym c.is_some.ensures
+    found _ _ _ (rw (of.byte, of.bytes, c.args.selection.now.delimits) at c.first.ensures) ∙ sym c.is_some.ensures
 
 pub returns-in_err-write_fields-clause-wrote : goal.returns-in_err-write_fields-clause-wrote
 returns-in_err-write_fields-clause-wrote g c =
-    let job = cut_job c.args.by.now.job.now in
+    let job = cut_job c.args.selection.now.job.now in
     let line = c.args.line.now in
     let some = has g (goal.at.returns-in_err-write_fields-clause-wrote g c).After-is_some ∙ c.if-is_some.true in
     rw (line_written job line (cut_fields job line) (grind arith))
     (push_past_failure _ _ _ _ c.in_err-write_fields.ensures.fault
     (rw c.new-delimiters.ensures.bytes at c.in_err-write_fields.ensures.wrote))
 
-pub returns-then-by-clause-wrote : goal.returns-then-by-clause-wrote
-returns-then-by-clause-wrote g c =
-    let job = cut_job c.args.by.now.job.now in
-    let none = has g (goal.at.returns-then-by-clause-wrote g c).After-is_some ∙ c.if-is_some.false in
-    rw (line_dropped job c.args.line.now (of_none job c.args.by.now.by_fields c.args.line.now none c.if-by.true))
+pub returns-then-selection-clause-wrote : goal.returns-then-selection-clause-wrote
+returns-then-selection-clause-wrote g c =
+    let job = cut_job c.args.selection.now.job.now in
+    let none = has g (goal.at.returns-then-selection-clause-wrote g c).After-is_some ∙ c.if-is_some.false in
+    rw (line_dropped job c.args.line.now
+    (of_none job c.args.selection.now.by_fields c.args.line.now none c.if-selection.true))
     (push_nothing _)
 
 pub returns-then-is_some-clause-wrote : goal.returns-then-is_some-clause-wrote
 returns-then-is_some-clause-wrote g c =
-    let job = cut_job c.args.by.now.job.now in
+    let job = cut_job c.args.selection.now.job.now in
     let line = c.args.line.now in
     let some = has g (goal.at.returns-then-is_some-clause-wrote g c).After-is_some ∙ c.if-is_some.true in
     rw (line_written job line (cut_fields job line) (grind arith))
     (wrote_then _ _ _ (rw c.new-delimiters.ensures.bytes at c.in_ok-write_fields.ensures.wrote)
-    (rw c.args.by.now.ends at c.push.ensures.pushed.wrote))
+    (rw c.args.selection.now.ends at c.push.ensures.pushed.wrote))
 
 pub returns-clause-wrote : goal.returns-clause-wrote
 returns-clause-wrote g c =
-    let job = cut_job c.args.by.now.job.now in
+    let job = cut_job c.args.selection.now.job.now in
     let line = c.args.line.now in
     let none = has g (goal.at.returns-clause-wrote g c).After-is_some ∙ c.if-is_some.false in
-    rw (line_written job line line (of_line job c.args.by.now.by_fields line none c.if-by.false))
-    (rw c.args.by.now.ends at c.push_line.ensures.pushed.wrote)
+    rw (line_written job line line (of_line job c.args.selection.now.by_fields line none c.if-selection.false))
+    (rw c.args.selection.now.ends at c.push_line.ensures.pushed.wrote)

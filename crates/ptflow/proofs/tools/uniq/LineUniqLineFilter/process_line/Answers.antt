@@ -11,12 +11,12 @@ use proofs.tools.uniq.LineUniqLineFilter.process_line.Goals as goal
 use Rattle.ptflow.proofs.tools.uniq.LineUniqLineFilter.process_line.Goals.{After-is_same_run}
 
 test : (g : given.Over) (c : After-is_same_run g)
-    → (nat_lt 0 c.args.self.now.run.count && is_same (uniq_job c.args.self.now.by.job.now)
+    → (nat_lt 0 c.args.self.now.run.count && is_same (uniq_job c.args.self.now.writer.job.now)
     (first_line c.args.self.now.run c.args.store.now) (line c.args.store.now 1)) ≡ c.is_same_run.result
 test g c = search rules
 
 before : (g : given.Over) (c : After-is_same_run g) → let run = current_run_of c.args.self.now.run c.args.store.now in
-    RunSteps (uniq_job c.args.self.now.by.job.now) run run [] []
+    RunSteps (uniq_job c.args.self.now.writer.job.now) run run [] []
 before g c = search rules
 
 pub returns-then-is_same_run-clause-continues : goal.returns-then-is_same_run-clause-continues
@@ -34,8 +34,8 @@ pub returns-clause-continues : goal.returns-clause-continues
 returns-clause-continues g c =
     let at = (goal.at.returns-clause-continues g c).After-is_same_run in
     let next = line c.args.store.now 1 in
-    subst (λ l. RunsWritten (uniq_job c.args.self.now.by.job.now) (current_run_of c.args.self.now.run c.args.store.now)
-    (run_of l 1) (next ∷ []) c.args.out.now c.write_run.new.out)
+    subst (λ l. RunsWritten (uniq_job c.args.self.now.writer.job.now)
+    (current_run_of c.args.self.now.run c.args.store.now) (run_of l 1) (next ∷ []) c.args.out.now c.write_run.new.out)
     (sym (grind usual))
     (steps_written (steps_next (before g at) next (cc (test g at)))
     (rw c.first_line-2.ensures at c.write_run.ensures.wrote) refl (λ _. c.in_ok-write_run.ensures.clean))

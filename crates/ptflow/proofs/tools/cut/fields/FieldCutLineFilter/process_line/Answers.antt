@@ -10,7 +10,7 @@ if_failed (Err e) p f = f p
 
 pub returns-clause-halts : goal.returns-clause-halts
 returns-clause-halts g c =
-    let job = cut_job c.args.self.now.by.job.now in
+    let job = cut_job c.args.self.now.selection.job.now in
     if_failed c.write_line.result c.write_line.ensures.fault (λ fault. record {
       passed = cut_lines job (line c.args.store.now 0 ∷ []);
       wrote = rw c.line.ensures at c.write_line.ensures.wrote;

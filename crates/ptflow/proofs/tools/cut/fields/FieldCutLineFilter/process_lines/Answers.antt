@@ -15,12 +15,12 @@ less_left start size rest fits near space = omega (arith, length-drop size rest)
 pub lines-preserved : goal.lines-preserved
 lines-preserved g c =
     let l = c.lines in
-    let put = rw c.args.self.now.by.ends at c.copy_lines-copied.ensures.put in
+    let put = rw c.args.self.now.selection.ends at c.copy_lines-copied.ensures.put in
     rw take_rest (record {
       taken = taken_more _ _ put.taken l.invariant.taken;
       on = λ more. l.invariant.on more ∙ put.on more;
       space = less_left _ _ _ put.fits c.copy_lines-copied.ensures.end.1 l.invariant.space;
-      same_by = l.invariant.same_by;
+      same_selection = l.invariant.same_selection;
       long = c.copy_lines-copied.ensures.long ∙ l.invariant.long;
     })
 
@@ -33,16 +33,16 @@ returns-in_err-push-clause-halts g c =
       wrote = c.push.ensures.pushed.wrote;
       fault = c.in_err-push.ensures.pushed.fault;
       is_prefix = λ more. (
-        cut_lines (cut_job c.args.self.now.by.job.now)
-            (complete_lines (cut_job c.args.self.now.by.job.now).terminator l.rest.now ++ more),
+        cut_lines (cut_job c.args.self.now.selection.job.now)
+            (complete_lines (cut_job c.args.self.now.selection.job.now).terminator l.rest.now ++ more),
         l.invariant.on more,
       );
     })
 
 none_left : (g : given.Over) (c : In_default g)
-    → IsLine (cut_job c.args.self.now.by.job.now).terminator c.lines.rest.now
+    → IsLine (cut_job c.args.self.now.selection.job.now).terminator c.lines.rest.now
 none_left g c = line_if_not_found _ _
-    (rw (c.new.ensures.byte, c.new.ensures.bytes, c.args.self.now.by.ends) at c.in_default.ensures)
+    (rw (c.new.ensures.byte, c.new.ensures.bytes, c.args.self.now.selection.ends) at c.in_default.ensures)
 
 pub returns-clause-continues : goal.returns-clause-continues
 returns-clause-continues g c =
@@ -53,7 +53,7 @@ returns-clause-continues g c =
       wrote = c.in_ok-push.ensures.pushed.wrote;
       clean = λ was_clean. c.in_ok-push.ensures.pushed.clean;
       on = λ more. l.invariant.on more ∙ ap
-          (λ ls. take l.end l.self.buffer ++ cut_lines (cut_job c.args.self.now.by.job.now) (ls ++ more)) none;
+          (λ ls. take l.end l.self.buffer ++ cut_lines (cut_job c.args.self.now.selection.job.now) (ls ++ more)) none;
       count = omega arith;
       some = λ h. omega arith;
     }

@@ -2,18 +2,18 @@
 -- selection stays the same, and the rest of the block gets shorter.
 use Rattle.ptflow.proofs
 use proofs.Common.{◌≡◌, ◌+◌, ◌≤◌, ◌++◌, ℕ, List, length, take, complete_lines, cut_job, cut_lines}
-use proofs.Passes.Exits.{TakenLines}
+use proofs.Passes.Exits.{IsAfterLines}
 use proofs.tools.cut.fields.FieldCutLineFilter.process_lines.Given as goal
 use Rattle.ptlines.specs.declared.sizes.TheConstants.{PADDED}
 
 abbrev pub invariant-lines : goal.invariant-lines
 invariant-lines g l =
-    let job = cut_job l.fn.self.by.job.now in record {
-      taken : TakenLines job.terminator l.block l.rest;
+    let job = cut_job l.fn.self.selection.job.now in record {
+      taken : IsAfterLines job.terminator l.block l.rest;
       on : (more : List (List ℕ)) → cut_lines job (complete_lines job.terminator l.block ++ more)
           ≡ take l.end l.self.buffer ++ cut_lines job (complete_lines job.terminator l.rest ++ more);
       space : l.end + length l.rest ≤ length l.block;
-      same_by : l.self.by ≡ l.fn.self.by;
+      same_selection : l.self.selection ≡ l.fn.self.selection;
       long : length l.self.buffer ≡ PADDED;
     }
 

@@ -1,9 +1,8 @@
--- The invariant of the loop of `copy_rows_by_segments`, which is that of `copy_rows_by_columns`: the rows so far were
--- taken from the buffers, and their text is in `into`, and fits. Each row takes a line, so the sum of the readers'
--- budgets decreases.
+-- The invariant of the loop of `copy_rows_by`: the rows so far were taken from the buffers of the readers, their text
+-- is in `into`, and it fits. Each row takes a line, so the sum of the readers' budgets decreases.
 use Rattle.ptflow.proofs
 use proofs.Common.{◌≡◌, ◌≤◌, length, take, sum_by, budget, AreConsumed, RowsTaken, shape_of}
-use proofs.tools.paste.buffered_rows.copy_rows_by_segments.Given as goal
+use proofs.tools.paste.buffered_rows.copy_rows_by.Given as goal
 use Rattle.ptlines.specs.declared.sizes.TheConstants.{BLOCK, PADDED}
 
 abbrev pub invariant-rows : goal.invariant-rows
