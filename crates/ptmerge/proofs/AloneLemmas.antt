@@ -3,8 +3,8 @@
 use Rattle.ptmerge.proofs
 use Rattle.ptmerge.specs
 use proofs.Common.{◌≡◌, inl, ℕ, List, [], ◌∷◌, ◌++◌, Bool, refl, sym, ◌∙◌, ap, false, append_assoc, append-nil}
-use proofs.Common.{both, other, Key, Lines, MergeTool, Output, PushEffect, Side, First, Second, entries_by_key, lines_with_key}
-use proofs.Common.{push_nothing, push_trans, unlines, unlines-append, with_side}
+use proofs.Common.{both, other, Key, Lines, MergeTool, Output, PushEffect, Side, First, Second, entries_by_key}
+use proofs.Common.{lines_with_key, push_nothing, push_trans, unlines, unlines-append, with_side}
 use proofs.MergeLemmas.{AtLeast, AtMost, Bound, Each-all, Each-weaker, EachKey, EachKey-append, IsKeyOrder}
 use proofs.MergeLemmas.{IsLeastKeyRun, IsLineByLine, IsUnder, MergeInvariant, NothingMore, Written, all_keys, alone}
 use proofs.MergeLemmas.{at_most_trans, output_of, put_each, put_other, put_same, side_case, write_least_run}

@@ -17,7 +17,7 @@ use specs.declared.merging.cursor.Reached.{Reached}
 use proofs.MergeLemmas.{MergeInvariant, IsKeyOrder, Bound, AtLeast, AtMost, Above, Written, alone, output_of, all_keys}
 use proofs.MergeLemmas.{write_least_run, IsLeastKeyRun, IsLineByLine, Each-weaker, at_most_trans, greater_flips}
 use proofs.MergeLemmas.{less_flips, is_greater, lines_with_key-above, side_case, from_key, self_at_most, EachKey-append}
-use proofs.MergeLemmas.{put_same, put_other, unlines_push, EachKey, IsSortedFrom, same_bytes}
+use proofs.MergeLemmas.{put_same, put_other, unlines_push, EachKey, IsSortedFrom, entries_of_line, entries_of_pair}
 use Rattle.ptlines.proofs.TextLaws.{AreLines_push}
 use Rattle.ptlines.proofs.LineSearch.{line_before_terminator}
 use Rattle.memchr.specs.Find.{IsFirstByte, is_byte}
@@ -275,18 +275,10 @@ module _ (tool : MergeTool) (cmp : Cmp) (key : Side → Key) (o : IsKeyOrder cmp
   abbrev ordered : MergeTool
   ordered = in_order tool cmp key
 
-  of_line : (s : Side) (x : List ℕ)
-      → entries_by_key ordered all_keys (alone s x) ≡ entries_alone tool.entries s (key s x) x
-  of_line = grind (arith, same_bytes, append-nil)
-
-  of_pair : (x y : List ℕ) → key Second y ≡ key First x
-      → entries_by_key ordered all_keys (both (x ∷ []) (y ∷ [])) ≡ tool.entries (key First x) (x ∷ []) (y ∷ [])
-  of_pair = grind (arith, same_bytes, append-nil)
-
   pub line_pushed : (s : Side) {x k : List ℕ} {mid is : Output} → k ≡ key s x
       → PushEffect mid is (unlines tool.terminator (entries_alone tool.entries s k x))
       → PushEffect mid is (output_of ordered (alone s x))
-  line_pushed s own pushed = rw (of_line s _) (rw own at pushed)
+  line_pushed s own pushed = rw (entries_of_line ordered s _) (rw own at pushed)
 
   pub alone_passes : (s : Side) {now : Side → BlockLine} {next : BlockLine} {mid is : Output} {k l : List ℕ}
       → k ≡ key s (now s).head.now → l ≡ key (other s) (now (other s)).head.now → is_gt (cmp l k) ≡ true
@@ -307,7 +299,7 @@ module _ (tool : MergeTool) (cmp : Cmp) (key : Side → Key) (o : IsKeyOrder cmp
       pair_step ordered o same n
       (⊎_elim (λ law r c. law _ _ _ _ _)
       (λ new. pair_splits ordered o by.alone.none _ _ _ (elim [ First ↦ refl | Second ↦ same ]) n new) first)
-      (rw (of_pair _ _ same) (rw own at pushed))
+      (rw (entries_of_pair ordered o _ _ same) (rw own at pushed))
 
 -- the lines that follow have other keys, unless the tool writes pair by pair
 pub pairs_or_new : {P : Type 0} (pairs : Bool) (next : Side → BlockLine) → (pairs ≡ true → P)

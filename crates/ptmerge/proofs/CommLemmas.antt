@@ -1,19 +1,19 @@
 -- Proofs for `comm`. A line adds one output line if one input has it alone, and one common output line if both have it:
 -- each step of the merge extends the output by the entries of its key, so the loop invariant of the merge carries over.
 use Rattle.ptmerge.proofs
-use proofs.Common.{◌≡◌, ℕ, List, [], ◌∷◌, ◌++◌, refl, sym, arith, Comm, Output, PushEffect, Reader, Slots, line, rules}
-use proofs.Common.{unlines, Side, First, Second, Sorted, Lines, MergeTool, entries_by_key, AdvanceOkPost, AdvancePre}
+use proofs.Common.{◌≡◌, ℕ, List, [], ◌∷◌, ◌++◌, refl, sym, ◌∙◌, arith, Comm, Output, PushEffect, Reader, Slots, line}
+use proofs.Common.{rules, unlines, Side, First, Second, Sorted, Lines, MergeTool, AdvanceOkPost, AdvancePre}
 use proofs.Common.{MergeRunPre, MergeState, merge_state, Cmp, Key, both, with_side, HaveEqualKeys, HasOnlyLeastKey, suc}
-use proofs.Common.{append-nil, Bool}
+use proofs.Common.{append-nil, Bool, Head}
 use proofs.MergeLemmas.{BetweenSteps, between_next, advance_pre, EndsIfFails, LoopInvariant, advance_ok, goes_merging}
-use proofs.MergeLemmas.{passing_now, runs_on, read_facts_current, iteration_fails, alone, wrote_alone, alone_breaks}
-use proofs.MergeLemmas.{place_is, wrote_and_sent, IsKeyOrder, same_bytes, Written, MergeInvariant, line_is_least_run}
-use proofs.MergeLemmas.{lag_invariant_starts, write_least_run, all_keys, at_current_line, state_by_side, IsOpenMerge}
-use proofs.MergeLemmas.{open_merge}
-use Rattle.ptmerge.specs.Calls.Comm.{comm_with}
-use Rattle.ptmerge.specs.Comm.{entries, column_entries, tab_if_shown}
-use Rattle.ptmerge.specs.Private.Comm.{IsColumn, hidden_of, lines_in, tabs_of}
-use Rattle.ptmerge.specs.declared.tools.comm.column.Column.{Column}
+use proofs.MergeLemmas.{passing_now, runs_on, read_facts_current, iteration_fails, wrote_alone, alone_breaks}
+use proofs.MergeLemmas.{place_is, wrote_and_sent, IsKeyOrder, Written, MergeInvariant, line_is_least_run}
+use proofs.MergeLemmas.{lag_invariant_starts, write_least_run, at_current_line, state_by_side, IsOpenMerge}
+use proofs.MergeLemmas.{Kept, entries_of_pair, open_merge}
+use Rattle.ptmerge.specs.Calls.Comm.{comm_tool, comm_with}
+use Rattle.ptmerge.specs.Comm.{entries, column_entries}
+use Rattle.ptmerge.specs.Private.BlockLines.{entries_alone}
+use Rattle.ptmerge.specs.Private.WriteAndAdvance.{WriteThenAdvancePre}
 
 -- ---- each line adds one entry
 
@@ -29,16 +29,6 @@ pub comm_opens : (job : Comm) (cmp : Cmp) (key : Side → Key) {first second : R
     → IsOpenMerge (comm_with job cmp key) (merge_state first second out store)
 comm_opens job cmp key o begins = open_merge o (grind (arith, no_entries, append-nil)) (λ ls. omega arith) begins
 
-module _ (job : Comm) (cmp : Cmp) (key : Side → Key) where
-  pub entries_alone : (s : Side) (x : List ℕ) → key s x ≡ x → entries_by_key (comm_with job cmp key) all_keys
-      (alone s x) ≡ column_entries (hidden_of job s) (tabs_of job s) 1 x
-  entries_alone = grind (arith, same_bytes, append-nil)
-
-  pub entries_of_pair : IsKeyOrder cmp → (x y : List ℕ) → key First x ≡ x → key Second y ≡ key First x
-      → entries_by_key (comm_with job cmp key) all_keys (both (x ∷ []) (y ∷ [])) ≡ column_entries job.hide3
-      (tab_if_shown job.hide1 ++ tab_if_shown job.hide2) 1 x
-  entries_of_pair = grind (arith, same_bytes, append-nil)
-
 -- ---- the loop invariant
 
 pub record IterationInvariant (job : Comm) (cmp : Cmp) (key : Side → Key) (old now : MergeState)
@@ -47,6 +37,12 @@ pub record IterationInvariant (job : Comm) (cmp : Cmp) (key : Side → Key) (old
   pub whole_line_keys : (side : Side) (x : List ℕ) → key side x ≡ x
   pub loop_invariant : LoopInvariant w now (both one two)
   pub between : BetweenSteps key now one two
+
+-- the same for the current order of lines, which is the one at the start
+abbrev pub LoopOfComm : Comm → {O : Type 0} → (O → Cmp) → (O → Side → Key) → MergeState → MergeState → Sorted → Sorted
+    → O → O → Type 0
+LoopOfComm job cmp key old now one two order start = Kept (λ o. comm_with job (cmp o) (key o))
+    (λ o. IterationInvariant job (cmp o) (key o) old now one two) order start
 
 -- ---- a step
 
@@ -70,29 +66,30 @@ module _ {job : Comm} {cmp : Cmp} {key : Side → Key} {old now : MergeState} {o
   Advances s one2 two2 reader after new =
       AdvanceOkPost key cmp s one two one2 two2 (now.reader s) reader now.store after new
 
-  module _ {s : Side} (step : HasOnlyLeastKey cmp key (both one two) now.store s) where
-    module _ {new : Output} {column : Column} (at : IsColumn column (hidden_of job s) (tabs_of job s))
-        (pushed : PushEffect now.out new (unlines (now.reader s).terminator (lines_in column (head s)))) where
-      wrote_line : PushEffect now.out new (unlines (now.reader s).terminator (entries_by_key tool all_keys
-          (alone s (head s))))
-      wrote_line =
-          rw (entries_alone job cmp key s (head s) (whole_line_keys s _), ← at.hidden_is, ← at.tabs_are) pushed
+  pub write_pre : (s : Side) → (both one two s).status ≡ Head
+      → WriteThenAdvancePre (comm_tool job) key s one two (now.reader s) now.store now.out
+  write_pre s head = record { advance = advance_pre between s head; keys = whole_line_keys; clean = between.clean }
 
-      pub alone_continues : {one2 two2 : Sorted} {reader : Reader} {after : Slots}
-          → Advances s one2 two2 reader after new
-          → IterationInvariant job cmp key old (state_by_side (with_side s reader now.reader) new after) one2 two2
-      alone_continues {one2} {two2} h = record {
-        w = w;
-        whole_line_keys = whole_line_keys;
-        loop_invariant = rw (← place_is s one two one2 two2 h.continues.others)
-            (runs_on lines_before s step.status_is h.came (wrote_alone loop_invariant between.clean step wrote_line).0);
-        between = between_next between s h.continues;
-      }
+  module _ {s : Side} (step : HasOnlyLeastKey cmp key (both one two) now.store s) {new : Output}
+      (wrote : PushEffect now.out new (unlines (now.reader s).terminator
+      (entries_alone tool.entries s (key s (head s)) (head s)))) where
+    pub alone_continues : {one2 two2 : Sorted} {reader : Reader} {after : Slots} → Advances s one2 two2 reader after new
+        → IterationInvariant job cmp key old (state_by_side (with_side s reader now.reader) new after) one2 two2
+    alone_continues {one2} {two2} h = record {
+      w = w;
+      whole_line_keys = whole_line_keys;
+      loop_invariant = rw (← place_is s one two one2 two2 h.continues.others)
+          (runs_on lines_before s step.status_is h.came (wrote_alone loop_invariant between.clean step wrote).0);
+      between = between_next between s h.continues;
+    }
 
-      pub alone_fails : EndsIfFails tool old now s (both one two s) new
-      alone_fails = search (rules, alone_breaks, wrote_line)
+    pub alone_fails : EndsIfFails tool old now s (both one two s) new
+    alone_fails = alone_breaks loop_invariant between.clean step wrote
 
   module _ (step : HaveEqualKeys cmp key (both one two) now.store) where
+    pub same_line : head Second ≡ head First
+    same_line = sym (whole_line_keys Second _) ∙ sym step.same ∙ whole_line_keys First _
+
     -- the first input advanced: the second one is still at the line
     module _ {one2 two2 : Sorted} {reader : Reader} {after : Slots} {mid : Output}
         (h : Advances First one2 two2 reader after mid) where
@@ -103,9 +100,8 @@ module _ {job : Comm} {cmp : Cmp} {key : Side → Key} {old now : MergeState} {o
     abbrev both_written : Side → Lines
     both_written = both (ls First) (ls Second)
 
-    wrote_both : {new : Output} → PushEffect now.out new
-        (unlines job.terminator (entries_by_key tool all_keys (both (head First ∷ []) (head Second ∷ []))))
-        → Written tool b both_written old.out new
+    wrote_both : {new : Output} → PushEffect now.out new (unlines (now.reader First).terminator
+        (tool.entries (head First) (head First ∷ []) (head Second ∷ []))) → Written tool b both_written old.out new
     wrote_both wrote =
         let h1 = at_current_line (sides First) step.first in
         let h2 = at_current_line (sides Second) step.second in
@@ -116,29 +112,26 @@ module _ {job : Comm} {cmp : Cmp} {key : Side → Key} {old now : MergeState} {o
           | Second ↦ line_is_least_run w.o h2.bound (sym step.same)
         ])
         (elim [ First ↦ h1.all | Second ↦ h2.all ]) (w.alone.none (key First x)) (λ r c. entries_both job _ _ _)
-        between.clean merge_invariant wrote
+        between.clean merge_invariant
+        (rw (entries_of_pair tool w.o _ _ (sym step.same), whole_line_keys First x)
+        (rw (sides First).lines_read.terminator at wrote))
 
-    module _ {mid : Output} {column : Column}
-        (at : IsColumn column job.hide3 (tab_if_shown job.hide1 ++ tab_if_shown job.hide2))
-        (pushed : PushEffect now.out mid (unlines (now.reader First).terminator (lines_in column (head First)))) where
-      wrote_pair : PushEffect now.out mid
-          (unlines job.terminator (entries_by_key tool all_keys (both (head First ∷ []) (head Second ∷ []))))
-      wrote_pair = grind (arith, entries_of_pair)
-
+    module _ {mid : Output} (wrote : PushEffect now.out mid (unlines (now.reader First).terminator
+        (tool.entries (head First) (head First ∷ []) (head Second ∷ [])))) where
       pub pair_fails : EndsIfFails tool old now First one mid
-      pair_fails = iteration_fails lines_before First step.first (wrote_both wrote_pair).1 refl
+      pair_fails = iteration_fails lines_before First step.first (wrote_both wrote).1 refl
           (passing_now lines_before Second step.second)
 
       module _ {one2 two2 : Sorted} {reader : Reader} {after : Slots}
           (h : Advances First one2 two2 reader after mid) {new : Output} (written_out : PushEffect mid new []) where
         wrote_line_out : MergeInvariant tool b both_written old.out new
-        wrote_line_out = (wrote_both (search (rules, wrote_and_sent, wrote_pair))).0
+        wrote_line_out = (wrote_both (wrote_and_sent _ _ _ _ h.continues.clean wrote written_out)).0
 
         pub second_fails : EndsIfFails tool old (state_by_side (both reader (now.reader Second)) new after) Second two2
             new
         second_fails _ _ _ k =
             let g = advance_ok lines_before First step.first h.came in
-            let before = goes_merging lines_before First step.first h.came (wrote_both wrote_pair).0 in
+            let before = goes_merging lines_before First step.first h.came (wrote_both wrote).0 in
             iteration_fails g Second step.second (lag_invariant_starts w.o before h.continues.clean written_out) refl
             (read_facts_current g _) _ _ _ (rw h.continues.others at k)
 

@@ -10,29 +10,26 @@ use proofs.Common.{cond, Err, flat_map-append, Cmp, MergeFault, IsReadyToContinu
 use proofs.Common.{MergeRunPre, merge_state, both, lines_of, Memory, HaveEqualKeys, HasOnlyLeastKey, ◌⊎◌, AdvancePre}
 use proofs.Common.{push_nothing, inl, inr, ◌==◌, length_push, nil_from_length}
 use specs.Private.JoinGroup.{IsInItsSlot, IsCopiedToGroup, ReadGroupLineOkPost, ReadGroupLinePost, IsGroup}
-use specs.Private.JoinGroup.{JoinStepPre}
-use specs.Private.JoinGroup.{JoinLinePre, group_lines}
-use proofs.MergeLemmas.{BetweenSteps, between_next, advance_pre, alone, wrote_alone}
+use specs.Private.JoinGroup.{IsGroupUnchanged, group_first_slot, group_lines}
+use specs.Private.WriteAndAdvance.{WriteThenAdvancePre}
+use proofs.MergeLemmas.{BetweenSteps, between_next, advance_pre, wrote_alone}
 use proofs.MergeLemmas.{alone_breaks, place_is, LoopInvariant, Extends, input_split_of, extends}
 use proofs.MergeLemmas.{extends_on, runs_on, valid_cursors_kept, wrote_and_sent, others_stay, open_merge, IsKeyOrder}
+use proofs.MergeLemmas.{line_other, next_at}
 use proofs.MergeLemmas.{IsOpenMerge}
-use proofs.MergeLemmas.{exit_is_merge_post, continues, same_bound, bounds_change, EachKey-at, Kept}
+use proofs.MergeLemmas.{exit_is_merge_post, continues, same_bound, bounds_change, EachKey-at, Kept, reads_ahead}
+use proofs.MergeLemmas.{reads_less}
 use Rattle.std.proofs.lemmas.Bool.{false≢true}
-use specs.Join.{unpaired_entries1, unpaired_entries2, join_entries}
+use Rattle.std.proofs.Common.{if◌then◌else◌}
+use specs.Join.{unpaired_entries1, join_entries}
 use specs.Private.BlockLines as lines
-use specs.Calls.Join.{join_with, join_key}
-use specs.Private.Join.{unpaired_entry}
+use specs.Calls.Join.{join_with, join_key, join_tool}
 use Group.*
 
 -- ---- the output, by lines and by pairs
 
 cond_of_empty : (t : Bool) → cond {A = Lines} t [] [] ≡ []
 cond_of_empty = grind arith
-
-pub entry_of_line : (job : Join) (s : Side) {k : List ℕ} (x : List ℕ) → k ≡ join_key job s x
-    → lines.entries_alone (join_entries job) s k x ≡ unpaired_entry job s x
-entry_of_line job First x is = ap (λ l. unpaired_entries1 job l (x ∷ [])) is
-entry_of_line job Second x is = ap (λ l. unpaired_entries2 job l (x ∷ [])) is
 
 module _ (job : Join) (cmp : Cmp) (key : Side → Key) where
   first_alone : (k : List ℕ) (g : Lines) → join_entries job k g [] ≡ unpaired_entries1 job k g
@@ -51,10 +48,6 @@ module _ (job : Join) (cmp : Cmp) (key : Side → Key) where
 
   pub join_pairs : IsPairTool (join_with job cmp key) (pair_entries job)
   join_pairs = grind (arith, cond_of_empty, flat_map-append, some_pairs)
-
-  pub entries_alone : (s : Side) (x : List ℕ) → key s x ≡ join_key job s x
-      → entries_by_key (join_with job cmp key) all_keys (alone s x) ≡ unpaired_entry job s x
-  entries_alone = grind (arith, same_bytes)
 
 -- ---- in a group
 
@@ -127,8 +120,9 @@ module _ {job : Join} {cmp : Cmp} {key : Side → Key} {old : MergeState}
     between = between_next t.between s continues;
   }
 
-  pub joins : JoinStepPre job key now.out
-  joins = search rules
+  pub write_pre : (s : Side) → (both one two s).status ≡ Head
+      → WriteThenAdvancePre (join_tool job) key s one two (now.reader s) now.store now.out
+  write_pre s head = record { advance = advance_pre t.between s head; keys = t.keys; clean = t.clean }
 
 -- the same for the current order of keys, which is the one at the start
 abbrev pub LoopOfJoin : Join → {O : Type 0} → (O → Cmp) → (O → Side → Key) → MergeState
@@ -143,21 +137,18 @@ module _ {job : Join} {cmp : Cmp} {key : Side → Key} {old now : MergeState} {o
   open t.here use {cursors as lines_before, ls, p, b, sides, merge_invariant}
 
   module _ {s : Side} (step : HasOnlyLeastKey cmp key (both one two) now.store s) {new : Output}
-      (pushed : PushEffect now.out new (unlines (now.reader s).terminator
-      (unpaired_entry job s (head_of now (both one two) s)))) where
-    wrote_unpaired : PushEffect now.out new (unlines (now.reader s).terminator
-        (entries_by_key (join_with job cmp key) all_keys (alone s (head_of now (both one two) s))))
-    wrote_unpaired = rw (entries_alone job cmp key s (head_of now (both one two) s) (t.keys s _)) pushed
-
+      (wrote : PushEffect now.out new (unlines (now.reader s).terminator
+      (lines.entries_alone (join_entries job) s (key s (head_of now (both one two) s))
+      (head_of now (both one two) s)))) where
     pub alone_continues : {one2 two2 : Sorted} {reader : Reader} {after : Slots}
         → AdvanceOkPost key cmp s one two one2 two2 (now.reader s) reader now.store after new
         → IterationInvariant job cmp key old BetweenGroups (state_after_read now s reader new after) one2 two2
     alone_continues h =
-        let (m, _) = wrote_alone t.here t.clean step wrote_unpaired in
+        let (m, _) = wrote_alone t.here t.clean step wrote in
         iteration_continues t s h.continues (runs_on lines_before s step.status_is h.came m)
 
     pub alone_fails : EndsIfFails (join_with job cmp key) old now s (both one two s) new
-    alone_fails = alone_breaks t.here t.clean step wrote_unpaired
+    alone_fails = alone_breaks t.here t.clean step wrote
 
   pub group_opens : HaveEqualKeys cmp key (both one two) now.store
       → {end : ℕ} → end ≡ 4 → IterationInvariant job cmp key old (ReadGroup end) now one two
@@ -217,6 +208,12 @@ module _ {job : Join} {cmp : Cmp} {key : Side → Key} {old now : MergeState} {o
 
   pub read_group_pre : AdvancePre key Second one two (now.reader Second) now.store
   read_group_pre = advance_pre t.between Second (a.heads Second).head
+
+  pub read_group_less : {one2 two2 : Sorted} {reader : Reader} {made after : Slots} {out : Output}
+      → NextOkPost (key Second) cmp two two2 (now.reader Second) reader now.store made
+      → IsReadyToContinue key Second one two one2 two2 reader after out
+      → reads_ahead (with_side Second reader now.reader) one2 two2 < reads_ahead now.reader one two
+  read_group_less came continues = reads_less t.between Second continues (a.heads Second).head came
 
   all_copied : call.keeps_groups ≡ true → a.kept ≡ a.g
   all_copied = grind (arith, a)
@@ -384,8 +381,13 @@ module _ {job : Join} {cmp : Cmp} {key : Side → Key} {old now : MergeState} {o
   abbrev writing : JoinCall
   writing = join_call job cmp key t.w
 
-  pub write_pairs_pre : JoinLinePre job key First one two (now.reader First) now.store now.out
-  write_pairs_pre = assumption (advance_pre t.between First state.head.head, joins t)
+  pub write_pairs_pre : WriteThenAdvancePre (join_tool job) key First one two (now.reader First) now.store now.out
+  write_pairs_pre = write_pre t First state.head.head
+
+  pub write_pairs_less : {one2 two2 : Sorted} {reader : Reader} {after : Slots} {new : Output}
+      → AdvanceOkPost key cmp First one two one2 two2 (now.reader First) reader now.store after new
+      → reads_ahead (with_side First reader now.reader) one2 two2 < reads_ahead now.reader one two
+  write_pairs_less h = reads_less t.between First h.continues state.head.head h.came
 
   is_kept : state.kept ≡ state.g Second → (end == 4) ≡ false
   is_kept same = rw (state.q.at, same) (copied_end _ state.some)
@@ -416,6 +418,31 @@ module _ {job : Join} {cmp : Cmp} {key : Side → Key} {old now : MergeState} {o
         (arith, rw (is_alone h.none) at from, rw (is_alone h.none) at low) in rw is h.own) state.lines_in
         ∙ sym state.head.is;
   }
+
+  -- the slots of the group are those of the second input or are after them
+  slot_is_after_first : (slot : ℕ) → group_first_slot two end ≤ slot → 2 ≤ slot
+  slot_is_after_first slot from = by (end == 4) from
+    where
+      high : 2 ≤ two.previous_slot
+      high = ⊎_elim (λ s. omega (arith, s.1)) (λ s. omega (arith, s.1)) (state.q.sides Second).slots
+
+      by : (single : Bool) → (if single then two.previous_slot else 4) ≤ slot → 2 ≤ slot
+      by true least = omega (arith, least, high)
+      by false least = omega (arith, least)
+
+  first_slot_is_low : one.previous_slot < 2
+  first_slot_is_low = ⊎_elim (λ s. omega (arith, s.1)) (λ s. omega (arith, s.1)) (state.q.sides First).slots
+
+  pub stays_unchanged : {one2 two2 : Sorted} {reader : Reader} {after : Slots} {new : Output}
+      → AdvanceOkPost key cmp First one two one2 two2 (now.reader First) reader now.store after new
+      → IsGroupUnchanged job two now.store end → IsGroupUnchanged job two2 after end
+  stays_unchanged {one2} {two2} {reader} {after} h unchanged slot from low =
+      let two_is : two2 ≡ two = h.continues.others in
+      let within = rw two_is at from in
+      let stored = (next_at o state.q.sides First state.head.head h.came).stored in
+      let same : line after slot ≡ line now.store slot = rw stored (line_other now.store _ slot _
+      (omega (arith, slot_is_after_first slot within, first_slot_is_low))) in
+      rw same (unchanged slot within (rw two_is at low))
 
   abbrev z : Lines
   z = line now.store one.current_slot ∷ []

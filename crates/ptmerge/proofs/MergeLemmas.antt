@@ -12,7 +12,8 @@ use specs.Calls.Cursor.{NextErrPost, NextLinePost, HasDistinctSlots, initial_cur
 use specs.Calls.MergeSteps.{StartErrPost, StartFirstPost, MergeInputs, IsReaderOf, IsReportable, AreValidCursors}
 use specs.Calls.MergeSteps.{StartOkPost}
 use specs.Calls.MergeSteps.{merge_inputs, IsDisorderDecided}
-use specs.Calls.MergeSteps.{previous_key}
+use specs.Calls.MergeSteps.{current_key, previous_key}
+use specs.Private.BlockLines.{entries_alone}
 use Rattle.ptlines.specs.Calls.Engines.{AllPushed}
 pub use Exits.*
 
@@ -37,6 +38,15 @@ current_key_is_above cmp o key x (Disorder n) cursor store now ls p b before st 
 
 abbrev pub alone : Side → List ℕ → Side → Lines
 alone s x = with_side s (x ∷ []) (λ side. [])
+
+module _ (tool : MergeTool) where
+  pub entries_of_line : (s : Side) (x : List ℕ)
+      → entries_by_key tool all_keys (alone s x) ≡ entries_alone tool.entries s (tool.key s x) x
+  entries_of_line = grind (arith, same_bytes, append-nil)
+
+  pub entries_of_pair : IsKeyOrder tool.cmp → (x y : List ℕ) → tool.key Second y ≡ tool.key First x
+      → entries_by_key tool all_keys (both (x ∷ []) (y ∷ [])) ≡ tool.entries (tool.key First x) (x ∷ []) (y ∷ [])
+  entries_of_pair = grind (arith, same_bytes, append-nil)
 
 -- ---- the invariant of both inputs
 
@@ -208,8 +218,8 @@ module _ {tool : MergeTool} {old : MergeState} {w : IsOpenMerge tool old} {now :
 
   -- the current line of the input `s` is written
   module _ {s : Side} (step : HasOnlyLeastKey cmp key cursor now.store s) {new : Output}
-      (wrote : PushEffect now.out new (unlines (now.reader s).terminator (entries_by_key tool all_keys
-      (alone s (line now.store (cursor s).current_slot))))) where
+      (wrote : PushEffect now.out new (unlines (now.reader s).terminator (entries_alone tool.entries s
+      (current_key key cursor now.store s) (line now.store (cursor s).current_slot)))) where
     pub wrote_alone : Written tool b (with_side s (ls s) p) old.out new
     wrote_alone =
         let x = line now.store (cursor s).current_slot in
@@ -221,7 +231,8 @@ module _ {tool : MergeTool} {old : MergeState} {w : IsOpenMerge tool old} {now :
         -- no line of the other input has the key, and only greater keys follow
         (search (rules, later, self_at_most))))
         (side_case _ s (simp put_same h.all) (simp (put_other, append-nil))) (w.alone.none (key s x))
-        (λ r c. grind (arith, w.alone)) clean m (rw (sides s).lines_read.terminator at wrote)
+        (λ r c. grind (arith, w.alone)) clean m
+        (rw (entries_of_line tool s x) (rw (sides s).lines_read.terminator at wrote))
 
     pub alone_breaks : EndsIfFails tool old now s (cursor s) new
     alone_breaks = iteration_fails a s step.status_is wrote_alone.1 (put_same s _ p)

@@ -1,5 +1,5 @@
--- `join` in the blocks of its readers: an order by the join fields is that of the tool, so a merge of the blocks is one of
--- `join`, and keeps the invariant of its loop.
+-- `join` in the blocks of its readers: an order by the join fields is that of the tool, so a merge of the blocks is one
+-- of `join`, and keeps the invariant of its loop.
 use Rattle.ptmerge.proofs
 use Rattle.ptmerge.specs
 use proofs.Common.{◌≡◌, ℕ, List, refl, sym, subst, Side, Cmp, Key, both, MergeFault, MergeState, merge_state, Ok}
@@ -29,8 +29,8 @@ blocks_joined job {cmp} {key} {cursor} {next} {was} {is} {result} keys post =
 pub joined_by_blocks : {O : Type 0} (cmp : O → Cmp) (key : O → Side → Key) {job : Join} {old was : MergeState}
     {one two : Sorted} {a b start : O} → LoopOfJoin job cmp key old BetweenGroups was one two a start
     → {first second : Reader} {out : Output} {after : Slots} {one2 two2 : Sorted} {u : Unit {0}}
-    → BlocksPost (join_with job (cmp a) (key a)) (both one two) (both one2 two2) was (merge_state first second out after)
-    (Ok u) → b ≡ a → AreValidCursors (key b) one2 two2 after
+    → BlocksPost (join_with job (cmp a) (key a)) (both one two) (both one2 two2) was
+    (merge_state first second out after) (Ok u) → b ≡ a → AreValidCursors (key b) one2 two2 after
     → LoopOfJoin job cmp key old BetweenGroups (merge_state first second out after) one2 two2 b start
 joined_by_blocks cmp key k post same valid =
     let t = k.iteration in

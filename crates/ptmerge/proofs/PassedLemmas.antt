@@ -2,9 +2,9 @@
 -- of the store hold again. So the merge of two blocks keeps the loop invariant of a merge and that of `comm`, and
 -- never adds to the reads that are left; or a write has failed, and the call ends.
 use Rattle.ptmerge.proofs
-use proofs.Common.{◌≡◌, ℕ, ◌-◌, false, List, [], ◌∷◌, ◌++◌, refl, sym, ◌∙◌, ap, subst, arith, length, drop, append_assoc}
+use proofs.Common.{◌≡◌, ℕ, ◌-◌, false, List, [], ◌∷◌, ◌++◌, refl, sym, ◌∙◌, ap, subst, arith, length, drop}
 use proofs.Common.{Some, unlines, unlines-append, IsLine, AreLines, Lines, Cmp, Key, Reader, length-append, length_push}
-use proofs.Common.{usual, advance_ok_trans}
+use proofs.Common.{advance_ok_trans, append_assoc, usual}
 use proofs.MergeLemmas.{IsSortedUpTo, IsSortedFrom, LinesRead, is_disordered, unlines_push}
 use proofs.Common.{◌<◌, Side, MergeTool, Sorted, Slots, Head, line, inr, line_of_with_line, length-set}
 use proofs.MergeLemmas.{IsKeyOrder, Bound, AtLeast, SideInvariant, IsAtCurrentLine, at_current_line, reads_nothing}
@@ -15,7 +15,7 @@ use Rattle.ptlines.specs.Calls.Readers.{IsSound}
 use Rattle.ptmerge.specs.Calls.MergeSteps.{AreValidCursors, IsReaderOf}
 use Rattle.ptmerge.specs.Private.BlockLines.{AreMerged, ArePassed, IsMoved, IsUnmoved, IsReached, HasFailed}
 use Rattle.ptmerge.specs.Private.BlockLines.{ArePassedAlone, HasFailedAlone, only}
-use Rattle.ptmerge.specs.Private.Passed.{IsPassed, IsResumed, AreBlocksMerged, BlocksPost, IsOtherPassed}
+use Rattle.ptmerge.specs.Private.Passed.{IsPassed, IsResumed, AreBlocksMerged, BlocksPost, BlocksPre, IsOtherPassed}
 use Rattle.ptmerge.specs.declared.merging.cursor.Reached.{Reached}
 use Rattle.ptmerge.specs.Calls.Comm.{comm_with}
 use Rattle.std.specs.List.{slice_range}
@@ -23,11 +23,11 @@ use proofs.Common.{budget, length-drop, other, MergeState, merge_state, both, Co
 use proofs.Common.{MergeFault, MergePost, Write, true, ⊎_elim, append-nil, Output, Ok, Bool, cond}
 use proofs.MergeLemmas.{CursorsInvariant, IsOpenMerge, side_case, put_other, slots_apart, line_other, max_length-append}
 use proofs.MergeLemmas.{MergeInvariant, bounds_change, same_bound, reads_ahead, read_facts_current}
-use proofs.MergeLemmas.{state_by_side, Kept, kept_order, LoopInvariant, BetweenSteps, LagInvariant, AllWritten}
-use proofs.MergeLemmas.{exit_is_merge_post, fits_emptied, both_begun}
+use proofs.MergeLemmas.{state_by_side, kept_order, LoopInvariant, BetweenSteps, LagInvariant, AllWritten}
+use proofs.MergeLemmas.{IsLineByLine, exit_is_merge_post, fits_emptied, both_begun}
 use proofs.BlockLemmas.{at_heads, merged_on, step_written, RunLines, lines_merged, lines_failed, lines_of, passed_one}
 use proofs.AloneLemmas.{line_added_to, line_written, passed_on, set_back, set_twice}
-use proofs.CommLemmas.{IterationInvariant}
+use proofs.CommLemmas.{LoopOfComm}
 use Rattle.ptmerge.specs.declared.merging.block_lines.BlockLine.{BlockLine}
 use Rattle.std.specs.Prelude.{MatchBool, take}
 use Rattle.ptlines.proofs.LineSearch.{advance_ok_take}
@@ -447,6 +447,19 @@ ended_badly : (failed : Bool) (fault : MergeFault) → Err fault ≡ end_of fail
 ended_badly = grind arith
 
 module _ {tool : MergeTool} {old was : MergeState} {one two : Sorted} {w : IsOpenMerge tool old}
+    (loop : LoopInvariant w was (both one two)) (between : BetweenSteps tool.key was one two) where
+  -- `own` is the tool in its own order
+  pub blocks_pre : (own : MergeTool) → tool.terminator ≡ own.terminator → IsLineByLine own.entries
+      → ((side : Side) (x : List ℕ) → tool.key side x ≡ own.key side x) → BlocksPre own tool.key one two was
+  blocks_pre own same alone keys = record {
+    tool_is = record { keys = keys; alone = alone };
+    valid_cursors = between.valid_cursors;
+    own_reader = between.own_reader;
+    terminator = λ side. (loop.sides side).lines_read.terminator ∙ same;
+    clean = between.clean;
+  }
+
+module _ {tool : MergeTool} {old was : MergeState} {one two : Sorted} {w : IsOpenMerge tool old}
     (loop : LoopInvariant w was (both one two)) (between : BetweenSteps tool.key was one two) {first second : Reader}
     {out : Output} {after : Slots} {one2 two2 : Sorted} {result : Result (Unit {0}) MergeFault}
     (post : BlocksPost tool (both one two) (both one2 two2) was (merge_state first second out after) result) where
@@ -486,12 +499,11 @@ module _ {tool : MergeTool} {old was : MergeState} {one two : Sorted} {w : IsOpe
 
 -- the invariant of the loop of `comm`, in whatever order
 pub kept_by_blocks : {O : Type 0} (cmp : O → Cmp) (key : O → Side → Key) {job : Comm} {old was : MergeState}
-    {one two : Sorted} {a b start : O} → Kept (λ o. comm_with job (cmp o) (key o))
-    (λ o. IterationInvariant job (cmp o) (key o) old was one two) a start → {first second : Reader} {out : Output}
-    {after : Slots} {one2 two2 : Sorted} {u : Unit {0}} → BlocksPost (comm_with job (cmp a) (key a)) (both one two)
-    (both one2 two2) was (merge_state first second out after) (Ok u) → b ≡ a → AreValidCursors (key b) one2 two2 after
-    → Kept (λ o. comm_with job (cmp o) (key o))
-    (λ o. IterationInvariant job (cmp o) (key o) old (merge_state first second out after) one2 two2) b start
+    {one two : Sorted} {a b start : O} → LoopOfComm job cmp key old was one two a start
+    → {first second : Reader} {out : Output} {after : Slots} {one2 two2 : Sorted} {u : Unit {0}}
+    → BlocksPost (comm_with job (cmp a) (key a)) (both one two) (both one2 two2) was
+    (merge_state first second out after) (Ok u) → b ≡ a → AreValidCursors (key b) one2 two2 after
+    → LoopOfComm job cmp key old (merge_state first second out after) one2 two2 b start
 kept_by_blocks cmp key k post same valid =
     let t = k.iteration in
     let (loop, between) = blocks_on t.loop_invariant t.between post refl (rw same at valid) in

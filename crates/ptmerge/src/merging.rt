@@ -2,8 +2,8 @@
 //! select the current line with the least key, and the calls that advance an input. It can also go on after lines that
 //! were merged in the blocks of the readers.
 //!
-//! `cursor` is one input of the merge, with its order check; `block_merge` merges lines in the blocks of the readers
-//! (`block_lines`); `four_slots` manages the store slots that both inputs use.
+//! `cursor` is one input of the merge, with its order check; `writer` is what a tool writes; `block_merge` merges lines
+//! in the blocks of the readers (`block_lines`); `four_slots` manages the store slots that both inputs use.
 
 ghost use Rattle.std.specs.Prelude.{◌≡◌, None, false, [], OnOk, IfOk, IfErr};
 ghost use Rattle.std.specs.Ordering.{is_gt};
@@ -24,6 +24,7 @@ pub(crate) mod block_lines;
 pub(crate) mod block_merge;
 pub(crate) mod cursor;
 pub(crate) mod four_slots;
+pub(crate) mod writer;
 
 use crate::faults::MergeFault;
 use crate::key_order::Side::{First, Second};

@@ -30,11 +30,13 @@ use Rattle.std.proofs.Math.Pow.{pow-add, pow-lt, pow_mono}
 use lib.Bits.{and_step, or_step, or_zero_l, or_zero_r, and_zero_l, or_shifted_r, and_mod, and_le_l, and_self, or_self}
 use lib.Count.{count_trailing_zeros}
 use Rattle.ptlines.proofs.MatchMasks.{shifted, none_if_zero_mask, first_at_lowest_bit}
-use lemmas.List.Sums.{position_or_len_is}
+use lemmas.List.Sums.{position_or_len_is, sum_by-cons}
 use Rattle.ptlangs.proofs.ListElements.{split_around, split_whole}
 use specs.Calls.Join.{join_key}
 use specs.Join.{or_filler, is_nonempty, field_named, nth_field}
-use specs.Private.JoinFields.{IsFieldAt, IsFieldFound, IsFirstPieceEnd, IsCanonical, IsFieldIn, IsPiece, around}
+use Rattle.std.specs.List.{count_by}
+use specs.Private.JoinFields.{AreSeparatorsPassed, IsFieldAt, IsFieldFound, IsFirstPieceEnd, IsCanonical, IsFieldIn}
+use specs.Private.JoinFields.{IsPiece, around}
 use specs.Private.Join.{entry_alone}
 use specs.Private.JoinFields.{HasOneLine, IsUnchanged, is_evenly_separated, has_single_spaces}
 use specs.Calls.KeySpan.{IsKeySpan}
@@ -951,3 +953,41 @@ module _ {c : ℕ} {line : List ℕ} {passed start : ℕ} (left : FieldsFrom c l
 
 pub tail_is : (line : List ℕ) (start : ℕ) → take (length line - start) (drop start line) ≡ drop start line
 tail_is line start = take_all (length line - start) (drop start line) (omega (arith, length-drop start line))
+
+-- ---- chunks of a line are passed by their number of separators
+
+onto_first_drop : (b m : ℕ) (pieces : Lines) → drop (suc m) (onto_first b pieces) ≡ drop (suc m) pieces
+onto_first_drop b zero [] = refl
+onto_first_drop b (suc m) [] = refl
+onto_first_drop b m (piece ∷ pieces) = refl
+
+byte_passed : (b k m : ℕ) (pieces rest : Lines) → drop (suc (m + k)) pieces ≡ rest → (ends : Bool)
+    → drop (suc (m + (cond ends 1 0 + k))) (cond ends ([] ∷ pieces) (onto_first b pieces)) ≡ rest
+byte_passed b k m pieces rest is true = let one : m + (1 + k) ≡ suc (m + k) = omega arith in rw one is
+byte_passed b k m pieces rest is false =
+    let none : m + (0 + k) ≡ m + k = omega arith in rw none (onto_first_drop b (m + k) pieces ∙ is)
+
+none_passed : (m : ℕ) (pieces : Lines) → drop (suc (m + 0)) pieces ≡ drop (suc m) pieces
+none_passed m pieces = let same : m + 0 ≡ m = omega arith in ap (λ k. drop (suc k) pieces) same
+
+pieces_passed : (c : ℕ) (v : List ℕ) (n m : ℕ)
+    → drop (suc (m + count_by (is_byte c) (take n v))) (join_fields (Some c) v)
+    ≡ drop (suc m) (join_fields (Some c) (drop n v))
+pieces_passed c v zero m = none_passed m (join_fields (Some c) v)
+pieces_passed c [] (suc n) m = none_passed m (join_fields (Some c) [])
+pieces_passed c (b ∷ v) (suc n) m =
+    rw (sum_by-cons (λ x. cond (is_byte c x) 1 0) b (take n v))
+    (byte_passed b (count_by (is_byte c) (take n v)) m _ _ (pieces_passed c v n m) (b == c))
+
+pub chunk_passed : {c count : ℕ} {line : List ℕ} {at left ones : ℕ} → AreSeparatorsPassed c count line at left
+    → ones ≡ count_by (is_byte c) (take 16 (drop at line)) → ones < left → at + 16 ≤ length line
+    → AreSeparatorsPassed c count line (at + 16) (left - ones)
+chunk_passed {c} {count} {line} {at} {left} {ones} passed is some room =
+    let more = pieces_passed c (drop at line) 16 (left - ones - 1) in
+    let all : suc (left - ones - 1 + ones) ≡ left = omega (arith, some) in
+    let rest : suc (left - ones - 1) ≡ left - ones = omega (arith, some) in
+    record {
+      within = room;
+      less = omega (arith, passed.less);
+      fields = passed.fields ∙ (rw (← is, all, rest, drop-drop 16 at line) at more);
+    }

@@ -1,6 +1,6 @@
 -- The fields of a line as `join` finds and writes them: the rest of the line after a field, the span of the field with
--- a number, the masks by which blanks and separators are found, words with single spaces between them, and lines that
--- are written unchanged.
+-- a number, the masks by which blanks and separators are found, separators that were passed, words with single spaces
+-- between them, and lines that are written unchanged.
 use Rattle.std.specs.Prelude.{◌≡◌, ◌≤◌, ◌++◌, ℕ, length, map, take, drop, IfSome, MatchOption, ◌==◌, List, [], ◌∷◌}
 use Rattle.std.specs.Prelude.{Option, Some, None, Bool, false, true, not, ◌||◌, ◌&&◌, ◌-◌, if◌then◌else◌, unwrap_or}
 use Rattle.std.specs.List.{flat_map, join_with_byte, slice_range, slice_split}
@@ -100,6 +100,12 @@ pub record IsFieldAt (separator : Option ℕ) (number : ℕ) (line : List ℕ) (
 abbrev pub IsFieldFound : Option ℕ → ℕ → List ℕ → Option Span → Type 0
 IsFieldFound separator number line found =
     MatchOption found (drop (number - 1) (join_fields separator line) ≡ []) (IsFieldAt separator number line)
+
+-- The separators up to the index `at` of the line are passed, and `left` of `count` are to be passed after it.
+pub record AreSeparatorsPassed (separator count : ℕ) (line : List ℕ) (at left : ℕ) : Type 0 where
+  pub within : at ≤ length line
+  pub less : left ≤ count
+  pub fields : drop count (join_fields (Some separator) line) ≡ drop left (join_fields (Some separator) (drop at line))
 
 -- The line without the span and the separator before it, if there is a span, each field after a separator.
 abbrev pub around : ℕ → List ℕ → Option Span → List ℕ

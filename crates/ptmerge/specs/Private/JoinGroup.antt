@@ -1,7 +1,6 @@
--- The contracts of the functions of the group of `join`, which is the second input's lines of one key, and the
--- preconditions of the steps of `join`. If pairs are written, several lines are copied to the slots 4 and up; a single
--- one stays in the slot into which it was read. The slot `end` is the one after the copied lines, and is 4 if there
--- are none.
+-- The contracts of the functions of the group of `join`, which is the second input's lines of one key. If pairs are
+-- written, several lines are copied to the slots 4 and up; a single one stays in the slot into which it was read. The
+-- slot `end` is the one after the copied lines, and is 4 if there are none.
 use Rattle.std.specs.Prelude.{◌≡◌, ◌⊎◌, ℕ, ◌==◌, if◌then◌else◌, ◌+◌, ◌-◌, ◌≤◌, ◌<◌, true, false, Bool, List, length}
 use Rattle.std.specs.Prelude.{take, drop, max, Result, Ok, Err}
 use Rattle.ptlangs.specs.Jobs.{Join}
@@ -11,13 +10,12 @@ use Rattle.ptlines.specs.Calls.Slots.{line, with_line, with_new_slot}
 use Rattle.ptlines.specs.Readers.{Reader}
 use Rattle.ptlines.specs.Slots.{Slots, total_bytes}
 use Rattle.ptmerge.specs.Calls.Cursor.{NextErrPost, NextOkPost}
-use Rattle.ptmerge.specs.Calls.Join.{join_key}
 use Rattle.ptmerge.specs.MergeSpec.{Lines}
 use Rattle.ptmerge.specs.Orders.{Key}
-use Rattle.ptmerge.specs.Private.WriteAndAdvance.{AdvancePre, WriteFaultPost}
+use Rattle.ptmerge.specs.Private.JoinFields.{IsUnchanged}
+use Rattle.ptmerge.specs.Private.WriteAndAdvance.{WriteFaultPost}
 use Rattle.ptmerge.specs.declared.faults.MergeFault.{MergeFault}
 use Rattle.ptmerge.specs.declared.faults.MergeFault.TheVariants.{Memory, Write}
-use Rattle.ptmerge.specs.declared.key_order.Side.{Side}
 use Rattle.ptmerge.specs.declared.key_order.Side.TheVariants.{Second}
 use Rattle.ptmerge.specs.declared.merging.cursor.CursorStatus.{CursorStatus}
 use Rattle.ptmerge.specs.declared.merging.cursor.CursorStatus.TheVariants.{Disorder, Ended, Head}
@@ -121,19 +119,13 @@ ReadGroupLinePost keep key cmp old new was is before after out end next (Err fau
     ((fault ≡ Write) × WriteFaultPost was is before after out)
     ⊎ ((out.write_failed ≡ false) × ReadGroupLineErrPost keep key cmp old new was is before after end fault)
 
--- A precondition of the steps of `join`: the keys are the join fields, and no write to the output has failed.
-pub record JoinStepPre (job : Join) (key : Side → Key) (out : Output) : Type 0 where
-  pub keys : (side : Side) (line : List ℕ) → key side line ≡ join_key job side line
-  pub clean : out.write_failed ≡ false
-
--- The precondition of a step of `join` that advances the input `side`.
-pub record JoinLinePre (job : Join) (key : Side → Key) (side : Side) (one two : Sorted) (reader : Reader)
-    (store : Slots) (out : Output) : Type 0 where
-  pub status_is : AdvancePre key side one two reader store
-  pub joins : JoinStepPre job key out
-
 -- The slots of the group exist, and its lines have the key `k`.
 pub record IsGroup (key : Key) (second : Sorted) (store : Slots) (end : ℕ) (k : List ℕ) : Type 0 where
   pub within : (4 ≤ end) × (end ≤ length store.lines)
   pub keyed : (slot : ℕ) → group_first_slot second end ≤ slot → slot < group_end_slot second end
       → key (line store slot) ≡ k
+
+-- The fields of each line of the group are written as they are in it.
+abbrev pub IsGroupUnchanged : Join → Sorted → Slots → ℕ → Type 0
+IsGroupUnchanged job second store end = (slot : ℕ) → group_first_slot second end ≤ slot
+    → slot < group_end_slot second end → IsUnchanged job Second (line store slot)

@@ -1,6 +1,6 @@
 -- The contracts of calls by which an input of a merge, or both, goes on after lines that were passed in the blocks of
 -- the readers, and never were in a slot of the store; and of the merge of both blocks, or of one after the end of the
--- other input, as a whole (`BlocksPost`).
+-- other input, as a whole (`BlocksPre`, `BlocksPost`).
 use Rattle.std.specs.Prelude.{◌≡◌, ◌⊎◌, ℕ, ◌+◌, ◌-◌, ◌<◌, ◌≤◌, false, List, length, drop, if◌then◌else◌, Result, Ok}
 use Rattle.std.specs.Prelude.{Err}
 use Rattle.std.specs.List.{slice_range}
@@ -11,9 +11,10 @@ use Rattle.ptlines.specs.Readers.{Reader}
 use Rattle.ptlines.specs.Slots.{Slots}
 use Rattle.ptmerge.specs.Calls.MergeCall.{MergeState}
 use Rattle.ptmerge.specs.Calls.MergeSpec.{MergeTool}
-use Rattle.ptmerge.specs.Calls.MergeSteps.{IsReaderOf}
-use Rattle.ptmerge.specs.Calls.Sides.{other}
-use Rattle.ptmerge.specs.Private.BlockLines.{BlockRunPost, LineRunPost}
+use Rattle.ptmerge.specs.Calls.MergeSteps.{AreValidCursors, IsReaderOf}
+use Rattle.ptmerge.specs.Calls.Sides.{both, other}
+use Rattle.ptmerge.specs.Orders.{Key}
+use Rattle.ptmerge.specs.Private.BlockLines.{BlockRunPost, IsBlockTool, LineRunPost}
 use Rattle.ptmerge.specs.declared.faults.MergeFault.{MergeFault}
 use Rattle.ptmerge.specs.declared.faults.MergeFault.TheVariants.{Write}
 use Rattle.ptmerge.specs.declared.key_order.Side.{Side}
@@ -57,11 +58,14 @@ pub record AreResumed (run : BlockRun) (cursor next : Side → Sorted) (was is :
   pub second : IsResumed run.second (cursor Second) (next Second) (was Second) (is Second) mid after
   pub result_is : result ≡ (if run.failed then Err Write else Ok tt)
 
--- Each reader is that of its input, and no write has failed.
-pub record AreReady (end : ℕ) (cursor : Side → Sorted) (reader : Side → Reader) (out : Output) : Type 0 where
-  pub own_reader : (side : Side) → IsReaderOf (cursor side) (reader side)
-  pub terminator : (side : Side) → (reader side).terminator ≡ end
-  pub clean : out.write_failed ≡ false
+-- The precondition of a merge of both blocks: each reader is that of its input, and has the terminator of the tool; and
+-- no write has failed.
+pub record BlocksPre (tool : MergeTool) (key : Side → Key) (one two : Sorted) (now : MergeState) : Type 0 where
+  pub tool_is : IsBlockTool tool key
+  pub valid_cursors : AreValidCursors key one two now.store
+  pub own_reader : (side : Side) → IsReaderOf (both one two side) (now.reader side)
+  pub terminator : (side : Side) → (now.reader side).terminator ≡ tool.terminator
+  pub clean : now.out.write_failed ≡ false
 
 -- Both inputs were at a line. The lines of their blocks are merged, and both are at the lines reached.
 pub record AreBlocksMerged (tool : MergeTool) (cursor next : Side → Sorted) (was is : MergeState)

@@ -1,12 +1,13 @@
 -- Preconditions and postconditions of the functions of a merge that write a line and then advance an input, which means
 -- that the next line of that input is read. `one` and `two` are the cursors of the inputs before the call, `one2` and
 -- `two2` those after it.
-use Rattle.std.specs.Prelude.{◌≡◌, ◌⊎◌, true, false, Result, Ok, Err}
+use Rattle.std.specs.Prelude.{◌≡◌, ◌⊎◌, ℕ, List, true, false, Result, Ok, Err}
 use Rattle.ptlines.specs.ByteOrder.{Cmp}
 use Rattle.ptlines.specs.Calls.Outputs.{Output}
 use Rattle.ptlines.specs.Readers.{Reader}
 use Rattle.ptlines.specs.Slots.{Slots}
 use Rattle.ptmerge.specs.Calls.Cursor.{NextErrPost, NextOkPost}
+use Rattle.ptmerge.specs.Calls.MergeSpec.{MergeTool}
 use Rattle.ptmerge.specs.Calls.MergeSteps.{AreValidCursors, IsReaderOf}
 use Rattle.ptmerge.specs.Calls.Sides.{other}
 use Rattle.ptmerge.specs.Orders.{Key}
@@ -38,6 +39,14 @@ pub record AdvancePre (key : Side → Key) (side : Side) (one two : Sorted) (rea
   pub valid_cursors : AreValidCursors key one two store
   pub head : (both one two side).status ≡ Head
   pub own_reader : IsReaderOf (both one two side) reader
+
+-- The precondition of a call that writes the output for the current line of the input `side`, and then advances this
+-- input: the keys are those of the tool, and no write has failed.
+pub record WriteThenAdvancePre (tool : MergeTool) (key : Side → Key) (side : Side) (one two : Sorted) (reader : Reader)
+    (store : Slots) (out : Output) : Type 0 where
+  pub advance : AdvancePre key side one two reader store
+  pub keys : (side : Side) (line : List ℕ) → key side line ≡ tool.key side line
+  pub clean : out.write_failed ≡ false
 
 -- The state after the input `side` advanced: the other input is unchanged, and both satisfy the preconditions of the
 -- next call.

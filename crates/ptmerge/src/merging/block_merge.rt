@@ -1,69 +1,25 @@
 //! The merge of the lines that end in the blocks of both readers, or of one after the end of the other input, for any
-//! tool: `MergeWriter` is what a tool writes.
+//! tool.
 
-ghost use Rattle.std.specs.Prelude.{◌≡◌, ◌∷◌, [], true, false};
-ghost use Rattle.ptlines.specs.Text.{unlines};
+ghost use Rattle.std.specs.Prelude.{◌≡◌, false};
 ghost use Rattle.ptmerge.specs.Calls.MergeCall.{merge_state};
-ghost use Rattle.ptmerge.specs.Calls.MergeSpec.{MergeTool};
 ghost use Rattle.ptmerge.specs.Calls.MergeSteps.{AreValidCursors};
 ghost use Rattle.ptmerge.specs.Calls.Sides.{both, other};
-ghost use Rattle.ptmerge.specs.Private.BlockLines.{BlockRunPost, CanMerge, IsBlockTool, IsPairByPair};
-ghost use Rattle.ptmerge.specs.Private.BlockLines.{LineRunPost, entries_alone, in_order};
-ghost use Rattle.ptmerge.specs.Private.Passed.{AreBlocksMerged, AreReady, BlocksPost, IsBlockPassed};
-ghost use Rattle.ptmerge.specs.Private.Write.{WriteBytesPost};
+ghost use Rattle.ptmerge.specs.Private.BlockLines.{BlockRunPost, CanMerge, IsBlockTool, LineRunPost, in_order};
+ghost use Rattle.ptmerge.specs.Private.Passed.{AreBlocksMerged, BlocksPost, BlocksPre, IsBlockPassed};
 ghost use Rattle.ptmerge.specs.Private.WriteAndAdvance.{AdvancePre};
 ghost use Rattle.ptmerge.specs.declared.key_order.Side.{Side as SideType};
-ghost use Rattle.ptmerge.specs.declared.key_order.Side.TheVariants as sides;
 ghost use Rattle.ptmerge.specs.declared.merging.cursor.CursorStatus.TheVariants as status_is;
 
 use crate::faults::MergeFault;
 use crate::key_order::Side::{First, Second};
 use crate::key_order::{KeyOrder, Side};
 use crate::merging::block_lines::{BlockLine, BlockRun, LineRun};
+use crate::merging::writer::MergeWriter;
 use crate::merging::{Merge, ShortHeads};
-use ptlines::{LineReader, Out, Sink, Source, Store, WriteFault};
+use ptlines::{LineReader, Out, Sink, Source, Store};
 use std::alloc::Allocator;
 use std::cmp::Ordering;
-
-/// What a tool that merges two inputs writes for their lines.
-pub(crate) trait MergeWriter: Copy {
-    /// The tool. Its lines may also be in another order of the same keys.
-    ghost tool: { Self → MergeTool };
-
-    /// Checks whether the output for a key with several lines is that of a line of each input, and then that of the
-    /// others.
-    fn is_pair_by_pair(self) -> bool
-        ensures { result ≡ true → IsPairByPair (tool self).entries };
-
-    /// Writes the output for a line with a key that the other input does not have.
-    fn write_alone<W: Sink>(
-        self,
-        side: Side,
-        key: &[u8],
-        line: &[u8],
-        terminator: u8,
-        out: &mut Out<W>,
-    ) -> Result<(), WriteFault>
-        requires key { (tool self).key side line.now ≡ key.now }
-        requires clean { out.old.write_failed ≡ false }
-        ensures { let entries = entries_alone (tool self).entries side key.now line.now in
-            WriteBytesPost out.old out.new (unlines terminator entries) result };
-
-    /// Writes the output for a line of each input, both with this key.
-    fn write_both<W: Sink>(
-        self,
-        key: &[u8],
-        one: &[u8],
-        two: &[u8],
-        terminator: u8,
-        out: &mut Out<W>,
-    ) -> Result<(), WriteFault>
-        requires one { (tool self).key sides.First one.now ≡ key.now }
-        requires two { (tool self).key sides.Second two.now ≡ key.now }
-        requires clean { out.old.write_failed ≡ false }
-        ensures { let entries = (tool self).entries key.now (one.now ∷ []) (two.now ∷ []) in
-            WriteBytesPost out.old out.new (unlines terminator entries) result };
-}
 
 // Merges the lines of two blocks, up to the first line that is not near the line before it or is out of order. If the
 // tool does not write pair by pair, this also ends before a key with several lines of an input. Inlined, so that keys
@@ -136,10 +92,8 @@ fn merge_blocks<K: KeyOrder, T: MergeWriter, A: Allocator + Copy, S: Source, R: 
     store: &mut Store<A>,
     out: &mut Out<W>,
 ) -> Result<(), MergeFault>
-    requires tool { IsBlockTool (T.tool tool) (K.key_of merge.old.order) }
-    requires valid_cursors { AreValidCursors (K.key_of merge.old.order) merge.old.first merge.old.second store.old }
-    requires ready { AreReady (T.tool tool).terminator (both merge.old.first merge.old.second)
-        (both first.old second.old) out.old }
+    requires blocks { let now = merge_state first.old second.old out.old store.old in
+        BlocksPre (T.tool tool) (K.key_of merge.old.order) merge.old.first merge.old.second now }
     requires heads { (side : SideType) → (both merge.old.first merge.old.second side).status ≡ status_is.Head }
     ensures merges { let tool = in_order (T.tool tool) (K.order merge.old.order) (K.key_of merge.old.order) in
         let was = merge_state first.old second.old out.old store.old in
@@ -242,10 +196,8 @@ pub(crate) fn merge_in_blocks<
     store: &mut Store<A>,
     out: &mut Out<W>,
 ) -> Result<(), MergeFault>
-    requires tool { IsBlockTool (T.tool tool) (K.key_of merge.old.order) }
-    requires valid_cursors { AreValidCursors (K.key_of merge.old.order) merge.old.first merge.old.second store.old }
-    requires ready { AreReady (T.tool tool).terminator (both merge.old.first merge.old.second)
-        (both first.old second.old) out.old }
+    requires { let now = merge_state first.old second.old out.old store.old in
+        BlocksPre (T.tool tool) (K.key_of merge.old.order) merge.old.first merge.old.second now }
     ensures merges { let tool = in_order (T.tool tool) (K.order merge.old.order) (K.key_of merge.old.order) in
         let was = merge_state first.old second.old out.old store.old in
         let is = merge_state first.new second.new out.new store.new in

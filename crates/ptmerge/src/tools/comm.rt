@@ -1,55 +1,25 @@
 //! The engine of `comm`: each step of the merge writes one line, of one input or of both, in a `column`. Before a
 //! step, short lines are merged in the blocks where they are.
 
-ghost use Rattle.std.specs.Prelude.{◌≡◌, ℕ, List, false};
+ghost use Rattle.std.specs.Prelude.{◌≡◌, ℕ, List};
 ghost use Rattle.ptlangs.specs.Jobs.{comm_job};
-ghost use Rattle.ptlines.specs.Calls.Outputs.{PushEffect};
-ghost use Rattle.ptlines.specs.Calls.Slots.{line};
-ghost use Rattle.ptlines.specs.Text.{unlines};
 ghost use Rattle.ptmerge.specs.Calls.Comm.{comm_with, comm_tool};
 ghost use Rattle.ptmerge.specs.Private.MergeCall.{MergeRunPre};
 ghost use Rattle.ptmerge.specs.Calls.MergeCall.{MergePost, MergePre, merge_state};
-ghost use Rattle.ptmerge.specs.Private.WriteAndAdvance.{WriteThenAdvancePost, AdvancePre};
-ghost use Rattle.ptmerge.specs.Calls.Sides.{both};
-ghost use Rattle.ptmerge.specs.Private.Comm.{lines_in};
 ghost use Rattle.ptmerge.specs.declared.key_order.Side.{Side as SideType};
 
 mod column;
 
 use crate::faults::MergeFault;
 use crate::key_order::Side::{First, Second};
-use crate::key_order::{Descending, KeyOrder, Side, WholeLine};
+use crate::key_order::{Descending, KeyOrder, WholeLine};
 use crate::merging::block_merge::merge_in_blocks;
 use crate::merging::four_slots::clear_four_slots;
+use crate::merging::writer::{MergeWriter, pass_line};
 use crate::merging::{Merge, Step};
-use crate::tools::comm::column::Column;
 use ptlangs::jobs::CommJob;
 use ptlines::{LineReader, Out, Sink, Source, Store};
 use std::alloc::Allocator;
-
-// Writes the current line of an input in its column. Then advances the input.
-#[inline(always)]
-fn write_head<K: KeyOrder, A: Allocator + Copy, S: Source, R: Source, W: Sink>(
-    merge: &mut Merge<K>,
-    side: Side,
-    column: Column,
-    reader: &mut LineReader<S, R>,
-    store: &mut Store<A>,
-    out: &mut Out<W>,
-) -> Result<(), MergeFault>
-    requires status_is { let key = K.key_of merge.old.order in
-        AdvancePre key side merge.old.first merge.old.second reader.old store.old }
-    requires clean { out.old.write_failed ≡ false }
-    ensures wrote { let current = line store.old (both merge.old.first merge.old.second side).current_slot in
-        PushEffect out.old out.new (unlines reader.old.terminator (lines_in column current)) }
-    ensures advances { let key = K.key_of merge.old.order in
-        WriteThenAdvancePost key (K.order merge.old.order) side merge.old.first merge.old.second
-        merge.new.first merge.new.second reader.old reader.new store.old store.new out.new result }
-    ensures order { merge.new.order ≡ merge.old.order }
-{
-    column.write(merge.head(side, store), reader.terminator(), out)?;
-    merge.write_out_and_advance(side, reader, store, out)
-}
 
 // Runs `comm` in an order of whole lines. The terminator of both readers is already set.
 fn comm_with_order<K: KeyOrder, A: Allocator + Copy, S: Source, R: Source, W: Sink>(
@@ -66,17 +36,17 @@ fn comm_with_order<K: KeyOrder, A: Allocator + Copy, S: Source, R: Source, W: Si
         let was = merge_state first.old second.old out.old store.old in
         MergePost tool was (merge_state first.new second.new out.new store.new) result }
 {
-    let alone1 = Column::alone(job, First);
-    let alone2 = Column::alone(job, Second);
-    let common = Column::common(job);
     let mut merge = Merge::start(order, first, second, store)?;
     'steps: loop {
         merge_in_blocks(&mut merge, job, first, second, store, out)?;
         match merge.step(store) {
-            Step::First => write_head(&mut merge, First, alone1, first, store, out)?,
-            Step::Second => write_head(&mut merge, Second, alone2, second, store, out)?,
+            Step::First => pass_line(&mut merge, job, First, first, store, out)?,
+            Step::Second => pass_line(&mut merge, job, Second, second, store, out)?,
             Step::Both => {
-                write_head(&mut merge, First, common, first, store, out)?;
+                let one = merge.head(First, store);
+                let two = merge.head(Second, store);
+                job.write_both(one, one, two, first.terminator(), out)?;
+                merge.write_out_and_advance(First, first, store, out)?;
                 merge.write_out_and_advance(Second, second, store, out)?;
             }
             Step::End => {

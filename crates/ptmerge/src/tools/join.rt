@@ -4,22 +4,20 @@
 //! a line into fields, `output` writes an output line, and `separators` and `words` find separators and blanks by
 //! `masks`.
 
-ghost use Rattle.std.specs.Prelude.{◌≡◌, ℕ, List, ◌∷◌, [], Err, IfErr, IfOk, OnOk};
+ghost use Rattle.std.specs.Prelude.{◌≡◌, ℕ, List, ◌∷◌, [], Err, IfErr, IfOk, OnOk, true};
 ghost use Rattle.ptlangs.specs.Jobs.{join_job};
 ghost use Rattle.ptlines.specs.Calls.Outputs.{PushEffect};
 ghost use Rattle.ptlines.specs.Calls.Slots.{line};
 ghost use Rattle.ptlines.specs.Text.{unlines};
-ghost use Rattle.ptmerge.specs.Private.JoinGroup.{IsGroup, JoinStepPre, JoinLinePre, group_lines};
+ghost use Rattle.ptmerge.specs.Private.JoinGroup.{IsGroup, IsGroupUnchanged, group_lines};
 ghost use Rattle.ptmerge.specs.Private.MergeCall.{MergeRunPre};
 ghost use Rattle.ptmerge.specs.Calls.MergeCall.{MergePost, MergePre, merge_state};
 ghost use Rattle.ptmerge.specs.Calls.MergeSteps.{AreValidCursors};
 ghost use Rattle.ptmerge.specs.declared.key_order.Side.{Side as SideType};
-ghost use Rattle.ptmerge.specs.Private.Join.{unpaired_entry};
 ghost use Rattle.ptmerge.specs.Calls.Join.{join_with, join_key, join_tool};
 ghost use Rattle.ptmerge.specs.Join.{pair_entries};
-ghost use Rattle.ptmerge.specs.Private.WriteAndAdvance.{AdvanceOkPost, WriteThenAdvancePost, AdvancePre};
+ghost use Rattle.ptmerge.specs.Private.WriteAndAdvance.{AdvanceOkPost, WriteThenAdvancePost, WriteThenAdvancePre};
 ghost use Rattle.ptmerge.specs.Private.Write.{WriteBytesPost};
-ghost use Rattle.ptmerge.specs.Calls.Sides.{both};
 ghost use Rattle.ptmerge.specs.declared.key_order.Side.TheVariants as sides;
 ghost use Rattle.ptmerge.specs.declared.merging.cursor.CursorStatus.TheVariants as status_is;
 
@@ -34,12 +32,13 @@ mod words;
 
 use crate::faults::MergeFault;
 use crate::key_order::Side::{First, Second};
-use crate::key_order::{Descending, KeyOrder, Side};
-use crate::merging::block_merge::{MergeWriter, merge_in_blocks};
+use crate::key_order::{Descending, KeyOrder};
+use crate::merging::block_merge::merge_in_blocks;
 use crate::merging::four_slots::clear_four_slots;
+use crate::merging::writer::pass_line;
 use crate::merging::{Merge, Step};
 use crate::tools::join::field_keys::FieldKeys;
-use crate::tools::join::key_group::Group;
+use crate::tools::join::key_group::{Group, WholeGroup};
 use crate::tools::join::output::{Pair, is_unchanged, write_pair};
 use ptlangs::jobs::JoinJob;
 use ptlines::{LineReader, Out, Sink, Source, Store, WriteFault};
@@ -50,7 +49,7 @@ use std::alloc::Allocator;
 fn write_pair_entries<K: KeyOrder, A: Allocator + Copy, B: Allocator, W: Sink>(
     merge: &Merge<K>,
     job: &JoinJob<B>,
-    group: Group,
+    group: WholeGroup,
     store: &Store<A>,
     terminator: u8,
     out: &mut Out<W>,
@@ -60,10 +59,12 @@ fn write_pair_entries<K: KeyOrder, A: Allocator + Copy, B: Allocator, W: Sink>(
     requires keys { (line : List ℕ) → K.key_of merge.now.order sides.First line
         ≡ join_key (join_job job.now) sides.First line }
     requires group { let key = K.key_of merge.now.order sides.First (line store.now merge.now.first.current_slot) in
-        IsGroup (join_key (join_job job.now) sides.Second) merge.now.second store.now group.end key }
+        IsGroup (join_key (join_job job.now) sides.Second) merge.now.second store.now group.lines.end key }
+    requires unchanged { group.unchanged ≡ true
+        → IsGroupUnchanged (join_job job.now) merge.now.second store.now group.lines.end }
     ensures { let current = line store.now merge.now.first.current_slot in
         let key = K.key_of merge.now.order sides.First current in
-        let lines = group_lines merge.now.second store.now group.end in
+        let lines = group_lines merge.now.second store.now group.lines.end in
         let pairs = pair_entries (join_job job.now) key (current ∷ []) lines in
         WriteBytesPost out.old out.new (unlines terminator pairs) result }
 {
@@ -73,39 +74,13 @@ fn write_pair_entries<K: KeyOrder, A: Allocator + Copy, B: Allocator, W: Sink>(
     let key = merge.key(First, store);
     let one = merge.head(First, store);
     let begins = is_unchanged(job, First, one);
-    let slots = group.slots(merge);
+    let slots = group.lines.slots(merge);
     for slot in slots.start..slots.end {
         let two = store.line(slot);
-        write_pair(job, Pair { key, one, two }, begins, terminator, out)?;
+        let pair = Pair { key, one, two };
+        write_pair(job, pair, begins, group.unchanged, terminator, out)?;
     }
     Ok(())
-}
-
-// Writes the output line of an input's current line, which is unpaired, and advances the input.
-#[inline(always)]
-fn write_unpaired<K: KeyOrder, A: Allocator + Copy, B: Allocator, S: Source, R: Source, W: Sink>(
-    merge: &mut Merge<K>,
-    job: &JoinJob<B>,
-    side: Side,
-    reader: &mut LineReader<S, R>,
-    store: &mut Store<A>,
-    out: &mut Out<W>,
-) -> Result<(), MergeFault>
-    requires status_is { let key = K.key_of merge.old.order in
-        AdvancePre key side merge.old.first merge.old.second reader.old store.old }
-    requires joins { JoinStepPre (join_job job.now) (K.key_of merge.old.order) out.old }
-    ensures wrote { let current = line store.old (both merge.old.first merge.old.second side).current_slot in
-        let entry = unpaired_entry (join_job job.now) side current in
-        PushEffect out.old out.new (unlines reader.old.terminator entry) }
-    ensures advances { let key = K.key_of merge.old.order in
-        WriteThenAdvancePost key (K.order merge.old.order) side merge.old.first merge.old.second
-        merge.new.first merge.new.second reader.old reader.new store.old store.new out.new result }
-    ensures order { merge.new.order ≡ merge.old.order }
-{
-    let key = merge.key(side, store);
-    let line = merge.head(side, store);
-    job.write_alone(side, key, line, reader.terminator(), out)?;
-    merge.write_out_and_advance(side, reader, store, out)
 }
 
 // Writes the output lines of the first input's current line with each line of the group, and advances the first input.
@@ -113,18 +88,21 @@ fn write_unpaired<K: KeyOrder, A: Allocator + Copy, B: Allocator, S: Source, R: 
 fn write_pairs<K: KeyOrder, A: Allocator + Copy, B: Allocator, S: Source, R: Source, W: Sink>(
     merge: &mut Merge<K>,
     job: &JoinJob<B>,
-    group: Group,
+    group: WholeGroup,
     reader: &mut LineReader<S, R>,
     store: &mut Store<A>,
     out: &mut Out<W>,
 ) -> Result<bool, MergeFault>
-    requires joins { let key = K.key_of merge.old.order in
-        JoinLinePre (join_job job.now) key sides.First merge.old.first merge.old.second reader.old store.old out.old }
+    requires writes { let key = K.key_of merge.old.order in
+        WriteThenAdvancePre (join_tool (join_job job.now)) key sides.First merge.old.first merge.old.second
+        reader.old store.old out.old }
     requires group { let key = K.key_of merge.old.order sides.First (line store.old merge.old.first.current_slot) in
-        IsGroup (join_key (join_job job.now) sides.Second) merge.old.second store.old group.end key }
+        IsGroup (join_key (join_job job.now) sides.Second) merge.old.second store.old group.lines.end key }
+    requires unchanged { group.unchanged ≡ true
+        → IsGroupUnchanged (join_job job.now) merge.old.second store.old group.lines.end }
     ensures wrote { let current = line store.old merge.old.first.current_slot in
         let key = K.key_of merge.old.order sides.First current in
-        let lines = group_lines merge.old.second store.old group.end in
+        let lines = group_lines merge.old.second store.old group.lines.end in
         let pairs = pair_entries (join_job job.now) key (current ∷ []) lines in
         PushEffect out.old out.new (unlines reader.old.terminator pairs) }
     ensures has_more { IfOk result (λ has_more. has_more ≡ merge.new.first.same) }
@@ -167,17 +145,22 @@ fn join_with_order<K: KeyOrder, A: Allocator + Copy, B: Allocator, S: Source, R:
         }
         after_group = false;
         match merge.step(store) {
-            Step::First => write_unpaired(&mut merge, job, First, first, store, out)?,
-            Step::Second => write_unpaired(&mut merge, job, Second, second, store, out)?,
+            Step::First => pass_line(&mut merge, job, First, first, store, out)?,
+            Step::Second => pass_line(&mut merge, job, Second, second, store, out)?,
             Step::Both => {
                 let mut group = Group::new();
                 'lines: while group.read_line(&mut merge, job.pairs, second, store, out)? {
                     after_group = true;
                 }
-                'pairs: while write_pairs(&mut merge, job, group, first, store, out)? {
+                let unchanged = group.is_unchanged(&merge, job, store);
+                let whole = WholeGroup {
+                    lines: group,
+                    unchanged,
+                };
+                'pairs: while write_pairs(&mut merge, job, whole, first, store, out)? {
                     after_group = true;
                 }
-                group.clear(store);
+                whole.lines.clear(store);
             }
             Step::End => {
                 clear_four_slots(store);

@@ -9,7 +9,7 @@ ghost use Rattle.ptmerge.specs.Comm.{tab_if_shown};
 ghost use Rattle.ptmerge.specs.Private.Comm.{IsColumn, hidden_of, lines_in, tabs_of};
 
 use crate::key_order::Side;
-use crate::merging::block_merge::MergeWriter;
+use crate::merging::writer::MergeWriter;
 use ptlangs::jobs::CommJob;
 use ptlines::{Out, Sink, WriteFault};
 
@@ -19,15 +19,15 @@ const TABS: &[u8; 2] = b"\t\t";
 // A column of the output: whether it is hidden, and the tabs before its lines, one for each column before it that is
 // shown.
 #[derive(Clone, Copy)]
-pub(crate) struct Column {
-    pub hidden: bool,
-    pub tabs: &'static [u8],
+struct Column {
+    hidden: bool,
+    tabs: &'static [u8],
 }
 
 impl Column {
     // Returns the column of the lines that only this input has.
     #[inline(always)]
-    pub(crate) fn alone(job: CommJob, side: Side) -> Column
+    fn alone(job: CommJob, side: Side) -> Column
         ensures { IsColumn result (hidden_of (comm_job job) side) (tabs_of (comm_job job) side) }
     {
         let [hide1, hide2, _] = job.hide;
@@ -45,7 +45,7 @@ impl Column {
 
     // Returns the column of the lines that both inputs have.
     #[inline(always)]
-    pub(crate) fn common(job: CommJob) -> Column
+    fn common(job: CommJob) -> Column
         ensures { let job = comm_job job in
             IsColumn result job.hide3 (tab_if_shown job.hide1 ++ tab_if_shown job.hide2) }
     {
@@ -59,12 +59,7 @@ impl Column {
 
     // Writes a line after the tabs, unless the column is hidden.
     #[inline(always)]
-    pub(crate) fn write<W: Sink>(
-        self,
-        line: &[u8],
-        terminator: u8,
-        out: &mut Out<W>,
-    ) -> Result<(), WriteFault>
+    fn write<W: Sink>(self, line: &[u8], terminator: u8, out: &mut Out<W>) -> Result<(), WriteFault>
         requires { out.old.write_failed ≡ false }
         ensures { PushPost out.old out.new (unlines terminator (lines_in self line.now)) result }
     {

@@ -16,7 +16,7 @@ ghost use Rattle.ptmerge.specs.Private.Write.{WriteBytesPost};
 ghost use Rattle.ptmerge.specs.declared.key_order.Side.TheVariants.{First, Second};
 
 use crate::key_order::{Side, Span};
-use crate::merging::block_merge::MergeWriter;
+use crate::merging::writer::MergeWriter;
 use crate::tools::join::fields::{SplitLine, next_word};
 use crate::tools::join::row::Row;
 use ptlangs::jobs::JoinJob;
@@ -267,7 +267,8 @@ fn is_canonical(separator: Option<u8>, number: u64, line: &[u8]) -> bool
 }
 
 // Checks whether the fields of a line are written as they are in it, the join field first: the output lines of a line
-// of the first input begin with it then. That is the same for all of its pairs.
+// of the first input begin with it then, and those of a line of the second one end with the rest of it. That is the
+// same for all of its pairs.
 #[inline(always)]
 pub(crate) fn is_unchanged<A: Allocator>(job: &JoinJob<A>, side: Side, line: &[u8]) -> bool
     ensures { result ≡ true → IsUnchanged (join_job job.now) side line.now }
@@ -288,23 +289,26 @@ pub(crate) struct Pair<'a> {
 }
 
 // Writes the output line of a pair, and its terminator. If both lines are canonical, they are not split: the first line
-// is written, and after it the second one without its join field. `begins` is true if the first line is.
+// is written, and after it the second one without its join field. `begins` is true if the first line is, and `ends` if
+// the second one is known to be.
 #[inline(always)]
 pub(crate) fn write_pair<'a, A: Allocator, W: Sink>(
     job: &'a JoinJob<A>,
     pair: Pair<'a>,
     begins: bool,
+    ends: bool,
     terminator: u8,
     out: &mut Out<W>,
 ) -> Result<(), WriteFault>
     requires one { join_key (join_job job.now) First pair.one.now ≡ pair.key.now }
     requires begins { begins ≡ true → IsUnchanged (join_job job.now) First pair.one.now }
     requires two { join_key (join_job job.now) Second pair.two.now ≡ pair.key.now }
+    requires ends { ends ≡ true → IsUnchanged (join_job job.now) Second pair.two.now }
     ensures { let fields = join_fields (join_job job.now).separator in
         let bytes = entry (join_job job.now) pair.entry.key.now (fields pair.entry.one.now) (fields pair.entry.two.now) in
         PushPost out.old out.new (bytes ++ terminator ∷ []) result }
 {
-    if begins && is_canonical(job.sep, job.field[1], pair.two) {
+    if begins && (ends || is_canonical(job.sep, job.field[1], pair.two)) {
         return out.push_line(pair.one, &pair.two[pair.key.len()..], &[terminator]);
     }
     let entry = Entry {
@@ -357,7 +361,7 @@ impl<'a, A: Allocator> MergeWriter for &'a JoinJob<A> {
             return Ok(());
         }
         let begins = is_unchanged(self, Side::First, one);
-        write_pair(self, Pair { key, one, two }, begins, terminator, out)
+        write_pair(self, Pair { key, one, two }, begins, false, terminator, out)
     }
 }
 

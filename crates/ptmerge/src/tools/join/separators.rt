@@ -1,13 +1,17 @@
 //! Fields of a line of `join` between separators. In a short line they are found by a mask of its separators: bit i is
-//! set if and only if byte i is the separator.
+//! set if and only if byte i is the separator. In a long one, chunks before the field are passed by the number of their
+//! separators.
 ghost use Rattle.std.specs.Prelude.{◌≡◌, ◌≤◌, ◌<◌, Some, length, map};
 ghost use Rattle.std.specs.Simd.Lanes.{mask_l};
 ghost use Rattle.memchr.specs.Find.{is_byte};
-ghost use Rattle.ptmerge.specs.Private.JoinFields.{IsFieldFound};
+ghost use Rattle.ptmerge.specs.Private.JoinFields.{AreSeparatorsPassed, IsFieldFound};
 
 use crate::key_order::Span;
-use crate::tools::join::masks::masks_of;
+use crate::tools::join::masks::{masks_in, masks_of};
 use ptlines::find_byte;
+
+// How many bytes are searched at once for separators.
+const CHUNK: usize = 16;
 
 // Returns the mask of the separators among at most 64 bytes.
 #[inline(always)]
@@ -49,8 +53,36 @@ pub(crate) fn find_separated(separator: u8, number: u64, line: &[u8], mask: u64)
     })
 }
 
-// Returns the span of the field with this number, counted from 1, in a line of any length, or `None` if there is none.
-pub(crate) fn find_separated_long(separator: u8, number: u64, line: &[u8]) -> Option<Span>
+// An index in a line, and how many separators are to be passed after it.
+#[derive(Clone, Copy)]
+struct Passed {
+    at: usize,
+    left: u64,
+}
+
+// Passes chunks of a line, each of which has fewer separators than are still to be passed.
+#[inline(always)]
+fn pass_chunks(separator: u8, count: u64, line: &[u8]) -> Passed
+    ensures { AreSeparatorsPassed separator count line.now result.at result.left }
+{
+    let mut at = 0;
+    let mut left = count;
+    while line.len() - at >= CHUNK {
+        let mask = masks_in::<CHUNK>(separator, separator, line, at).first;
+        let separators = u64::from(mask.count_ones());
+        if separators >= left {
+            return Passed { at, left };
+        }
+        left -= separators;
+        at += CHUNK;
+    }
+    Passed { at, left }
+}
+
+// Returns the span of the field with this number, counted from 1, or `None` if there is none, by a search for one
+// separator after another.
+#[inline(always)]
+fn find_separated_near(separator: u8, number: u64, line: &[u8]) -> Option<Span>
     ensures { IsFieldFound (Some separator) number line.now result }
 {
     let mut start = 0;
@@ -62,4 +94,16 @@ pub(crate) fn find_separated_long(separator: u8, number: u64, line: &[u8]) -> Op
         None => line.len(),
     };
     Some(Span { start, end })
+}
+
+// Returns the span of the field with this number, counted from 1, in a line of any length, or `None` if there is none.
+pub(crate) fn find_separated_long(separator: u8, number: u64, line: &[u8]) -> Option<Span>
+    ensures { IsFieldFound (Some separator) number line.now result }
+{
+    let passed = pass_chunks(separator, number.saturating_sub(1), line);
+    let span = find_separated_near(separator, passed.left + 1, &line[passed.at..])?;
+    Some(Span {
+        start: passed.at + span.start,
+        end: passed.at + span.end,
+    })
 }

@@ -12,20 +12,20 @@ pub block_line-two-requires-clause-status_is : goal.block_line-two-requires-clau
 block_line-two-requires-clause-status_is g c = c.requires.heads Second
 
 pub merge_lines-run-requires-clause-ends : goal.merge_lines-run-requires-clause-ends
-merge_lines-run-requires-clause-ends g c = c.terminator.ensures ∙ c.requires.ready.terminator First
+merge_lines-run-requires-clause-ends g c = c.terminator.ensures ∙ c.requires.blocks.terminator First
 
 pub merge_lines-run-requires-clause-begins : goal.merge_lines-run-requires-clause-begins
 merge_lines-run-requires-clause-begins g c =
     rw c.order.ensures (elim [ First ↦ c.block_line-one.ensures.begins | Second ↦ c.block_line-two.ensures.begins ])
 
 pub merge_lines-run-requires-clause-tool : goal.merge_lines-run-requires-clause-tool
-merge_lines-run-requires-clause-tool g c = rw c.order.ensures c.requires.tool
+merge_lines-run-requires-clause-tool g c = rw c.order.ensures c.requires.blocks.tool_is
 
 pub resume_both-requires-clause-fits : goal.resume_both-requires-clause-fits
 resume_both-requires-clause-fits g c =
     can_resume_both c.merge_lines-run.ensures
     (elim [ First ↦ c.block_line-one.ensures.rest | Second ↦ c.block_line-two.ensures.rest ])
-    c.requires.heads c.requires.ready.own_reader
+    c.requires.heads c.requires.blocks.own_reader
 
 pub returns-clause-merges : goal.returns-clause-merges
 returns-clause-merges g c = record {

@@ -1,16 +1,34 @@
--- Answers for `merge_lines`: its loop at the start, after each arm, which passes one line or one of each input, and at its
--- exits, where no line is near or a write has failed.
+-- Answers for `merge_lines`: its loop at the start, after each arm, which passes one line or one of each input, and at
+-- its exits, where no line is near or a write has failed.
 use Rattle.ptmerge.proofs
 use proofs.Common.{sym, ◌∙◌, ap, arith, is_gt, First, Second, both}
 use proofs.MergeLemmas.{less_flips, IsKeyOrder}
 use proofs.BlockLemmas.{alone_passes, merge_starts, pair_passes, pairs_or_new, run_failed, step_on}
+use Rattle.ptmerge.specs.Private.BlockLines.{IsStep, in_order}
+use proofs.merging.block_merge.merge_lines.Given as given
+use Rattle.ptmerge.proofs.merging.block_merge.merge_lines.Goals.{After-write_both}
 use proofs.merging.block_merge.merge_lines.Goals as goal
 
+module _ (g : given.Over) where
+  key_order : (order : g.row.K.Denot) → IsKeyOrder (g.K.KeyOrder.order order)
+  key_order order = record { total = g.met.K.KeyOrder.total order; exact = g.met.K.KeyOrder.exact order }
+
+  both_pass : (c : After-write_both g) → IsStep (in_order (g.T.MergeWriter.tool c.args.tool)
+      (g.K.KeyOrder.order c.args.order.now) (g.K.KeyOrder.key_of c.args.order.now)) (both c.lines.one c.lines.two)
+      (both c.in-Some-next-2.next1 c.in-Some-next-3.next2) c.lines.out c.write_both.new.out
+  both_pass c =
+      let i = c.lines.invariant in
+      pair_passes _ _ _ (key_order c.args.order.now) c.requires.tool (i.key_is First) (i.key_is Second)
+      (g.met.K.KeyOrder.exact c.args.order.now _ _ (grind arith)) (rw c.requires.ends at c.write_both.ensures.wrote)
+      (elim [
+        | First ↦ rw c.requires.ends at c.in-Some-next-2.ensures
+        | Second ↦ rw c.requires.ends at c.in-Some-next-3.ensures
+      ])
+      (pairs_or_new c.is_pair_by_pair-by_pairs.result (both c.in-Some-next-2.next1 c.in-Some-next-3.next2)
+      c.is_pair_by_pair-by_pairs.ensures (λ none. (grind arith, grind arith)))
+
 pub lines-init : goal.lines-init
-lines-init g c =
-    let law = g.met.K.KeyOrder in
-    let o : IsKeyOrder _ = record { total = law.total c.args.order.now; exact = law.exact c.args.order.now } in
-    merge_starts _ o c.requires.begins c.requires.clean
+lines-init g c = merge_starts _ (key_order g c.args.order.now) c.requires.begins c.requires.clean
 
 pub next-requires-clause-passed : goal.next-requires-clause-passed
 next-requires-clause-passed g c = c.lines.invariant.in_block First
@@ -53,32 +71,26 @@ write_both-requires-clause-two g c =
 pub lines-preserved-in-Less : goal.lines-preserved-in-Less
 lines-preserved-in-Less g c =
     let i = c.lines.invariant in
-    let law = g.met.K.KeyOrder in
-    let o : IsKeyOrder (g.K.KeyOrder.order c.args.order.now) = record { total = law.total _; exact = law.exact _ } in
-    step_on _ o c.requires.tool.alone.none
-    (alone_passes _ _ _ o c.requires.tool First {now = both c.lines.one c.lines.two}
-    (i.key_is First) (i.key_is Second) (ap is_gt (less_flips _ o _ _ (grind arith)))
+    step_on _ (key_order g _) c.requires.tool.alone.none
+    (alone_passes _ _ _ (key_order g _) c.requires.tool First {now = both c.lines.one c.lines.two}
+    (i.key_is First) (i.key_is Second) (ap is_gt (less_flips _ (key_order g _) _ _ (grind arith)))
     (rw c.requires.ends at c.write_alone.ensures.wrote) (rw c.requires.ends at c.in-Some.ensures))
     i (c.in-Ok.ensures.clean i.clean)
 
 pub returns-in_default-write_alone : goal.returns-in_default-write_alone
 returns-in_default-write_alone g c =
     let i = c.lines.invariant in
-    let law = g.met.K.KeyOrder in
-    let o : IsKeyOrder (g.K.KeyOrder.order c.args.order.now) = record { total = law.total _; exact = law.exact _ } in
-    run_failed _ o c.failed.ensures i
-    (alone_passes _ _ _ o c.requires.tool First {now = both c.lines.one c.lines.two}
-    (i.key_is First) (i.key_is Second) (ap is_gt (less_flips _ o _ _ (grind arith)))
+    run_failed _ (key_order g _) c.failed.ensures i
+    (alone_passes _ _ _ (key_order g _) c.requires.tool First {now = both c.lines.one c.lines.two}
+    (i.key_is First) (i.key_is Second) (ap is_gt (less_flips _ (key_order g _) _ _ (grind arith)))
     (rw c.requires.ends at c.write_alone.ensures.wrote) (rw c.requires.ends at c.in-Some.ensures))
     (grind arith)
 
 pub lines-preserved-in-Greater : goal.lines-preserved-in-Greater
 lines-preserved-in-Greater g c =
     let i = c.lines.invariant in
-    let law = g.met.K.KeyOrder in
-    let o : IsKeyOrder (g.K.KeyOrder.order c.args.order.now) = record { total = law.total _; exact = law.exact _ } in
-    step_on _ o c.requires.tool.alone.none
-    (alone_passes _ _ _ o c.requires.tool Second {now = both c.lines.one c.lines.two}
+    step_on _ (key_order g _) c.requires.tool.alone.none
+    (alone_passes _ _ _ (key_order g _) c.requires.tool Second {now = both c.lines.one c.lines.two}
     (i.key_is Second) (i.key_is First) (grind arith)
     (rw c.requires.ends at c.write_alone-in-Greater.ensures.wrote) (rw c.requires.ends at c.in-Some-next.ensures))
     i (c.in-Ok-write_alone.ensures.clean i.clean)
@@ -86,10 +98,8 @@ lines-preserved-in-Greater g c =
 pub returns-in_default-write_alone-2 : goal.returns-in_default-write_alone-2
 returns-in_default-write_alone-2 g c =
     let i = c.lines.invariant in
-    let law = g.met.K.KeyOrder in
-    let o : IsKeyOrder (g.K.KeyOrder.order c.args.order.now) = record { total = law.total _; exact = law.exact _ } in
-    run_failed _ o c.failed-in_default-write_alone-2.ensures i
-    (alone_passes _ _ _ o c.requires.tool Second {now = both c.lines.one c.lines.two}
+    run_failed _ (key_order g _) c.failed-in_default-write_alone-2.ensures i
+    (alone_passes _ _ _ (key_order g _) c.requires.tool Second {now = both c.lines.one c.lines.two}
     (i.key_is Second) (i.key_is First) (grind arith)
     (rw c.requires.ends at c.write_alone-in-Greater.ensures.wrote) (rw c.requires.ends at c.in-Some-next.ensures))
     (grind arith)
@@ -97,36 +107,13 @@ returns-in_default-write_alone-2 g c =
 pub lines-preserved : goal.lines-preserved
 lines-preserved g c =
     let i = c.lines.invariant in
-    let law = g.met.K.KeyOrder in
-    let o : IsKeyOrder (g.K.KeyOrder.order c.args.order.now) = record { total = law.total _; exact = law.exact _ } in
-    step_on _ o c.requires.tool.alone.none (pair_passes _ _ _ o c.requires.tool {now = both c.lines.one c.lines.two}
-    {next = both c.in-Some-next-2.next1 c.in-Some-next-3.next2}
-    (i.key_is First) (i.key_is Second) (law.exact c.args.order.now _ _ (grind arith))
-    (rw c.requires.ends at c.write_both.ensures.wrote)
-    (elim [
-      | First ↦ rw c.requires.ends at c.in-Some-next-2.ensures
-      | Second ↦ rw c.requires.ends at c.in-Some-next-3.ensures
-    ])
-    (pairs_or_new c.is_pair_by_pair-by_pairs.result (both c.in-Some-next-2.next1 c.in-Some-next-3.next2)
-    c.is_pair_by_pair-by_pairs.ensures
-    (λ none. (grind arith, grind arith))))
+    step_on _ (key_order g _) c.requires.tool.alone.none
+    (both_pass g (goal.at.lines-preserved g c).After-write_both)
     i (c.in-Ok-write_both.ensures.clean i.clean)
 
 pub returns-in_default-write_both : goal.returns-in_default-write_both
 returns-in_default-write_both g c =
     let i = c.lines.invariant in
-    let law = g.met.K.KeyOrder in
-    let o : IsKeyOrder (g.K.KeyOrder.order c.args.order.now) = record { total = law.total _; exact = law.exact _ } in
-    run_failed _ o c.failed-in_default-write_both.ensures i
-    (pair_passes _ _ _ o c.requires.tool {now = both c.lines.one c.lines.two}
-    {next = both c.in-Some-next-2.next1 c.in-Some-next-3.next2}
-    (i.key_is First) (i.key_is Second) (law.exact c.args.order.now _ _ (grind arith))
-    (rw c.requires.ends at c.write_both.ensures.wrote)
-    (elim [
-      | First ↦ rw c.requires.ends at c.in-Some-next-2.ensures
-      | Second ↦ rw c.requires.ends at c.in-Some-next-3.ensures
-    ])
-    (pairs_or_new c.is_pair_by_pair-by_pairs.result (both c.in-Some-next-2.next1 c.in-Some-next-3.next2)
-    c.is_pair_by_pair-by_pairs.ensures
-    (λ none. (grind arith, grind arith))))
+    run_failed _ (key_order g _) c.failed-in_default-write_both.ensures i
+    (both_pass g (goal.at.returns-in_default-write_both g c).After-write_both)
     (grind arith)

@@ -1,5 +1,5 @@
--- Of the lines passed so far, the pairs and the unpaired lines are written, as `join` does; the bytes left in the two
--- blocks decrease.
+-- For any tool: the lines passed so far come first, regardless of what follows, and what the tool writes for them is
+-- written, without a failure. The bytes left in the two blocks decrease.
 use Rattle.ptmerge.proofs
 use proofs.Common.{both, ◌+◌, length}
 use Rattle.ptmerge.specs.Private.BlockLines.{AreMerged, in_order}

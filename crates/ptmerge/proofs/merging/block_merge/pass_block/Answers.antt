@@ -1,5 +1,5 @@
--- Answers for `pass_block`: what the calls require, that the input can go on from where the loop ended, and the contract,
--- which is put together from those of the calls.
+-- Answers for `pass_block`: what the calls require, that the input can go on from where the loop ended, and the
+-- contract, which is put together from those of the calls.
 use Rattle.ptmerge.proofs
 use proofs.Common.{refl}
 use proofs.BlockLemmas.{can_resume_line}

@@ -1,14 +1,44 @@
 -- The loop of `comm`: one lemma of `CommLemmas` for each iteration, and one of `CommLemmas` or `MergeLemmas` for each
--- exit. Before each step the lines of the blocks are merged (`PassedLemmas`). Also the start, what the calls require,
+-- exit. Before each step the lines of the blocks are merged (`on_by_blocks`). Also the start, what the calls require,
 -- and the reads that are left, which decrease.
 use Rattle.ptmerge.proofs
-use proofs.Common.{refl, ◌∙◌, First, Second, comm_job}
-use proofs.MergeLemmas.{advance_pre, fails_by, start_fault, start_ok, reads_less, between_next, ends_well}
-use proofs.MergeLemmas.{ends_fallen, kept_order, fails, ends}
-use proofs.CommLemmas.{alone_continues, alone_fails, comm_opens, pair_continues, pair_fails, second_advance_pre}
-use proofs.CommLemmas.{second_fails}
-use proofs.PassedLemmas.{kept_by_blocks, blocks_fail, blocks_read, reads_once, reads_twice}
+use proofs.Common.{◌≤◌, ℕ, List, refl, sym, ◌∙◌, inl, First, Second, both, comm_job, line, merge_state, unlines}
+use proofs.Common.{MergeState, PushEffect}
+use proofs.MergeLemmas.{advance_pre, fails_by, start_fault, start_ok, reads_ahead, reads_less, between_next, ends_well}
+use proofs.MergeLemmas.{ends_fallen, kept_order, fails, ends, wrote_and_sent}
+use proofs.CommLemmas.{LoopOfComm, alone_continues, alone_fails, comm_opens, pair_continues, pair_fails}
+use proofs.CommLemmas.{same_line, second_advance_pre, second_fails, write_pre}
+use proofs.PassedLemmas.{kept_by_blocks, blocks_fail, blocks_pre, blocks_read, reads_once, reads_twice}
+use Rattle.ptmerge.specs.Calls.Comm.{comm_tool}
+use Rattle.ptmerge.specs.Comm.{entries}
+use proofs.tools.comm.comm_with_order.Given as given
+use Rattle.ptmerge.proofs.tools.comm.comm_with_order.Goals.{After-step, After-write_both}
 use proofs.tools.comm.comm_with_order.Goals as goal
+
+module _ (g : given.Over) (c : After-step g) where
+  on_by_blocks : let is = c.merge_in_blocks.new in
+      LoopOfComm (comm_job c.args.job) g.K.KeyOrder.order g.K.KeyOrder.key_of
+      (merge_state c.args.first.now c.args.second.now c.args.out.now c.args.store.now)
+      (merge_state is.first is.second is.out is.store) is.merge.first is.merge.second is.merge.order c.args.order
+  on_by_blocks = kept_by_blocks g.K.KeyOrder.order g.K.KeyOrder.key_of c.steps.invariant
+      c.in_ok-merge_in_blocks.ensures.merges c.merge_in_blocks.ensures.order c.merge_in_blocks.ensures.valid_cursors
+
+  read_by_blocks : let is = c.merge_in_blocks.new in
+      reads_ahead (both is.first is.second) is.merge.first is.merge.second
+      ≤ reads_ahead (both c.steps.first c.steps.second) c.steps.merge.first c.steps.merge.second
+  read_by_blocks = blocks_read c.steps.invariant.iteration.loop_invariant c.steps.invariant.iteration.between
+      c.in_ok-merge_in_blocks.ensures.merges
+
+module _ (g : given.Over) (c : After-write_both g) where
+  abbrev now : MergeState
+  now = let is = c.merge_in_blocks.new in merge_state is.first is.second is.out is.store
+
+  abbrev head : List ℕ
+  head = line now.store c.merge_in_blocks.new.merge.first.current_slot
+
+  written : PushEffect now.out c.write_both.new.out
+      (unlines (now.reader First).terminator (entries (comm_job c.args.job) head 1 1))
+  written = rw (c.terminator.ensures, c.head-one.ensures) at c.write_both.ensures.wrote
 
 pub returns-in_err-merge : goal.returns-in_err-merge
 returns-in_err-merge g c =
@@ -32,18 +62,10 @@ steps-init g c =
       };
     })
 
-pub merge_in_blocks-requires-clause-ready : goal.merge_in_blocks-requires-clause-ready
-merge_in_blocks-requires-clause-ready g c =
+pub merge_in_blocks-requires : goal.merge_in_blocks-requires
+merge_in_blocks-requires g c =
     let t = c.steps.invariant.iteration in
-    record {
-      own_reader = t.between.own_reader;
-      terminator = λ side. (t.loop_invariant.sides side).lines_read.terminator;
-      clean = t.between.clean;
-    }
-
-pub merge_in_blocks-requires-clause-tool : goal.merge_in_blocks-requires-clause-tool
-merge_in_blocks-requires-clause-tool g c =
-    let t = c.steps.invariant.iteration in record { keys = t.whole_line_keys; alone = t.w.alone }
+    blocks_pre t.loop_invariant t.between (comm_tool (comm_job c.args.job)) refl t.w.alone t.whole_line_keys
 
 pub returns-in_err-merge_in_blocks : goal.returns-in_err-merge_in_blocks
 returns-in_err-merge_in_blocks g c =
@@ -51,148 +73,150 @@ returns-in_err-merge_in_blocks g c =
     fails i c.from_residual-in_err-merge_in_blocks.ensures.1
     (blocks_fail i.iteration.loop_invariant i.iteration.between c.in_err-merge_in_blocks.ensures.merges refl)
 
-pub write_head-requires-clause-status_is : goal.write_head-requires-clause-status_is
-write_head-requires-clause-status_is g c =
-    let i = kept_by_blocks g.K.KeyOrder.order g.K.KeyOrder.key_of c.steps.invariant
-    c.in_ok-merge_in_blocks.ensures.merges c.merge_in_blocks.ensures.order c.merge_in_blocks.ensures.valid_cursors in
-    advance_pre i.iteration.between _ c.in-First.ensures.status_is
+-- ---- a line of one input
 
-pub write_head-requires-in-Second-clause-status_is : goal.write_head-requires-in-Second-clause-status_is
-write_head-requires-in-Second-clause-status_is g c =
-    let i = kept_by_blocks g.K.KeyOrder.order g.K.KeyOrder.key_of c.steps.invariant
-    c.in_ok-merge_in_blocks.ensures.merges c.merge_in_blocks.ensures.order c.merge_in_blocks.ensures.valid_cursors in
-    advance_pre i.iteration.between _ c.in-Second.ensures.status_is
+pub pass_line-requires : goal.pass_line-requires
+pass_line-requires g c =
+    let i = on_by_blocks g (goal.at.pass_line-requires g c).After-step in
+    write_pre i.iteration First c.in-First.ensures.status_is
 
-pub write_head-requires-in-Both-clause-status_is : goal.write_head-requires-in-Both-clause-status_is
-write_head-requires-in-Both-clause-status_is g c =
-    let i = kept_by_blocks g.K.KeyOrder.order g.K.KeyOrder.key_of c.steps.invariant
-    c.in_ok-merge_in_blocks.ensures.merges c.merge_in_blocks.ensures.order c.merge_in_blocks.ensures.valid_cursors in
-    advance_pre i.iteration.between _ c.in-Both.ensures.first
-
-pub write_out_and_advance-requires-clause-status_is : goal.write_out_and_advance-requires-clause-status_is
-write_out_and_advance-requires-clause-status_is g c =
-    let i = kept_by_blocks g.K.KeyOrder.order g.K.KeyOrder.key_of c.steps.invariant
-    c.in_ok-merge_in_blocks.ensures.merges c.merge_in_blocks.ensures.order c.merge_in_blocks.ensures.valid_cursors in
-    rw c.write_head-in-Both.ensures.order
-    (second_advance_pre i.iteration c.in-Both.ensures c.in_ok-write_head-in-Both.ensures.advances)
+pub pass_line-requires-in-Second : goal.pass_line-requires-in-Second
+pass_line-requires-in-Second g c =
+    let i = on_by_blocks g (goal.at.pass_line-requires-in-Second g c).After-step in
+    write_pre i.iteration Second c.in-Second.ensures.status_is
 
 pub steps-preserved-in-Continue-branch-3 : goal.steps-preserved-in-Continue-branch-3
 steps-preserved-in-Continue-branch-3 g c =
-    let i = kept_by_blocks g.K.KeyOrder.order g.K.KeyOrder.key_of c.steps.invariant
-    c.in_ok-merge_in_blocks.ensures.merges c.merge_in_blocks.ensures.order c.merge_in_blocks.ensures.valid_cursors in
-    let p = c.write_head.ensures in
-    kept_order p.order i.order (alone_continues i.iteration
-    c.in-First.ensures c.alone-alone1.ensures p.wrote c.in_ok-write_head-in-First.ensures.advances)
+    let i = on_by_blocks g (goal.at.steps-preserved-in-Continue-branch-3 g c).After-step in
+    let p = c.pass_line.ensures in
+    kept_order p.order i.order (alone_continues i.iteration c.in-First.ensures p.wrote
+    c.in_ok-pass_line-in-First.ensures.advances)
 
 pub steps-preserved-in-Continue-branch-4 : goal.steps-preserved-in-Continue-branch-4
 steps-preserved-in-Continue-branch-4 g c =
-    let i = kept_by_blocks g.K.KeyOrder.order g.K.KeyOrder.key_of c.steps.invariant
-    c.in_ok-merge_in_blocks.ensures.merges c.merge_in_blocks.ensures.order c.merge_in_blocks.ensures.valid_cursors in
-    let p = c.write_head-in-Second.ensures in
-    kept_order p.order i.order (alone_continues i.iteration
-    c.in-Second.ensures c.alone-alone2.ensures p.wrote c.in_ok-write_head-in-Second.ensures.advances)
-
-pub steps-preserved : goal.steps-preserved
-steps-preserved g c =
-    let i = kept_by_blocks g.K.KeyOrder.order g.K.KeyOrder.key_of c.steps.invariant
-    c.in_ok-merge_in_blocks.ensures.merges c.merge_in_blocks.ensures.order c.merge_in_blocks.ensures.valid_cursors in
-    let p = c.write_head-in-Both.ensures in
-    let q = c.write_out_and_advance.ensures in
-    kept_order (q.order ∙ p.order) i.order (pair_continues i.iteration
-    c.in-Both.ensures c.common-common.ensures p.wrote c.in_ok-write_head-in-Both.ensures.advances q.written_out
-    (rw p.order at c.in_ok-write_out_and_advance-in-Both.ensures.advances))
+    let i = on_by_blocks g (goal.at.steps-preserved-in-Continue-branch-4 g c).After-step in
+    let p = c.pass_line-in-Second.ensures in
+    kept_order p.order i.order (alone_continues i.iteration c.in-Second.ensures p.wrote
+    c.in_ok-pass_line-in-Second.ensures.advances)
 
 pub steps-smaller-in-Continue-branch-3 : goal.steps-smaller-in-Continue-branch-3
 steps-smaller-in-Continue-branch-3 g c =
-    let i = kept_by_blocks g.K.KeyOrder.order g.K.KeyOrder.key_of c.steps.invariant
-    c.in_ok-merge_in_blocks.ensures.merges c.merge_in_blocks.ensures.order c.merge_in_blocks.ensures.valid_cursors in
-    let h = c.in_ok-write_head-in-First.ensures.advances in
-    reads_once (reads_less i.iteration.between First h.continues c.in-First.ensures.status_is h.came)
-    (blocks_read c.steps.invariant.iteration.loop_invariant c.steps.invariant.iteration.between
-    c.in_ok-merge_in_blocks.ensures.merges)
+    let a = (goal.at.steps-smaller-in-Continue-branch-3 g c).After-step in
+    let h = c.in_ok-pass_line-in-First.ensures.advances in
+    reads_once (reads_less (on_by_blocks g a).iteration.between First h.continues c.in-First.ensures.status_is h.came)
+    (read_by_blocks g a)
 
 pub steps-smaller-in-Continue-branch-4 : goal.steps-smaller-in-Continue-branch-4
 steps-smaller-in-Continue-branch-4 g c =
-    let i = kept_by_blocks g.K.KeyOrder.order g.K.KeyOrder.key_of c.steps.invariant
-    c.in_ok-merge_in_blocks.ensures.merges c.merge_in_blocks.ensures.order c.merge_in_blocks.ensures.valid_cursors in
-    let h = c.in_ok-write_head-in-Second.ensures.advances in
-    reads_once (reads_less i.iteration.between Second h.continues c.in-Second.ensures.status_is h.came)
-    (blocks_read c.steps.invariant.iteration.loop_invariant c.steps.invariant.iteration.between
-    c.in_ok-merge_in_blocks.ensures.merges)
+    let a = (goal.at.steps-smaller-in-Continue-branch-4 g c).After-step in
+    let h = c.in_ok-pass_line-in-Second.ensures.advances in
+    reads_once (reads_less (on_by_blocks g a).iteration.between Second h.continues c.in-Second.ensures.status_is h.came)
+    (read_by_blocks g a)
 
-pub steps-smaller : goal.steps-smaller
-steps-smaller g c =
-    let i = kept_by_blocks g.K.KeyOrder.order g.K.KeyOrder.key_of c.steps.invariant
-    c.in_ok-merge_in_blocks.ensures.merges c.merge_in_blocks.ensures.order c.merge_in_blocks.ensures.valid_cursors in
-    let h = c.in_ok-write_head-in-Both.ensures.advances in
-    let k = rw c.write_head-in-Both.ensures.order at c.in_ok-write_out_and_advance-in-Both.ensures.advances in
-    reads_twice (reads_less (between_next i.iteration.between First h.continues) Second k.continues
-    (rw h.continues.others c.in-Both.ensures.second) k.came)
-    (reads_less i.iteration.between First h.continues c.in-Both.ensures.first h.came)
-    (blocks_read c.steps.invariant.iteration.loop_invariant c.steps.invariant.iteration.between
-    c.in_ok-merge_in_blocks.ensures.merges)
+pub returns-in_err-pass_line-in-First : goal.returns-in_err-pass_line-in-First
+returns-in_err-pass_line-in-First g c =
+    let i = on_by_blocks g (goal.at.returns-in_err-pass_line-in-First g c).After-step in
+    fails i c.from_residual-in_err-pass_line-in-First.ensures.1
+    (alone_fails i.iteration c.in-First.ensures c.pass_line.ensures.wrote
+    _ _ _ c.in_err-pass_line-in-First.ensures.advances)
 
-pub returns-in_err-write_head-in-First : goal.returns-in_err-write_head-in-First
-returns-in_err-write_head-in-First g c =
-    let i = kept_by_blocks g.K.KeyOrder.order g.K.KeyOrder.key_of c.steps.invariant
-    c.in_ok-merge_in_blocks.ensures.merges c.merge_in_blocks.ensures.order c.merge_in_blocks.ensures.valid_cursors in
-    fails i c.from_residual-in_err-write_head-in-First.ensures.1
-    (alone_fails i.iteration c.in-First.ensures c.alone-alone1.ensures c.write_head.ensures.wrote
-    _ _ _ c.in_err-write_head-in-First.ensures.advances)
+pub returns-in_err-pass_line-in-Second : goal.returns-in_err-pass_line-in-Second
+returns-in_err-pass_line-in-Second g c =
+    let i = on_by_blocks g (goal.at.returns-in_err-pass_line-in-Second g c).After-step in
+    fails i c.from_residual-in_err-pass_line-in-Second.ensures.1
+    (alone_fails i.iteration c.in-Second.ensures c.pass_line-in-Second.ensures.wrote
+    _ _ _ c.in_err-pass_line-in-Second.ensures.advances)
 
-pub returns-in_err-write_head-in-Second : goal.returns-in_err-write_head-in-Second
-returns-in_err-write_head-in-Second g c =
-    let i = kept_by_blocks g.K.KeyOrder.order g.K.KeyOrder.key_of c.steps.invariant
-    c.in_ok-merge_in_blocks.ensures.merges c.merge_in_blocks.ensures.order c.merge_in_blocks.ensures.valid_cursors in
-    fails i c.from_residual-in_err-write_head-in-Second.ensures.1
-    (alone_fails i.iteration c.in-Second.ensures c.alone-alone2.ensures
-    c.write_head-in-Second.ensures.wrote _ _ _ c.in_err-write_head-in-Second.ensures.advances)
+-- ---- a line of both inputs
 
-pub returns-in_err-write_head-in-Both : goal.returns-in_err-write_head-in-Both
-returns-in_err-write_head-in-Both g c =
-    let i = kept_by_blocks g.K.KeyOrder.order g.K.KeyOrder.key_of c.steps.invariant
-    c.in_ok-merge_in_blocks.ensures.merges c.merge_in_blocks.ensures.order c.merge_in_blocks.ensures.valid_cursors in
-    fails i c.from_residual-in_err-write_head-in-Both.ensures.1
-    (pair_fails i.iteration c.in-Both.ensures c.common-common.ensures
-    c.write_head-in-Both.ensures.wrote _ _ _ c.in_err-write_head-in-Both.ensures.advances)
+pub write_both-requires-clause-two : goal.write_both-requires-clause-two
+write_both-requires-clause-two g c =
+    let i = on_by_blocks g (goal.at.write_both-requires-clause-two g c).After-step in
+    c.head-two.ensures ∙ same_line i.iteration c.in-Both.ensures ∙ sym c.head-one.ensures
+
+pub write_both-requires-clause-clean : goal.write_both-requires-clause-clean
+write_both-requires-clause-clean g c =
+    (on_by_blocks g (goal.at.write_both-requires-clause-clean g c).After-step).iteration.between.clean
+
+pub returns-in_err-write_both-in-Both : goal.returns-in_err-write_both-in-Both
+returns-in_err-write_both-in-Both g c =
+    let a = goal.at.returns-in_err-write_both-in-Both g c in
+    let i = on_by_blocks g a.After-step in
+    fails i c.from_residual-in_err-write_both-in-Both.ensures.1
+    (pair_fails i.iteration c.in-Both.ensures (written g a.After-write_both) _ _ _ (inl (
+      refl,
+      record { write_failed = c.in_err-write_both-in-Both.ensures.fault; unread = refl; store = refl },
+    )))
+
+pub write_out_and_advance-requires-clause-status_is : goal.write_out_and_advance-requires-clause-status_is
+write_out_and_advance-requires-clause-status_is g c =
+    let i = on_by_blocks g (goal.at.write_out_and_advance-requires-clause-status_is g c).After-step in
+    advance_pre i.iteration.between First c.in-Both.ensures.first
+
+pub write_out_and_advance-requires-clause-clean : goal.write_out_and_advance-requires-clause-clean
+write_out_and_advance-requires-clause-clean g c =
+    let i = on_by_blocks g (goal.at.write_out_and_advance-requires-clause-clean g c).After-step in
+    c.in_ok-write_both-in-Both.ensures.clean i.iteration.between.clean
 
 pub returns-in_err-write_out_and_advance-in-Both : goal.returns-in_err-write_out_and_advance-in-Both
 returns-in_err-write_out_and_advance-in-Both g c =
-    let i = kept_by_blocks g.K.KeyOrder.order g.K.KeyOrder.key_of c.steps.invariant
-    c.in_ok-merge_in_blocks.ensures.merges c.merge_in_blocks.ensures.order c.merge_in_blocks.ensures.valid_cursors in
+    let a = goal.at.returns-in_err-write_out_and_advance-in-Both g c in
+    let i = on_by_blocks g a.After-step in
+    let sent = wrote_and_sent _ _ _ _ (c.in_ok-write_both-in-Both.ensures.clean i.iteration.between.clean)
+    (written g a.After-write_both) c.write_out_and_advance.ensures.written_out in
     fails i c.from_residual-in_err-write_out_and_advance-in-Both.ensures.1
-    (second_fails i.iteration c.in-Both.ensures c.common-common.ensures c.write_head-in-Both.ensures.wrote
-    c.in_ok-write_head-in-Both.ensures.advances c.write_out_and_advance.ensures.written_out
-    _ _ _ c.in_err-write_out_and_advance-in-Both.ensures.advances)
+    (pair_fails i.iteration c.in-Both.ensures sent _ _ _ c.in_err-write_out_and_advance-in-Both.ensures.advances)
+
+pub write_out_and_advance-requires-in-Both-clause-status_is :
+    goal.write_out_and_advance-requires-in-Both-clause-status_is
+write_out_and_advance-requires-in-Both-clause-status_is g c =
+    let i = on_by_blocks g (goal.at.write_out_and_advance-requires-in-Both-clause-status_is g c).After-step in
+    rw c.write_out_and_advance.ensures.order
+    (second_advance_pre i.iteration c.in-Both.ensures c.in_ok-write_out_and_advance-in-Both.ensures.advances)
+
+pub returns-in_err-write_out_and_advance-in-Both-2 : goal.returns-in_err-write_out_and_advance-in-Both-2
+returns-in_err-write_out_and_advance-in-Both-2 g c =
+    let a = goal.at.returns-in_err-write_out_and_advance-in-Both-2 g c in
+    let i = on_by_blocks g a.After-step in
+    let sent = wrote_and_sent _ _ _ _ (c.in_ok-write_both-in-Both.ensures.clean i.iteration.between.clean)
+    (written g a.After-write_both) c.write_out_and_advance.ensures.written_out in
+    fails i c.from_residual-in_err-write_out_and_advance-in-Both-2.ensures.1
+    (second_fails i.iteration c.in-Both.ensures sent c.in_ok-write_out_and_advance-in-Both.ensures.advances
+    c.write_out_and_advance-in-Both.ensures.written_out
+    _ _ _ c.in_err-write_out_and_advance-in-Both-2.ensures.advances)
+
+pub steps-preserved : goal.steps-preserved
+steps-preserved g c =
+    let a = goal.at.steps-preserved g c in
+    let i = on_by_blocks g a.After-step in
+    let sent = wrote_and_sent _ _ _ _ (c.in_ok-write_both-in-Both.ensures.clean i.iteration.between.clean)
+    (written g a.After-write_both) c.write_out_and_advance.ensures.written_out in
+    let p = c.write_out_and_advance.ensures in
+    let q = c.write_out_and_advance-in-Both.ensures in
+    kept_order (q.order ∙ p.order) i.order (pair_continues i.iteration c.in-Both.ensures sent
+    c.in_ok-write_out_and_advance-in-Both.ensures.advances q.written_out
+    (rw p.order at c.in_ok-write_out_and_advance-in-Both-2.ensures.advances))
+
+pub steps-smaller : goal.steps-smaller
+steps-smaller g c =
+    let a = (goal.at.steps-smaller g c).After-step in
+    let between = (on_by_blocks g a).iteration.between in
+    let h = c.in_ok-write_out_and_advance-in-Both.ensures.advances in
+    let k = rw c.write_out_and_advance.ensures.order at c.in_ok-write_out_and_advance-in-Both-2.ensures.advances in
+    reads_twice (reads_less (between_next between First h.continues) Second k.continues
+    (rw h.continues.others c.in-Both.ensures.second) k.came)
+    (reads_less between First h.continues c.in-Both.ensures.first h.came) (read_by_blocks g a)
+
+-- ---- the end
 
 pub returns-in-End : goal.returns-in-End
 returns-in-End g c =
-    let i = kept_by_blocks g.K.KeyOrder.order g.K.KeyOrder.key_of c.steps.invariant
-    c.in_ok-merge_in_blocks.ensures.merges c.merge_in_blocks.ensures.order c.merge_in_blocks.ensures.valid_cursors in
+    let i = on_by_blocks g (goal.at.returns-in-End g c).After-step in
     ends i
     (ends_well i.iteration.loop_invariant i.iteration.between.clean c.clear_four_slots.ensures c.in-End.ensures)
 
 pub returns-in-Stop : goal.returns-in-Stop
 returns-in-Stop g c =
-    let i = kept_by_blocks g.K.KeyOrder.order g.K.KeyOrder.key_of c.steps.invariant
-    c.in_ok-merge_in_blocks.ensures.merges c.merge_in_blocks.ensures.order c.merge_in_blocks.ensures.valid_cursors in
+    let i = on_by_blocks g (goal.at.returns-in-Stop g c).After-step in
     ends i (ends_fallen i.iteration.loop_invariant i.iteration.between.clean c.clear_four_slots-in-Stop.ensures
     c.in-Stop.ensures)
-
-pub write_head-requires-clause-clean : goal.write_head-requires-clause-clean
-write_head-requires-clause-clean g c =
-    let i = kept_by_blocks g.K.KeyOrder.order g.K.KeyOrder.key_of c.steps.invariant
-    c.in_ok-merge_in_blocks.ensures.merges c.merge_in_blocks.ensures.order c.merge_in_blocks.ensures.valid_cursors in
-    i.iteration.between.clean
-
-pub write_head-requires-in-Second-clause-clean : goal.write_head-requires-in-Second-clause-clean
-write_head-requires-in-Second-clause-clean g c =
-    let i = kept_by_blocks g.K.KeyOrder.order g.K.KeyOrder.key_of c.steps.invariant
-    c.in_ok-merge_in_blocks.ensures.merges c.merge_in_blocks.ensures.order c.merge_in_blocks.ensures.valid_cursors in
-    i.iteration.between.clean
-
-pub write_head-requires-in-Both-clause-clean : goal.write_head-requires-in-Both-clause-clean
-write_head-requires-in-Both-clause-clean g c =
-    let i = kept_by_blocks g.K.KeyOrder.order g.K.KeyOrder.key_of c.steps.invariant
-    c.in_ok-merge_in_blocks.ensures.merges c.merge_in_blocks.ensures.order c.merge_in_blocks.ensures.valid_cursors in
-    i.iteration.between.clean

@@ -4,16 +4,17 @@
 use Rattle.ptmerge.proofs
 use Rattle.ptmerge.specs
 use proofs.Common.{◌≡◌, refl, sym, ◌∙◌, arith, ℕ, ◌<◌, ◌≤◌, both, inl, join_job, merge_state, Ok}
-use proofs.JoinLemmas.{BetweenGroups, LoopOfJoin, alone_continues, alone_fails, join_opens, joins}
-use proofs.JoinLemmas.{group_opens}
+use proofs.JoinLemmas.{BetweenGroups, LoopOfJoin, alone_continues, alone_fails, join_opens, write_pre}
+use proofs.JoinLemmas.{group_opens, read_group_less, write_pairs_less}
 use proofs.JoinLemmas.{read_group_in, read_group_pre, read_group_continues, read_group_fails, write_pairs_next}
+use proofs.JoinLemmas.{stays_unchanged}
 use proofs.JoinLemmas.{write_pairs_pre, write_pairs_group, write_pairs_continues, pair_fails, group_there, group_closed}
-use proofs.MergeLemmas.{advance_pre, fails_by, start_fault, start_ok, ends_well, ends_fallen, kept_order}
+use proofs.MergeLemmas.{fails_by, start_fault, start_ok, ends_well, ends_fallen, kept_order}
 use proofs.MergeLemmas.{fails, ends, reads_less}
-use proofs.PassedLemmas.{blocks_fail, blocks_read, reads_once}
+use proofs.PassedLemmas.{blocks_fail, blocks_pre, blocks_read, reads_once}
 use proofs.PairLemmas.{blocks_joined, joined_by_blocks}
 use specs.declared.key_order.Side.TheVariants as sides
-use specs.Calls.Join.{join_with}
+use specs.Calls.Join.{join_tool, join_with}
 use specs.Calls.MergeSteps.{AreValidCursors}
 use specs.Private.Passed.{BlocksPost}
 use proofs.tools.join.join_with_order.Given as given
@@ -77,18 +78,10 @@ steps-init g c =
       };
     })
 
-pub merge_in_blocks-requires-clause-tool : goal.merge_in_blocks-requires-clause-tool
-merge_in_blocks-requires-clause-tool g c =
-    let t = c.steps.invariant.iteration in record { keys = t.keys; alone = t.w.alone }
-
-pub merge_in_blocks-requires-clause-ready : goal.merge_in_blocks-requires-clause-ready
-merge_in_blocks-requires-clause-ready g c =
+pub merge_in_blocks-requires : goal.merge_in_blocks-requires
+merge_in_blocks-requires g c =
     let t = c.steps.invariant.iteration in
-    record {
-      own_reader = t.between.own_reader;
-      terminator = λ side. (t.here.sides side).lines_read.terminator;
-      clean = t.between.clean;
-    }
+    blocks_pre t.here t.between (join_tool (join_job c.args.job.now)) refl t.w.alone t.keys
 
 pub returns-in_err-merge_in_blocks : goal.returns-in_err-merge_in_blocks
 returns-in_err-merge_in_blocks g c =
@@ -105,44 +98,34 @@ step-requires g c =
       | else-not-after_group w ↦ simp (w.store-is, w.merge-is) c.steps.invariant.iteration.between.valid_cursors
     ]
 
-pub write_unpaired-requires-clause-status_is : goal.write_unpaired-requires-clause-status_is
-write_unpaired-requires-clause-status_is g c =
-    let i = on_by_blocks g (goal.at.write_unpaired-requires-clause-status_is g c).After-step in
-    advance_pre i.iteration.between _ c.in-First.ensures.status_is
+pub pass_line-requires : goal.pass_line-requires
+pass_line-requires g c =
+    let i = on_by_blocks g (goal.at.pass_line-requires g c).After-step in
+    write_pre i.iteration sides.First c.in-First.ensures.status_is
 
-pub write_unpaired-requires-in-Second-clause-status_is : goal.write_unpaired-requires-in-Second-clause-status_is
-write_unpaired-requires-in-Second-clause-status_is g c =
-    let i = on_by_blocks g (goal.at.write_unpaired-requires-in-Second-clause-status_is g c).After-step in
-    advance_pre i.iteration.between _ c.in-Second.ensures.status_is
-
-pub write_unpaired-requires-clause-joins : goal.write_unpaired-requires-clause-joins
-write_unpaired-requires-clause-joins g c =
-    let i = on_by_blocks g (goal.at.write_unpaired-requires-clause-joins g c).After-step in
-    joins i.iteration
-
-pub write_unpaired-requires-in-Second-clause-joins : goal.write_unpaired-requires-in-Second-clause-joins
-write_unpaired-requires-in-Second-clause-joins g c =
-    let i = on_by_blocks g (goal.at.write_unpaired-requires-in-Second-clause-joins g c).After-step in
-    joins i.iteration
+pub pass_line-requires-in-Second : goal.pass_line-requires-in-Second
+pass_line-requires-in-Second g c =
+    let i = on_by_blocks g (goal.at.pass_line-requires-in-Second g c).After-step in
+    write_pre i.iteration sides.Second c.in-Second.ensures.status_is
 
 pub steps-preserved-in-Continue-branch-3 : goal.steps-preserved-in-Continue-branch-3
 steps-preserved-in-Continue-branch-3 g c =
     let i = on_by_blocks g (goal.at.steps-preserved-in-Continue-branch-3 g c).After-step in
-    let p = c.write_unpaired.ensures in
+    let p = c.pass_line.ensures in
     kept_order p.order i.order (alone_continues i.iteration
-    c.in-First.ensures p.wrote c.in_ok-write_unpaired-in-First.ensures.advances)
+    c.in-First.ensures p.wrote c.in_ok-pass_line-in-First.ensures.advances)
 
 pub steps-preserved-in-Continue-branch-4 : goal.steps-preserved-in-Continue-branch-4
 steps-preserved-in-Continue-branch-4 g c =
     let i = on_by_blocks g (goal.at.steps-preserved-in-Continue-branch-4 g c).After-step in
-    let p = c.write_unpaired-in-Second.ensures in
+    let p = c.pass_line-in-Second.ensures in
     kept_order p.order i.order (alone_continues i.iteration
-    c.in-Second.ensures p.wrote c.in_ok-write_unpaired-in-Second.ensures.advances)
+    c.in-Second.ensures p.wrote c.in_ok-pass_line-in-Second.ensures.advances)
 
 pub steps-smaller-in-Continue-branch-3 : goal.steps-smaller-in-Continue-branch-3
 steps-smaller-in-Continue-branch-3 g c =
     let i = on_by_blocks g (goal.at.steps-smaller-in-Continue-branch-3 g c).After-step in
-    let h = c.in_ok-write_unpaired-in-First.ensures.advances in
+    let h = c.in_ok-pass_line-in-First.ensures.advances in
     reads_once (reads_less i.iteration.between _ h.continues c.in-First.ensures.status_is h.came)
     (blocks_read c.steps.invariant.iteration.here c.steps.invariant.iteration.between
     (by_blocks g (goal.at.steps-smaller-in-Continue-branch-3 g c).After-step).0)
@@ -150,37 +133,35 @@ steps-smaller-in-Continue-branch-3 g c =
 pub steps-smaller-in-Continue-branch-4 : goal.steps-smaller-in-Continue-branch-4
 steps-smaller-in-Continue-branch-4 g c =
     let i = on_by_blocks g (goal.at.steps-smaller-in-Continue-branch-4 g c).After-step in
-    let h = c.in_ok-write_unpaired-in-Second.ensures.advances in
+    let h = c.in_ok-pass_line-in-Second.ensures.advances in
     reads_once (reads_less i.iteration.between _ h.continues c.in-Second.ensures.status_is h.came)
     (blocks_read c.steps.invariant.iteration.here c.steps.invariant.iteration.between
     (by_blocks g (goal.at.steps-smaller-in-Continue-branch-4 g c).After-step).0)
 
-pub returns-in_err-write_unpaired-in-First : goal.returns-in_err-write_unpaired-in-First
-returns-in_err-write_unpaired-in-First g c =
-    let i = on_by_blocks g (goal.at.returns-in_err-write_unpaired-in-First g c).After-step in
-    fails i c.from_residual-in_err-write_unpaired-in-First.ensures.1
-    (alone_fails i.iteration c.in-First.ensures c.write_unpaired.ensures.wrote
-    _ _ _ c.in_err-write_unpaired-in-First.ensures.advances)
+pub returns-in_err-pass_line-in-First : goal.returns-in_err-pass_line-in-First
+returns-in_err-pass_line-in-First g c =
+    let i = on_by_blocks g (goal.at.returns-in_err-pass_line-in-First g c).After-step in
+    fails i c.from_residual-in_err-pass_line-in-First.ensures.1
+    (alone_fails i.iteration c.in-First.ensures c.pass_line.ensures.wrote
+    _ _ _ c.in_err-pass_line-in-First.ensures.advances)
 
-pub returns-in_err-write_unpaired-in-Second : goal.returns-in_err-write_unpaired-in-Second
-returns-in_err-write_unpaired-in-Second g c =
-    let i = on_by_blocks g (goal.at.returns-in_err-write_unpaired-in-Second g c).After-step in
-    fails i c.from_residual-in_err-write_unpaired-in-Second.ensures.1
+pub returns-in_err-pass_line-in-Second : goal.returns-in_err-pass_line-in-Second
+returns-in_err-pass_line-in-Second g c =
+    let i = on_by_blocks g (goal.at.returns-in_err-pass_line-in-Second g c).After-step in
+    fails i c.from_residual-in_err-pass_line-in-Second.ensures.1
     (alone_fails i.iteration c.in-Second.ensures
-    c.write_unpaired-in-Second.ensures.wrote
-    _ _ _ c.in_err-write_unpaired-in-Second.ensures.advances)
+    c.pass_line-in-Second.ensures.wrote
+    _ _ _ c.in_err-pass_line-in-Second.ensures.advances)
 
 pub returns-in-End : goal.returns-in-End
 returns-in-End g c =
     let i = on_by_blocks g (goal.at.returns-in-End g c).After-step in
-    ends i (ends_well i.iteration.here i.iteration.clean
-    c.clear_four_slots.ensures c.in-End.ensures)
+    ends i (ends_well i.iteration.here i.iteration.clean c.clear_four_slots.ensures c.in-End.ensures)
 
 pub returns-in-Stop : goal.returns-in-Stop
 returns-in-Stop g c =
     let i = on_by_blocks g (goal.at.returns-in-Stop g c).After-step in
-    ends i (ends_fallen i.iteration.here i.iteration.clean
-    c.clear_four_slots-in-Stop.ensures c.in-Stop.ensures)
+    ends i (ends_fallen i.iteration.here i.iteration.clean c.clear_four_slots-in-Stop.ensures c.in-Stop.ensures)
 
 pub clear_four_slots-requires-in-Stop : goal.clear_four_slots-requires-in-Stop
 clear_four_slots-requires-in-Stop g c =
@@ -209,23 +190,22 @@ returns-in_err-read_line-in-Both g c =
 
 pub lines-smaller : goal.lines-smaller
 lines-smaller g c =
-    let t = c.lines.invariant.kept.iteration in
     let ok = c.in_ok-read_line-in-Both.ensures in
-    reads_less t.between _ ok.continues (read_group_pre t).head ok.reads_line.1.came
-
-still_fewer : {a b c : ℕ} → a < b → b ≤ c → a ≤ c
-still_fewer less few = omega (arith, less, few)
+    read_group_less c.lines.invariant.kept.iteration ok.reads_line.1.came ok.continues
 
 pub lines-preserved : goal.lines-preserved
 lines-preserved g c =
-    let i = c.lines.invariant in
-    let t = i.kept.iteration in
+    let k = c.lines.invariant.kept in
     let p = c.read_line.ensures in
     let ok = c.in_ok-read_line-in-Both.ensures in
     record {
-      kept = kept_order p.order i.kept.order (read_group_continues t p.written_out ok.reads_line.1 ok.continues
+      kept = kept_order p.order k.order (read_group_continues k.iteration p.written_out ok.reads_line.1 ok.continues
           (sym ok.reads_line.0 ∙ c.if-branch.true));
-      fewer = still_fewer (reads_less t.between _ ok.continues (read_group_pre t).head ok.reads_line.1.came) i.fewer;
+      fewer = omega (
+        arith,
+        c.lines.invariant.fewer,
+        read_group_less k.iteration ok.reads_line.1.came ok.continues,
+      );
     }
 
 pub pairs-init : goal.pairs-init
@@ -237,10 +217,11 @@ pairs-init g c =
       kept = kept_order p.order i.order (write_pairs_next i.iteration p.written_out ok.reads_line.1 ok.continues
           (sym ok.reads_line.0 ∙ c.if-branch.false));
       fewer = omega arith;
+      unchanged = c.is_unchanged-unchanged.ensures;
     }
 
-pub write_pairs-requires-clause-joins : goal.write_pairs-requires-clause-joins
-write_pairs-requires-clause-joins g c = write_pairs_pre c.pairs.invariant.kept.iteration
+pub write_pairs-requires-clause-writes : goal.write_pairs-requires-clause-writes
+write_pairs-requires-clause-writes g c = write_pairs_pre c.pairs.invariant.kept.iteration
 
 pub write_pairs-requires-clause-group : goal.write_pairs-requires-clause-group
 write_pairs-requires-clause-group g c = write_pairs_group c.pairs.invariant.kept.iteration
@@ -253,21 +234,19 @@ returns-in_err-write_pairs-in-Both g c =
 
 pub pairs-smaller : goal.pairs-smaller
 pairs-smaller g c =
-    let t = c.pairs.invariant.kept.iteration in
-    let h = c.in_ok-write_pairs-in-Both.ensures.advances in
-    reads_less t.between _ h.continues (write_pairs_pre t).status_is.head h.came
+    write_pairs_less c.pairs.invariant.kept.iteration c.in_ok-write_pairs-in-Both.ensures.advances
 
 pub pairs-preserved : goal.pairs-preserved
 pairs-preserved g c =
-    let i = c.pairs.invariant in
-    let t = i.kept.iteration in
+    let k = c.pairs.invariant.kept in
     let p = c.write_pairs.ensures in
     let ok = c.in_ok-write_pairs-in-Both.ensures in
     let h = ok.advances in
     record {
-      kept = kept_order p.order i.kept.order (write_pairs_continues t p.wrote h
+      kept = kept_order p.order k.order (write_pairs_continues k.iteration p.wrote h
           (sym ok.has_more ∙ c.if-branch-2.true));
-      fewer = still_fewer (reads_less t.between _ h.continues (write_pairs_pre t).status_is.head h.came) i.fewer;
+      fewer = omega (arith, c.pairs.invariant.fewer, write_pairs_less k.iteration h);
+      unchanged = λ known. stays_unchanged k.iteration h (c.pairs.invariant.unchanged known);
     }
 
 pub clear-requires : goal.clear-requires
@@ -288,13 +267,10 @@ fewer_after pair pairs line lines = omega (arith, pair, pairs, line, lines)
 
 pub steps-smaller : goal.steps-smaller
 steps-smaller g c =
-    let read = c.lines.invariant.kept.iteration in
     let line = c.in_ok-read_line-in-Both.ensures in
-    let wrote = c.pairs.invariant.kept.iteration in
-    let pair = c.in_ok-write_pairs-in-Both.ensures.advances in
-    reads_once (fewer_after (reads_less wrote.between _ pair.continues (write_pairs_pre wrote).status_is.head pair.came)
+    reads_once (fewer_after
+    (write_pairs_less c.pairs.invariant.kept.iteration c.in_ok-write_pairs-in-Both.ensures.advances)
     c.pairs.invariant.fewer
-    (reads_less read.between _ line.continues (read_group_pre read).head line.reads_line.1.came)
-    c.lines.invariant.fewer)
+    (read_group_less c.lines.invariant.kept.iteration line.reads_line.1.came line.continues) c.lines.invariant.fewer)
     (blocks_read c.steps.invariant.iteration.here c.steps.invariant.iteration.between
     (by_blocks g (goal.at.steps-smaller g c).After-step).0)

@@ -1,4 +1,5 @@
--- The line is single-spaced if the rest of it is.
+-- The line is single-spaced exactly if the rest of it is, after a blank if `before` is 1: at the start it is, and later
+-- if the byte before the rest is a blank. The bytes left decrease.
 use Rattle.ptmerge.proofs
 use proofs.Common.{◌≡◌, ◌==◌, ◌-◌, ◌≤◌, true, drop, length, is_single_spaced}
 use proofs.tools.join.words.is_single_spaced_long.Given as goal
