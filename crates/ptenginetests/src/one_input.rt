@@ -1,5 +1,6 @@
-//! A harness for the engines with one input: runs one over an input in pieces, and checks its result and output. Used
-//! by the tests of `cut`, `paste -s`, `tr` and `uniq`.
+//! A harness for the engines with one input: runs one over an input in pieces, where a read or a write may fail, checks
+//! its result and output, and returns what the store keeps. Used by the tests of `cut`, `paste -s`, `tr` and `uniq`. Also
+//! lengths around those of vectors and of a block.
 
 use crate::asserts::{assert_for, assert_same_for};
 use ptfakes::{ChunkedSource, VecSink};

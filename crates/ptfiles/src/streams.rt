@@ -130,7 +130,7 @@ pub struct StreamsReport<O> {
     /// The exit status, or 4 if memory ran out.
     pub status: u8,
     /// The report of the run over the streams as files.
-    pub run: FilesReport<O, O, O>,
+    pub files: FilesReport<O, O, O>,
 }
 
 /// The end of a run over streams whose words are bytes.
@@ -187,8 +187,8 @@ pub fn run_streams<A: Allocator + Copy, H: Host>(
     opened: &[u8],
 ) -> StreamsReport<H::Output>
     ensures { RunStreamsPost H.Output.state (words_view words.now) (H.content host.now) H.output opened.now result.status
-        (created_state H.Output.state result.run.file) result.run.out_of_memory
-        (outcome H.Output.state H.Output.state result.run.report) result.run.report.out
+        (created_state H.Output.state result.files.file) result.files.out_of_memory
+        (outcome H.Output.state H.Output.state result.files.report) result.files.report.out
         (MayFail H.Input.state H.Input.state) }
 {
     let mut files = StreamFiles::new(host, opened);
@@ -197,9 +197,12 @@ pub fn run_streams<A: Allocator + Copy, H: Host>(
         out: host.output(OUTPUT),
         messages: host.output(MESSAGES),
     };
-    let run = run_over_files(alloc, &mut files, words, streams);
-    let status = status_of(&run);
-    StreamsReport { status, run }
+    let report = run_over_files(alloc, &mut files, words, streams);
+    let status = status_of(&report);
+    StreamsReport {
+        status,
+        files: report,
+    }
 }
 
 // Returns the status of a run, or 4 if memory ran out before it or in it.

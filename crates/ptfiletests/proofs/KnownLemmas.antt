@@ -136,7 +136,7 @@ pub known_given : {W : Type 0} (of : W → SinkState) (words : List ℕ) (bytes 
 known_given of words bytes opened (Ran ran) given {Failing} none is post = (
   post.0,
   known_run bytes none (subst (λ known. RunStreamsPost of (lines 0 words) known new_output opened ran.status
-      (created_state of ran.run.file) ran.run.out_of_memory (outcome of of ran.run.report) ran.run.report.out Failing) is
-      post.1),
+      (created_state of ran.files.file) ran.files.out_of_memory (outcome of of ran.files.report) ran.files.report.out
+      Failing) is post.1),
 )
 known_given of words bytes opened (Refused status said) given none is post = post

@@ -62,5 +62,6 @@ RunKnownPost words bytes opened status file o =
 -- The words are lines that end with byte 0.
 abbrev pub GivenKnownPost : {W : Type 0} → (W → SinkState) → List ℕ → (ℕ → List ℕ) → List ℕ → GivenRun W → Type 0
 GivenKnownPost of words bytes opened (Ran ran) = IsUtf8 words
-    × RunKnownPost (lines 0 words) bytes opened ran.status (created_state of ran.run.file) (outcome of of ran.run.report)
+    × RunKnownPost (lines 0 words) bytes opened ran.status (created_state of ran.files.file)
+    (outcome of of ran.files.report)
 GivenKnownPost of words bytes opened (Refused status said) = IsNotRun words status (new_output 2) (of said)

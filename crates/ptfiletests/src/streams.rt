@@ -105,8 +105,8 @@ fn assert_ran(rt: &impl Abort, ended: &Ended, status: u8, out: &[u8], messages: 
     match ended {
         GivenRun::Ran(ran) => {
             assert_eq!(rt; ran.status, status);
-            assert!(rt; is_written(&ran.run.report.out, 1, out));
-            assert!(rt; is_written(&ran.run.report.messages, 2, messages));
+            assert!(rt; is_written(&ran.files.report.out, 1, out));
+            assert!(rt; is_written(&ran.files.report.messages, 2, messages));
         }
         GivenRun::Refused { .. } => assert!(rt; false),
     }
@@ -137,7 +137,7 @@ fn the_output_file_of_uniq_is_the_output(rt: HostRuntime) {
     let ended = run_known(rt.alloc(), b"uniq\0f\0out\0", &streams, b"\x01");
     assert_ran(&rt, &ended, 0, b"", b"");
     let is_created = match &ended {
-        GivenRun::Ran(ran) => match &ran.run.file {
+        GivenRun::Ran(ran) => match &ran.files.file {
             Some(file) => is_written(file, 1, b"a b\na c\n"),
             None => false,
         },

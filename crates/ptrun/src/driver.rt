@@ -6,8 +6,8 @@ ghost use Rattle.ptopts.specs.Commands.{words_view};
 ghost use Rattle.ptrun.specs.Private.Driver.{InputsPre, ReportUnopenedPost, RunInputsPre, RunInputsPost};
 ghost use Rattle.ptrun.specs.Private.Driver.{RunWithStorePost, joint_completion};
 ghost use Rattle.ptrun.specs.Private.Driver.{FinishPost, EndRunPost, HasIndexBelow, result_message, result_status};
-ghost use Rattle.ptrun.specs.Joint.{joint_spec};
-ghost use Rattle.ptrun.specs.Operands.{positions, sequential_spec};
+ghost use Rattle.ptrun.specs.Private.Driver.{spec_in_turn, spec_together};
+ghost use Rattle.ptrun.specs.Operands.{positions};
 ghost use Rattle.ptrun.specs.Calls.Runs.{RunPre};
 ghost use Rattle.ptrun.specs.Runs.{sinks, outcome};
 ghost use Rattle.ptrun.specs.MessageWrites.{HasSaid};
@@ -52,11 +52,9 @@ where
     R: Source,
     W: Sink,
     E: Sink,
-    requires given { InputsPre (sequential_spec (T.word tool.now) (T.tool tool.now)
-        (words_view operands.now.names.items) (positions operands.now.order.items)) inputs.old }
+    requires given { InputsPre (spec_in_turn (T.word tool.now) (T.tool tool.now) operands.now) inputs.old }
     requires unused { RunPre store.old (sinks (W.state out) messages) }
-    ensures { RunWithStorePost (sequential_spec (T.word tool.now) (T.tool tool.now)
-        (words_view operands.now.names.items) (positions operands.now.order.items))
+    ensures { RunWithStorePost (spec_in_turn (T.word tool.now) (T.tool tool.now) operands.now)
         inputs.old inputs.new (sinks (W.state out) messages) (outcome W.state E.state result) store.old store.new }
 {
     let names: &[&str] = &operands.names;
@@ -82,10 +80,9 @@ where
     R: Source,
     W: Sink,
     E: Sink,
-    requires { RunInputsPre (sequential_spec (T.word tool.now) (T.tool tool.now)
-        (words_view operands.now.names.items) (positions operands.now.order.items)) inputs.old out.old store.old }
-    ensures { RunInputsPost (sequential_spec (T.word tool.now) (T.tool tool.now)
-        (words_view operands.now.names.items) (positions operands.now.order.items))
+    requires { RunInputsPre (spec_in_turn (T.word tool.now) (T.tool tool.now) operands.now)
+        inputs.old out.old store.old }
+    ensures { RunInputsPost (spec_in_turn (T.word tool.now) (T.tool tool.now) operands.now)
         inputs.old inputs.new out.old out.new messages.old messages.new store.old store.new result }
 {
     let order: &[Input] = &operands.order;
@@ -124,11 +121,9 @@ where
     R: Source,
     W: Sink,
     E: Sink,
-    requires given { InputsPre (joint_spec (T.word tool.now) (T.tool tool.now)
-        (words_view operands.now.names.items) (positions operands.now.order.items)) inputs.old }
+    requires given { InputsPre (spec_together (T.word tool.now) (T.tool tool.now) operands.now) inputs.old }
     requires unused { RunPre store.old (sinks (W.state out) messages) }
-    ensures { RunWithStorePost (joint_spec (T.word tool.now) (T.tool tool.now)
-        (words_view operands.now.names.items) (positions operands.now.order.items))
+    ensures { RunWithStorePost (spec_together (T.word tool.now) (T.tool tool.now) operands.now)
         inputs.old inputs.new (sinks (W.state out) messages) (outcome W.state E.state result) store.old store.new }
 {
     let order: &[Input] = &operands.order;

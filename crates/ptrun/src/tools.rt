@@ -29,29 +29,29 @@ pub(crate) fn run_command<
     E: Sink,
 >(
     store: &mut Store<A>,
-    command: Command<'_, B>,
+    command: &Command<'_, B>,
     inputs: &mut [LineReader<S, R>],
     out: W,
     messages: Messages<E>,
 ) -> Report<W, E>
-    requires given { InputsPre (command_spec (command_view command)) inputs.old }
+    requires given { InputsPre (command_spec (command_view command.now)) inputs.old }
     requires unused { RunPre store.old (sinks (W.state out) messages) }
-    ensures { RunWithStorePost (command_spec (command_view command.entry)) inputs.old inputs.new
+    ensures { RunWithStorePost (command_spec (command_view command.now)) inputs.old inputs.new
         (sinks (W.state out) messages) (outcome W.state E.state result) store.old store.new }
 {
     match command {
-        Command::Cut(job, operands) => run_in_turn(store, &job, &operands, inputs, out, messages),
+        Command::Cut(job, operands) => run_in_turn(store, job, operands, inputs, out, messages),
         Command::Paste(job, operands) => {
             if job.serial {
-                run_in_turn(store, &job, &operands, inputs, out, messages)
+                run_in_turn(store, job, operands, inputs, out, messages)
             } else {
-                run_together(store, &job, &operands, inputs, out, messages)
+                run_together(store, job, operands, inputs, out, messages)
             }
         }
-        Command::Tr(plan, operands) => run_in_turn(store, &plan, &operands, inputs, out, messages),
-        Command::Uniq(job, operands) => run_together(store, &job, &operands, inputs, out, messages),
-        Command::Comm(job, operands) => run_together(store, &job, &operands, inputs, out, messages),
-        Command::Join(job, operands) => run_together(store, &job, &operands, inputs, out, messages),
+        Command::Tr(plan, operands) => run_in_turn(store, plan, operands, inputs, out, messages),
+        Command::Uniq(job, operands) => run_together(store, job, operands, inputs, out, messages),
+        Command::Comm(job, operands) => run_together(store, job, operands, inputs, out, messages),
+        Command::Join(job, operands) => run_together(store, job, operands, inputs, out, messages),
     }
 }
 

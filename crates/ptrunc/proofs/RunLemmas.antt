@@ -3,7 +3,7 @@
 -- answer. At the end, that the run returned the sinks that fill the rooms of the output and of the messages.
 use Rattle.std.proofs.Common.{◌≡◌, ◌⊎◌, ◌<◌, ◌≤◌, ◌^◌, ℕ, zero, suc, Bool, true, false, List, [], ◌∷◌, ◌++◌, Option}
 use Rattle.std.proofs.Common.{Some, None, All, ap, sym, ◌∙◌, refl, arith, inl, inr, length, map, subst}
-use Rattle.std.proofs.Common.{append_assoc, codes, take, length-append, option_map, ⊎_elim, ◌||◌, if◌then◌else◌}
+use Rattle.std.proofs.Common.{append_assoc, codes, take, length-append, option_map, ⊎_elim}
 use Rattle.std.proofs.lemmas.Bool.{true≢false, false≢true}
 use Rattle.std.proofs.lemmas.List.{append-nil, get_or_past}
 use Rattle.std.specs.Io.KnownBytes.{prepend_known, append_known, IsAtEnd}
@@ -461,16 +461,6 @@ module _ {A : Type 0} (words : List (List ℕ)) (w : InputBytes) (out final mess
           absurd (omega (arith, told.1 (inl (omega (arith, some))), four))
       by_lacking zero none (suc k) messages_some four =
           absurd (omega (arith, told.1 (inr (omega (arith, messages_some))), four))
-
--- The exit status of a run, unless memory ran out.
-pub exit_is : (status : ℕ) (out_of_memory denied failed messages_failed : Bool)
-    → ExitPost status out_of_memory denied failed messages_failed
-    (if ((out_of_memory || denied) || failed) || messages_failed then None else Some status)
-exit_is status true denied failed messages_failed = inl refl
-exit_is status false true failed messages_failed = inr (inl refl)
-exit_is status false false true messages_failed = inr (inr (inl refl))
-exit_is status false false false true = inr (inr (inr refl))
-exit_is status false false false false = (refl, refl, refl, refl, refl)
 
 -- The run, and what was appended to its output, as an answer.
 pub answer_of_run : {A : Type 0} (words : List (List ℕ)) (input : List ℕ) (files : InputBytes) → length input < 2 ^ 63

@@ -3,6 +3,7 @@
 ghost use Rattle.std.specs.Prelude.{◌≡◌, ◌⊎◌, false, None};
 ghost use Rattle.ptopts.specs.Commands.{words_view};
 ghost use Rattle.ptrunc.specs.Inputs.{files_view, inputs_for};
+ghost use Rattle.ptrunc.specs.Private.Answers.{ExitPost};
 ghost use Rattle.ptrunc.specs.Private.Rooms.{AppendPost};
 ghost use Rattle.ptrunc.specs.Results.{IsRunInMemory};
 
@@ -11,6 +12,7 @@ use crate::files::MemoryFiles;
 use crate::memory::{Filling, Kept, Room};
 use ptfiles::{Bytes, FilesReport, Streams, run_over_files};
 use ptlines::write_out;
+use ptrun::Report;
 use std::alloc::Allocator;
 use std::mem;
 
@@ -61,20 +63,32 @@ fn run_into<'a, A: Allocator + Copy + Drop>(
         messages: Filling::new(mem::replace(messages, Room::new(&mut []))),
     };
     let FilesReport {
-        report,
+        mut report,
         file,
         out_of_memory,
     } = run_over_files(alloc, &mut memory, words, streams);
-    let mut to_out = report.out;
-    let to_messages = report.messages;
-    let out_failed = append_file(&mut to_out, file);
-    // A write fails only for want of memory, or if what has no room is too much to be counted.
-    let ran_out = out_of_memory | report.denied | out_failed | to_messages.rest.failed;
-    let exit = if ran_out { None } else { Some(report.status) };
-    let answer = Answer::new(exit, to_out.part(), to_messages.part());
-    let _empty = mem::replace(out, to_out.into_room());
-    let _empty = mem::replace(messages, to_messages.into_room());
+    let out_failed = append_file(&mut report.out, file);
+    let exit = exit_of(&report, out_of_memory, out_failed);
+    let answer = Answer::new(exit, report.out.part(), report.messages.part());
+    let _empty = mem::replace(out, report.out.into_room());
+    let _empty = mem::replace(messages, report.messages.into_room());
     answer
+}
+
+// Returns the exit status of a run, or `None` if memory ran out before it, in it, or in a write: a write fails only for
+// want of memory, or if what has no room is too much to be counted.
+fn exit_of(
+    report: &Report<Filling<'_>, Filling<'_>>,
+    out_of_memory: bool,
+    out_failed: bool,
+) -> Option<u8>
+    ensures { ExitPost report.now.status out_of_memory report.now.denied out_failed report.now.messages.rest.failed
+        result }
+{
+    if out_of_memory || report.denied || out_failed || report.messages.rest.failed {
+        return None;
+    }
+    Some(report.status)
 }
 
 // Appends the file that was created for the output, if there is one. Returns whether a write of the output has failed.

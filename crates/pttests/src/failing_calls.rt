@@ -1,4 +1,5 @@
-//! Each read, each write, the flush and each allocation of a run fail in turn, for `tr -cs` and for `join` with `-o`.
+//! Each read, each write and the flush of a run fail in turn, for `tr -cs` and for `join` with `-o`; and each allocation,
+//! for `tr -cs`. Those of `join` are in `join`.
 
 use crate::asserts::{assert_for, assert_same_for};
 use crate::harness::Input::{Failing, Text};

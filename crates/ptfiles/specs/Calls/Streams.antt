@@ -69,8 +69,8 @@ IsNotRun words status old new =
 abbrev pub GivenStreamsPost : {W : Type 0} → (W → SinkState) → List ℕ → (ℕ → Option (List ℕ)) → (ℕ → SinkState)
     → List ℕ → GivenRun W → Type 0 → Type 0
 GivenStreamsPost of words content output opened (Ran ran) Failing = IsUtf8 words
-    × RunStreamsPost of (lines 0 words) content output opened ran.status (created_state of ran.run.file)
-    ran.run.out_of_memory (outcome of of ran.run.report) ran.run.report.out Failing
+    × RunStreamsPost of (lines 0 words) content output opened ran.status (created_state of ran.files.file)
+    ran.files.out_of_memory (outcome of of ran.files.report) ran.files.report.out Failing
 GivenStreamsPost of words content output opened (Refused status said) Failing =
     IsNotRun words status (output 2) (of said)
 

@@ -1,4 +1,5 @@
--- The contracts between a tool and the driver that runs it: the conditions before and after each of the driver's steps.
+-- The contracts between a tool and the driver that runs it: the conditions before and after each of the driver's steps,
+-- and the specification of a tool over its operands.
 use Rattle.std.specs.Prelude.{◌≡◌, ℕ, ◌+◌, ◌<◌, ◌≤◌, Bool, true, false, List, [], All}
 use Rattle.std.specs.Prelude.{None, Option, Some, Result, Ok, Err, length, max}
 use Rattle.std.specs.List.{list_any}
@@ -17,13 +18,16 @@ use Rattle.ptlines.specs.Slots.{Slots, total_bytes}
 use Rattle.ptmerge.specs.Calls.MergeCall.{merge_end}
 use Rattle.ptmerge.specs.declared.faults.MergeFault.{MergeFault}
 use Rattle.ptmerge.specs.declared.key_order.Side.{Side}
+use Rattle.ptopts.specs.Commands.{words_view}
+use Rattle.ptopts.specs.declared.inputs.Inputs.{Inputs}
 use Rattle.ptrun.specs.CommandSpec.{CommandSpec, IsUnfinished, ended_operands, operand_messages, unopened_messages}
 use Rattle.ptrun.specs.Files.{AreInputsConsistent, AreReadToEnd, HasReadFailed, HaveReceived, InputBytes}
 use Rattle.ptrun.specs.Files.{IsNewOrUnopened, ReceivedInputs, is_reader_unopened}
-use Rattle.ptrun.specs.Joint.{JointTool}
+use Rattle.ptrun.specs.Joint.{JointTool, joint_spec}
 use Rattle.ptrun.specs.Lag.{HasBoundedLag}
 use Rattle.ptrun.specs.MessageWrites.{HasSaid}
 use Rattle.ptrun.specs.Messages.{disorder_message, fault_message}
+use Rattle.ptrun.specs.Operands.{positions, sequential_spec}
 use Rattle.ptrun.specs.Private.Engines.{end_at, in_run}
 use Rattle.ptrun.specs.Private.Lag.{IsPushedUpToBlock}
 use Rattle.ptrun.specs.Runs.{HasCause, IsComplete, IsRunInStore, IsStoreUnchangedIfUnread, IsUnchangedIfUnread}
@@ -31,6 +35,18 @@ use Rattle.ptrun.specs.Runs.{Outcome, Sinks}
 use Rattle.ptrun.specs.declared.driver.Completion.{Completion}
 use Rattle.ptrun.specs.declared.driver.Completion.TheVariants.{AllWritten, Disordered, Unopened}
 use Rattle.ptrun.specs.declared.tool.Disorder.{Disorder}
+
+-- ---- the specification of a tool over the operands of the code
+
+-- That of a tool that reads one operand after another.
+abbrev pub spec_in_turn : {A : Type 0} → List ℕ → ToolSpec → Inputs A → CommandSpec
+spec_in_turn word t operands = sequential_spec word t (words_view operands.names.items) (positions operands.order.items)
+
+-- That of a tool that reads its operands together.
+abbrev pub spec_together : {A : Type 0} → List ℕ → JointTool → Inputs A → CommandSpec
+spec_together word t operands = joint_spec word t (words_view operands.names.items) (positions operands.order.items)
+
+-- ---- before a run
 
 -- The precondition on the inputs: none was read yet, each operand has a reader, each file has a name, and the tool
 -- accepts these operands; there are at most 512, if it reads them together.

@@ -7,8 +7,7 @@ use proofs.Common.{◌∙◌}
 use proofs.JointRuns.{joint_post, joint_pre, none_unopened, unopened_run}
 use proofs.OperandInputs.{position_in_range}
 use proofs.RunEnds.{stored}
-use specs.Joint.{joint_spec}
-use specs.Private.Driver.{JointPre, ReportUnopenedPost}
+use specs.Private.Driver.{JointPre, ReportUnopenedPost, spec_together}
 use proofs.driver.run_together.Given as given
 use Rattle.ptrun.proofs.driver.run_together.Goals.{After-report_unopened, After-completion_of, After-new-out}
 use proofs.driver.run_together.Goals as goal
@@ -33,9 +32,8 @@ ready g c =
 processed : (g : given.Over) (c : After-completion_of g)
     → JointPre (g.T.Joint.tool c.args.tool.now) (positions c.args.operands.now.order.items) c.args.inputs.now
     c.new-out.result c.args.store.now
-    → RunInputsPost (joint_spec (g.T.Joint.word c.args.tool.now) (g.T.Joint.tool c.args.tool.now)
-    (words_view c.args.operands.now.names.items) (positions c.args.operands.now.order.items))
-    c.args.inputs.now c.run_on_all-found.new.inputs c.new-out.result c.run_on_all-found.new.out
+    → RunInputsPost (spec_together (g.T.Joint.word c.args.tool.now) (g.T.Joint.tool c.args.tool.now)
+    c.args.operands.now) c.args.inputs.now c.run_on_all-found.new.inputs c.new-out.result c.run_on_all-found.new.out
     c.report_unopened.new.messages c.report_unopened.new.messages c.args.store.now c.run_on_all-found.new.store
     c.completion_of.result
 processed g c ready = rw c.completion_of.ensures

@@ -2,9 +2,8 @@
 -- that is. A created file is appended only to an output that has not failed.
 use Rattle.std.proofs.Common.{ap, refl, ◌∙◌}
 use Rattle.ptopts.specs.Commands.{words_view}
-use Rattle.ptrunc.proofs.RunLemmas.{answer_of_run, exit_is, file_leaves_out, same_messages, same_out}
+use Rattle.ptrunc.proofs.RunLemmas.{answer_of_run, file_leaves_out, same_messages, same_out}
 use Rattle.ptrunc.specs.Inputs.{files_view}
-use Rattle.ptrunc.proofs.running.run_into.Goals.{else-ran_out, then-ran_out}
 use Rattle.ptrunc.proofs.running.run_into.Goals as goal
 
 pub append_file-out_failed-requires : goal.append_file-out_failed-requires
@@ -31,7 +30,6 @@ pub returns-clause-run : goal.returns-clause-run
 returns-clause-run g c =
     let ran = c.run_over_files-report in
     let r = ran.result.report in
-    let exit = exit_is r.status ran.result.out_of_memory r.denied c.append_file-out_failed.result r.messages.rest.failed in
     rw (
       c.replace-empty.ensures.after,
       c.into_room.ensures,
@@ -44,10 +42,6 @@ returns-clause-run g c =
     (c.new-5.ensures.is_new (ap (λ r. r.written) c.replace-2.ensures.value ∙ c.requires.messages_are_empty))
     ran.result.file ran.new.files.creates.results ran.new.files.all_new
     c.new-memory.ensures c.new.ensures.all refl refl refl ran.ensures
-    c.append_file-out_failed.ensures c.if-ran_out.exit
-    (elim c.if-ran_out.branch [
-      | then-ran_out w ↦ rw w.exit-is (rw w.if-ran_out.true at exit)
-      | else-ran_out w ↦ rw w.exit-is (rw w.if-ran_out.false at exit)
-    ])
-    c.new-answer.result c.part.result c.part-2.result c.part.ensures c.part-2.ensures c.new-answer.ensures.parts.0 c.new-answer.ensures.parts.1
-    c.new-answer.ensures.status)
+    c.append_file-out_failed.ensures c.exit_of-exit.result c.exit_of-exit.ensures
+    c.new-answer.result c.part.result c.part-2.result c.part.ensures c.part-2.ensures c.new-answer.ensures.parts.0
+    c.new-answer.ensures.parts.1 c.new-answer.ensures.status)
