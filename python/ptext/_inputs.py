@@ -5,7 +5,7 @@ import contextlib
 import io
 import os
 from collections.abc import Iterable, Iterator, Mapping
-from typing import TYPE_CHECKING, Any, Protocol, Union
+from typing import TYPE_CHECKING, Any, Callable, Protocol, Union
 
 if TYPE_CHECKING:
     from typing_extensions import Buffer
@@ -70,10 +70,25 @@ def _count_bytes(what: str, count: Any) -> int:
     return int(count)
 
 
-def _fill_pieces(what: str, read_into: Any) -> Iterator[Buffer]:
+def find_read_into(given: Input) -> Callable[[memoryview], int | None] | None:
+    """The call by which a file of `io` fills a buffer, if it is one."""
+    if isinstance(given, io.RawIOBase):
+        return given.readinto
+    return given.readinto1 if isinstance(given, io.BufferedIOBase) else None
+
+
+def fill(what: str, read_into: Callable[[memoryview], int | None], room: memoryview) -> int:
+    """Has a file of `io` fill a buffer. Returns the number of bytes that it gave, which is 0 at its end."""
+    count = _count_bytes(what, read_into(room))
+    if not 0 <= count <= PIECE:
+        raise OSError(f"{what} gave {count} bytes, and there is room for {PIECE}")
+    return count
+
+
+def _fill_pieces(what: str, read_into: Callable[[memoryview], int | None]) -> Iterator[Buffer]:
     # (A piece is used until the next one is wanted, so all of them can lie in one buffer.)
     room = memoryview(bytearray(PIECE))
-    while count := _count_bytes(what, read_into(room)):
+    while count := fill(what, read_into, room):
         yield room[:count]
 
 
@@ -94,10 +109,8 @@ def list_pieces(what: str, given: Input) -> Iterator[Buffer]:
     if is_buffer(given):
         return iter((given,))  # type: ignore[arg-type]
     refuse_text(what, given)
-    if isinstance(given, io.RawIOBase):
-        return _fill_pieces(what, given.readinto)
-    if isinstance(given, io.BufferedIOBase):
-        return _fill_pieces(what, given.readinto1)
+    if read_into := find_read_into(given):
+        return _fill_pieces(what, read_into)
     if hasattr(given, "read"):
         return _read_pieces(what, given)
     if isinstance(given, Iterable):

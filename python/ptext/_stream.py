@@ -9,7 +9,17 @@ import threading
 from collections.abc import Iterable, Iterator, Mapping
 from typing import TYPE_CHECKING, Any, Callable, Protocol, TypeVar, overload
 
-from ._inputs import Input, check_files, is_read_once, list_pieces, open_path, refuse_text
+from ._inputs import (
+    PIECE,
+    Input,
+    check_files,
+    fill,
+    find_read_into,
+    is_read_once,
+    list_pieces,
+    open_path,
+    refuse_text,
+)
 from ._library import LIBRARY, check_status, encode_words, find_unknown, list_words, names
 
 if TYPE_CHECKING:
@@ -17,7 +27,6 @@ if TYPE_CHECKING:
 
 _Piece = TypeVar("_Piece")
 READ, WRITE, ENDED = 1, 2, 3
-FAILED = ctypes.c_size_t(-1).value
 INPUT, OUTPUT, FIRST_FILE = 0, 1, 3
 # The most bytes that a step is given: between two steps, Python sees to Ctrl-C.
 MOST = 1 << 20
@@ -78,24 +87,59 @@ class _PyBuffer(ctypes.Structure):
     ]
 
 
-class _Pinned:
-    """The bytes of a buffer, which stay where they are until `release`."""
+class _Source(Protocol):
+    """An input, as its steps take it."""
 
-    def __init__(self, piece: Buffer) -> None:
-        if not isinstance(piece, bytes) and not memoryview(piece).c_contiguous:
-            piece = memoryview(piece).tobytes()
-        self._buffer = _PyBuffer()
-        ctypes.pythonapi.PyObject_GetBuffer(ctypes.py_object(piece), ctypes.byref(self._buffer), 0)
-        self._taken = 0
+    def take(self) -> tuple[int | None, int]:
+        """The address and the number of the next bytes, which stay there until the next call. At the end there are 0."""
 
-    def take(self) -> tuple[int, int]:
-        """The address and the number of the next bytes, which is 0 if all were taken."""
+
+class _Pieces:
+    """An input that comes in buffers, until `release`."""
+
+    def __init__(self, pieces: Iterator[Buffer]) -> None:
+        self._pieces, self._buffer, self._taken = pieces, _PyBuffer(), 0
+
+    def take(self) -> tuple[int | None, int]:
+        while self._taken == self._buffer.len:
+            self.release()
+            piece = next(self._pieces, None)
+            if piece is None:
+                return None, 0
+            self._hold(piece)
         begin, count = self._taken, min(self._buffer.len - self._taken, MOST)
         self._taken += count
-        return (self._buffer.buf or 0) + begin, count
+        return self._buffer.buf + begin, count
+
+    def _hold(self, piece: Buffer) -> None:
+        if not isinstance(piece, bytes) and not memoryview(piece).c_contiguous:
+            piece = memoryview(piece).tobytes()
+        ctypes.pythonapi.PyObject_GetBuffer(ctypes.py_object(piece), ctypes.byref(self._buffer), 0)
 
     def release(self) -> None:
+        """Lets go of the buffer that is held, if there is one."""
         ctypes.pythonapi.PyBuffer_Release(ctypes.byref(self._buffer))
+        self._buffer.len = self._taken = 0
+
+
+class _Filled:
+    """An input that is read into one buffer, which is there from the first read to the end."""
+
+    _room: memoryview | None = None
+    _first: ctypes.c_char | None = None
+
+    def __init__(self, what: str, read_into: Callable[[memoryview], int | None]) -> None:
+        self._what, self._read_into = what, read_into
+
+    def take(self) -> tuple[int | None, int]:
+        if self._room is None or self._first is None:
+            buffer = bytearray(PIECE)
+            self._room, self._first = memoryview(buffer), ctypes.c_char.from_buffer(buffer)
+        count = fill(self._what, self._read_into, self._room)
+        if not count:
+            self._room = self._first = None
+            return None, 0
+        return ctypes.addressof(self._first), count
 
 
 class Stream(Iterator[bytes]):
@@ -112,10 +156,9 @@ class Stream(Iterator[bytes]):
         encoded, read = encode_words(words), names(words)[0]
         self._unknown = find_unknown(read, files)
         self._step, self._lock, self._messages = _Step(), threading.Lock(), bytearray()
-        self._pinned: dict[int, _Pinned] = {}
         self._stack = contextlib.ExitStack()
         try:
-            self._pieces = {INPUT: list_pieces("stdin", open_path(stdin, self._stack))}
+            self._sources = {INPUT: self._open("stdin", stdin)}
             taken = [stdin]
             for number, name in enumerate(read, FIRST_FILE):
                 given = files.get(name)
@@ -124,8 +167,8 @@ class Stream(Iterator[bytes]):
                 if is_read_once(given) and any(given is one for one in taken):
                     raise ValueError(f"what `files` has for {name} is an input twice, and can be read only once")
                 taken.append(given)
-                self._pieces[number] = list_pieces(f"files[{name!r}]", open_path(given, self._stack))
-            opened = bytes(number in self._pieces for number in range(FIRST_FILE, FIRST_FILE + len(read)))
+                self._sources[number] = self._open(f"files[{name!r}]", given)
+            opened = bytes(number in self._sources for number in range(FIRST_FILE, FIRST_FILE + len(read)))
             options = _Options(opened, len(opened), memory or 0, None)
             self._run = _OPEN(encoded, len(encoded), options)
             if not self._run:
@@ -133,6 +176,14 @@ class Stream(Iterator[bytes]):
         except BaseException:
             self.close()
             raise
+
+    def _open(self, what: str, given: Input) -> _Source:
+        given = open_path(given, self._stack)
+        if read_into := find_read_into(given):
+            return _Filled(what, read_into)
+        pieces = _Pieces(list_pieces(what, given))
+        self._stack.callback(pieces.release)
+        return pieces
 
     def __next__(self) -> bytes:
         piece = self._next(ctypes.string_at)
@@ -148,7 +199,7 @@ class Stream(Iterator[bytes]):
             while self._run:
                 wants = _NEXT(self._run, self._step)
                 if wants == READ:
-                    self._give()
+                    self._step.bytes, self._step.size = self._sources[self._step.stream].take()
                 elif wants == ENDED:
                     self._free()
                     check_status(self._step.status, bytes(self._messages), b"", self._unknown)
@@ -172,32 +223,11 @@ class Stream(Iterator[bytes]):
         while (piece := self._next(take)) is not None:
             write_all(out, piece)
 
-    def _give(self) -> None:
-        """Gives the next bytes of the input that is wanted, or its end."""
-        number = self._step.stream
-        while True:
-            if number in self._pinned:
-                self._step.bytes, self._step.size = self._pinned[number].take()
-                if self._step.size:
-                    return
-                self._release(number)
-            piece = next(self._pieces[number], None)
-            if piece is None:
-                self._step.bytes, self._step.size = None, 0
-                return
-            self._pinned[number] = _Pinned(piece)
-
-    def _release(self, number: int) -> None:
-        if number in self._pinned:
-            self._pinned.pop(number).release()
-
     def _free(self) -> None:
         run, self._run = self._run, None
         if run:
             _CLOSE(run)
-        for number in list(self._pinned):
-            self._release(number)
-        self._pieces = {}
+        self._sources = {}
         self._stack.close()
 
     def close(self) -> None:

@@ -239,6 +239,30 @@ class Streams(unittest.TestCase):
         with self.assertRaises(OSError), open("/dev/full", "wb", buffering=0) as full:
             ptext.stream(["cut", "-b", "1"], stdin=b"ab\n", out=full)
 
+    def test_a_file_without_bytes_yet_has_not_ended(self):
+        begin, end = os.pipe()
+        os.set_blocking(begin, False)
+        for buffering in (0, -1):
+            with open(begin, "rb", buffering, closefd=False) as file:
+                os.write(end, b"ab\n")
+                with ptext.stream(["cut", "-b", "1"], stdin=file) as output:
+                    self.assertEqual(next(output), b"a\n")
+                    self.assertRaisesRegex(BlockingIOError, "stdin has no bytes yet", next, output)
+                self.assertRaisesRegex(BlockingIOError, "stdin has no bytes yet", ptext.cut, "-b1", stdin=file)
+        os.close(begin)
+        os.close(end)
+
+    def test_a_file_that_says_that_it_gave_more_than_there_was_room_for(self):
+        class Wrong(io.RawIOBase):
+            def readinto(self, room):
+                return len(room) + self.beyond
+
+        for beyond in (64, 1 << 40, -(1 << 20)):
+            file = Wrong()
+            file.beyond = beyond
+            with self.assertRaisesRegex(OSError, "stdin gave -?[0-9]+ bytes"):
+                ptext.stream(["tr", "a", "b"], stdin=file, out=io.BytesIO())
+
     def test_what_can_be_read_once_is_named_once(self):
         once = io.BytesIO(b"a\n")
         for words, stdin, files in [
