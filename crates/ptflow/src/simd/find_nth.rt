@@ -152,7 +152,7 @@ impl<'a> ByteMatches<'a> {
         if window.end >= to {
             return MatchWindow::past(to);
         }
-        window.move_far(self.byte, self.bytes, to, before)
+        window.after_far_nth(self.byte, self.bytes, to, before)
     }
 }
 
@@ -192,7 +192,7 @@ impl MatchWindow {
     }
 
     // Like `ByteMatches::after_nth`, for a match that is not in the window. The windows after it are searched in turn.
-    fn move_far(self, byte: u8, bytes: &[u8], to: usize, before: u64) -> MatchWindow
+    fn after_far_nth(self, byte: u8, bytes: &[u8], to: usize, before: u64) -> MatchWindow
         requires within { (self.at ≤ to) × (to ≤ length bytes.now) }
         requires window { IsMatchWindow (is_byte byte) bytes.now self }
         requires far { count_ones self.mask ≤ before }

@@ -125,7 +125,7 @@ impl<'a> Translation<'a> {
 /// A translation, the last byte of its output so far, and a buffer for the output of each pass.
 #[derive(Drop)]
 struct Translator<'a> {
-    passes: Translation<'a>,
+    translation: Translation<'a>,
     last: Option<u8>,
     kept: PaddedBlock,
     mapped: PaddedBlock,
@@ -137,16 +137,18 @@ impl<'a> BlockFilter for Translator<'a> {
     ghost use Rattle.ptlangs.specs.TrTables.{byte_map_of};
     ghost use Rattle.ptflow.specs.Private.Tr.TrFrom.{tr_from};
 
-    ghost rest = { λ t. tr_from (byte_map_of t.passes.plan.now) t.last };
+    ghost rest = { λ t. tr_from (byte_map_of t.translation.plan.now) t.last };
 
     ghost counted = { λ t. 0 };
 
-    ghost IsUnchanged = { λ s t. t.passes.plan.now ≡ s.passes.plan.now };
+    ghost IsUnchanged = { λ s t. t.translation.plan.now ≡ s.translation.plan.now };
 
     fn process_block<W: Sink>(&mut self, block: &[u8], out: &mut Out<W>) -> Result<(), WriteFault> {
-        let kept = self.passes.kept(block, &mut self.kept);
-        let mapped = self.passes.mapped(kept, &mut self.mapped);
-        let written = self.passes.squeezed(self.last, mapped, &mut self.squeezed);
+        let kept = self.translation.kept(block, &mut self.kept);
+        let mapped = self.translation.mapped(kept, &mut self.mapped);
+        let written = self
+            .translation
+            .squeezed(self.last, mapped, &mut self.squeezed);
         out.push(written)?;
         self.last = written.last().copied().or(self.last);
         Ok(())
@@ -179,7 +181,7 @@ pub fn tr<S: Source, R: Source, W: Sink>(
         return Err(FlowFault::Write);
     }
     let mut tool = Translator {
-        passes: Translation::new(plan),
+        translation: Translation::new(plan),
         last: None,
         kept: [0; PADDED],
         mapped: [0; PADDED],

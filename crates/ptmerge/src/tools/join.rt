@@ -73,12 +73,18 @@ fn write_pair_entries<K: KeyOrder, A: Allocator + Copy, B: Allocator, W: Sink>(
     }
     let key = merge.key(First, store);
     let one = merge.head(First, store);
-    let begins = is_unchanged(job, First, one);
+    let one_unchanged = is_unchanged(job, First, one);
     let slots = group.lines.slots(merge);
     for slot in slots.start..slots.end {
         let two = store.line(slot);
-        let pair = Pair { key, one, two };
-        write_pair(job, pair, begins, group.unchanged, terminator, out)?;
+        let pair = Pair {
+            key,
+            one,
+            two,
+            one_unchanged,
+            two_unchanged: group.unchanged,
+        };
+        write_pair(job, pair, terminator, out)?;
     }
     Ok(())
 }

@@ -286,29 +286,29 @@ pub(crate) struct Pair<'a> {
     pub key: &'a [u8],
     pub one: &'a [u8],
     pub two: &'a [u8],
+    // Whether the fields of a line are known to be written as they are in it.
+    pub one_unchanged: bool,
+    pub two_unchanged: bool,
 }
 
-// Writes the output line of a pair, and its terminator. If both lines are canonical, they are not split: the first line
-// is written, and after it the second one without its join field. `begins` is true if the first line is, and `ends` if
-// the second one is known to be.
+// Writes the output line of a pair, and its terminator. If both lines are written as they are, they are not split: the
+// first line is written, and after it the second one without its join field.
 #[inline(always)]
 pub(crate) fn write_pair<'a, A: Allocator, W: Sink>(
     job: &'a JoinJob<A>,
     pair: Pair<'a>,
-    begins: bool,
-    ends: bool,
     terminator: u8,
     out: &mut Out<W>,
 ) -> Result<(), WriteFault>
     requires one { join_key (join_job job.now) First pair.one.now ≡ pair.key.now }
-    requires begins { begins ≡ true → IsUnchanged (join_job job.now) First pair.one.now }
+    requires begins { pair.one_unchanged ≡ true → IsUnchanged (join_job job.now) First pair.one.now }
     requires two { join_key (join_job job.now) Second pair.two.now ≡ pair.key.now }
-    requires ends { ends ≡ true → IsUnchanged (join_job job.now) Second pair.two.now }
+    requires ends { pair.two_unchanged ≡ true → IsUnchanged (join_job job.now) Second pair.two.now }
     ensures { let fields = join_fields (join_job job.now).separator in
         let bytes = entry (join_job job.now) pair.entry.key.now (fields pair.entry.one.now) (fields pair.entry.two.now) in
         PushPost out.old out.new (bytes ++ terminator ∷ []) result }
 {
-    if begins && (ends || is_canonical(job.sep, job.field[1], pair.two)) {
+    if pair.one_unchanged && (pair.two_unchanged || is_canonical(job.sep, job.field[1], pair.two)) {
         return out.push_line(pair.one, &pair.two[pair.key.len()..], &[terminator]);
     }
     let entry = Entry {
@@ -360,8 +360,14 @@ impl<'a, A: Allocator> MergeWriter for &'a JoinJob<A> {
         if !self.pairs {
             return Ok(());
         }
-        let begins = is_unchanged(self, Side::First, one);
-        write_pair(self, Pair { key, one, two }, begins, false, terminator, out)
+        let pair = Pair {
+            key,
+            one,
+            two,
+            one_unchanged: is_unchanged(self, Side::First, one),
+            two_unchanged: false,
+        };
+        write_pair(self, pair, terminator, out)
     }
 }
 

@@ -1,5 +1,5 @@
--- Nothing is read if an operand could not be opened. Otherwise the inputs are processed, and the end of the run follows
--- from the result.
+-- Nothing is read if an operand could not be opened. Otherwise the inputs meet what the call that processes them
+-- requires, and the end of the run follows from its result.
 use Rattle.ptrun.proofs
 use Rattle.ptrun.specs
 use proofs.Common.{Output, RunInputsPost, ap, arith, false≢true, length-map, outcome, positions, sym, usual, words_view}

@@ -1,4 +1,4 @@
--- The constraints so far are met.
+-- The constraints so far are met: the fault of all constraints is the first fault of those that are left.
 use Rattle.ptopts.proofs
 use proofs.Common.{constraint_fault, constraints_fault, drop, first_some, map, options_of, ◌≡◌}
 use proofs.parsing.ParsedArgs.check_constraints.Given as goal

@@ -14,7 +14,7 @@ returns-in_err-push-clause-halts g c =
       pushed = _;
       wrote = c.push.ensures.pushed.wrote;
       fault = c.in_err-push.ensures.pushed.fault;
-      is_prefix = λ rest. (grind (arith, (front_on (byte_map_of t.passes.plan.now))));
+      is_prefix = λ rest. (grind (arith, (front_on (byte_map_of t.translation.plan.now))));
     })
 
 pub returns-clause-continues : goal.returns-clause-continues

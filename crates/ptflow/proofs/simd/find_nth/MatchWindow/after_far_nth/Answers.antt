@@ -1,11 +1,11 @@
--- Answers for `MatchWindow::move_far`: a window with too few matches is skipped, and otherwise a bit of its mask is the
--- match.
+-- Answers for `MatchWindow::after_far_nth`: a window with too few matches is skipped, and otherwise a bit of its mask
+-- is the match.
 use Rattle.ptflow.proofs
 use proofs.Common.{◌+◌, arith, usual, ones-mask_l, is_byte}
 use proofs.Vectors.FindNth.{count_chunk, full_window, window_counted, nth_in_window, window_inside, after_in_window}
 use Rattle.ptflow.specs.Private.Vectors.FindNth.{IsMatchWindow}
-use proofs.simd.find_nth.MatchWindow.move_far.Goals as goal
-use Rattle.ptflow.proofs.simd.find_nth.MatchWindow.move_far.Goals.{After-nth_bit}
+use proofs.simd.find_nth.MatchWindow.after_far_nth.Goals as goal
+use Rattle.ptflow.proofs.simd.find_nth.MatchWindow.after_far_nth.Goals.{After-nth_bit}
 
 window : (c : After-nth_bit) → IsMatchWindow (is_byte c.args.byte) c.args.bytes.now
     (record { at = c.loop-at.at; mask = c.match_mask-mask.result; end = c.loop-at.at + 64 })

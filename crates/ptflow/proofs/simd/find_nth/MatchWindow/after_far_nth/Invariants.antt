@@ -1,8 +1,8 @@
--- The loop of `MatchWindow::move_far`: the matches passed since the start and those that are still to be skipped are
--- together those that were to be skipped. The bytes that are left become fewer.
+-- The loop of `MatchWindow::after_far_nth`: the matches passed since the start and those that are still to be skipped
+-- are together those that were to be skipped. The bytes that are left become fewer.
 use Rattle.ptflow.proofs
 use proofs.Common.{◌≡◌, ◌≤◌, ◌+◌, ◌-◌, length, take, count_by, is_byte}
-use proofs.simd.find_nth.MatchWindow.move_far.Given as goal
+use proofs.simd.find_nth.MatchWindow.after_far_nth.Given as goal
 
 abbrev pub invariant-loop-at : goal.invariant-loop-at
 invariant-loop-at l = record {
