@@ -4,6 +4,7 @@
 -- of the first input's lines. Each reads a line, so the reads that are left decrease.
 pub mod Group
 pub mod Fields
+pub mod FieldMasks
 use Rattle.ptmerge.proofs
 use Rattle.ptmerge.specs
 use proofs.Common.{cond, Err, flat_map-append, Cmp, MergeFault, IsReadyToContinue, AdvanceOkPost, MergePost}

@@ -30,7 +30,7 @@ pub(crate) fn masks_in<const N: usize>(first: u8, second: u8, bytes: &[u8], at: 
 
 // Returns the masks of two bytes among N to 2 * N bytes, from two vectors that may overlap.
 #[inline(always)]
-#[tactic(auto, using(crate::proofs::JoinLemmas::Fields::ends_mask))]
+#[tactic(auto, using(crate::proofs::JoinLemmas::FieldMasks::ends_mask))]
 fn masks_of_ends<const N: usize>(first: u8, second: u8, bytes: &[u8]) -> Masks
     requires few { N ≤ 32 }
     requires ends { IsCoveredByEnds N bytes.now }

@@ -25,7 +25,7 @@ pub(crate) fn separators_of(separator: u8, bytes: &[u8]) -> u64
 // Returns the span of the field with this number, counted from 1, in a line of fewer than 64 bytes, or `None` if there
 // is none. `mask` is that of its separators.
 #[inline(always)]
-#[tactic(auto, using(crate::proofs::JoinLemmas::Fields::separator_steps))]
+#[tactic(auto, using(crate::proofs::JoinLemmas::FieldMasks::separator_steps))]
 pub(crate) fn find_separated(separator: u8, number: u64, line: &[u8], mask: u64) -> Option<Span>
     requires short { length line.now < 64 }
     requires mask { mask ≡ mask_l (map (is_byte separator) line.now) }

@@ -22,7 +22,7 @@ pub(crate) struct Blanks {
 impl Blanks {
     // Returns the blanks of bytes with these masks of spaces and tabs.
     #[inline(always)]
-    #[tactic(auto, using(crate::proofs::JoinLemmas::Fields::blanks_are))]
+    #[tactic(auto, using(crate::proofs::JoinLemmas::FieldMasks::blanks_are))]
     fn of(masks: Masks) -> Blanks
         ensures { (bytes : List ℕ) → AreMasks 32 9 bytes masks → AreBlanks bytes result }
     {
@@ -67,7 +67,7 @@ fn find_blank_in<const N: usize>(bytes: &[u8], at: usize) -> Option<usize>
 
 // Returns the index of the first blank among at most 64 bytes.
 #[inline(always)]
-#[tactic(auto, using(crate::proofs::JoinLemmas::Fields::none_if_no_blank))]
+#[tactic(auto, using(crate::proofs::JoinLemmas::FieldMasks::none_if_no_blank))]
 fn find_blank_short(bytes: &[u8]) -> Option<usize>
     requires { length bytes.now ≤ 64 }
     ensures { IsFirstByte is_blank bytes.now result }
@@ -118,7 +118,7 @@ pub(crate) fn find_blank(bytes: &[u8]) -> Option<usize>
 
 // Checks that none of these blanks is a tab, or comes after a blank. `before` is 1 if a blank precedes the bytes.
 #[inline(always)]
-#[tactic(auto, using(crate::proofs::JoinLemmas::Fields::single_spaces_is))]
+#[tactic(auto, using(crate::proofs::JoinLemmas::FieldMasks::single_spaces_is))]
 fn are_single_spaces(blanks: Blanks, before: u64) -> bool
     requires { before ≤ 1 }
     ensures { (bytes : List ℕ) → length bytes ≤ 64 → AreBlanks bytes blanks
@@ -187,7 +187,7 @@ fn after_first_run(mask: u64) -> u64
 // Returns the span of the word with this number, counted from 1, in a line of fewer than 64 bytes with these blanks, or
 // `None` if there is none.
 #[inline(always)]
-#[tactic(auto, using(crate::proofs::JoinLemmas::Fields::word_steps))]
+#[tactic(auto, using(crate::proofs::JoinLemmas::FieldMasks::word_steps))]
 pub(crate) fn find_word(number: u64, line: &[u8], blanks: Blanks) -> Option<Span>
     requires short { length line.now < 64 }
     requires blanks { AreBlanks line.now blanks }

@@ -1,6 +1,6 @@
 -- A separator is passed, and the next field begins after it.
 use Rattle.ptmerge.proofs
-use proofs.JoinLemmas.Fields.{separator_passed}
+use proofs.JoinLemmas.FieldMasks.{separator_passed}
 use proofs.tools.join.separators.find_separated.Goals as goal
 
 pub loop-passed-preserved : goal.loop-passed-preserved

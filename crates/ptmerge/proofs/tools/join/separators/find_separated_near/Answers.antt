@@ -1,8 +1,8 @@
 -- A separator is passed, and the next field begins after it; without one the field ends the line.
 use Rattle.ptmerge.proofs
 use proofs.Common.{arith}
-use proofs.JoinLemmas.Fields.{separator_passed_long, separated_found_long, last_found_long}
-use proofs.JoinLemmas.Fields.{none_separated_long, tail_is}
+use proofs.JoinLemmas.FieldMasks.{separator_passed_long, separated_found_long, last_found_long}
+use proofs.JoinLemmas.FieldMasks.{none_separated_long, tail_is}
 use proofs.tools.join.separators.find_separated_near.Goals as goal
 
 pub returns-in_err-start : goal.returns-in_err-start

@@ -1,6 +1,6 @@
 -- The fields that were not passed are those of the bytes from the index `start` on.
 use Rattle.ptmerge.proofs
-use proofs.JoinLemmas.Fields.{FieldsFrom}
+use proofs.JoinLemmas.FieldMasks.{FieldsFrom}
 use proofs.tools.join.separators.find_separated_near.Given as goal
 
 abbrev pub invariant-loop-passed : goal.invariant-loop-passed

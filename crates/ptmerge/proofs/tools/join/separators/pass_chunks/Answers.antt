@@ -4,7 +4,7 @@ use Rattle.std.proofs.Common.{◌∙◌, ap, arith}
 use Rattle.std.specs.Int.RustNames.{count_ones}
 use Rattle.std.proofs.lemmas.Simd.{ones-mask_l}
 use Rattle.memchr.specs.Find.{is_byte}
-use proofs.JoinLemmas.Fields.{chunk_passed}
+use proofs.JoinLemmas.FieldMasks.{chunk_passed}
 use proofs.tools.join.separators.pass_chunks.Goals as goal
 
 pub loop-at-preserved : goal.loop-at-preserved

@@ -2,7 +2,7 @@
 -- than 2^63, as `after_first_run` requires.
 use Rattle.ptmerge.proofs
 use proofs.Common.{arith, rules}
-use proofs.JoinLemmas.Fields.{none_left, words_small}
+use proofs.JoinLemmas.FieldMasks.{none_left, words_small}
 use proofs.tools.join.words.find_word.Goals as goal
 
 pub returns-then-words-eq0 : goal.returns-then-words-eq0

@@ -3,7 +3,7 @@
 use Rattle.ptmerge.proofs
 use proofs.Common.{◌==◌, ◌∙◌, ◌+◌, ◌^◌, ◌≤◌, length, ap, arith, sym}
 use Rattle.std.proofs.Common.{◌/◌}
-use proofs.JoinLemmas.Fields.{bit_is, chunk_spaced, last_blank, top_bit}
+use proofs.JoinLemmas.FieldMasks.{bit_is, chunk_spaced, last_blank, top_bit}
 use Rattle.std.proofs.lemmas.Simd.{length-chunk}
 use Rattle.std.specs.Simd.Lanes.{chunk}
 use proofs.tools.join.words.is_single_spaced_long.Goals as goal
