@@ -40,6 +40,8 @@ function newWorker() {
         if (data.number === number) (data.part ? showPart : finish)(data.part ?? data);
     };
     made.onerror = () => {
+        // (The next run gets another one.)
+        worker = null;
         settle();
         say("Failed", "the worker of this page does not run");
     };
@@ -162,6 +164,7 @@ function run() {
     try {
         const all = commands(at("command").value);
         isRunning = true;
+        worker ??= newWorker();
         worker.postMessage({ number, commands: all, stdin: inputOf("stdin"), files });
         patience = setTimeout(() => {
             say("Running…", "");

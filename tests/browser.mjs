@@ -54,10 +54,10 @@ class Browser {
         return did.result.value;
     }
 
-    /** Waits until an expression is true. Returns whether it was, within the time. */
+    /** Waits until an expression is true. Returns whether it was, within about this time. (The clock goes on if a machine
+     * is stopped for a while: so turns are counted.) */
     async until(expression, seconds = 20) {
-        const end = Date.now() + 1000 * seconds;
-        while (Date.now() < end) {
+        for (let turn = 0; turn < 50 * seconds; turn++) {
             if (await this.value(expression).catch(() => false)) return true;
             await new Promise((after) => setTimeout(after, 20));
         }
@@ -180,17 +180,27 @@ async function large(browser) {
     is("a run after it", await browser.until(`(${RESULT}).out === "20000 k some more words\\n"`), true);
 }
 
+/** The size of the output of a long run that begins with this. If it does not come, what the page shows is said, and
+ * the run begins again. (In CI a browser has stalled once.) */
+async function sizeOf(browser, command, beginning) {
+    const size = `document.getElementById("size").textContent`;
+    for (const time of ["first", "second"]) {
+        await browser.type("command", command);
+        if (await browser.until(`${size}.startsWith(${JSON.stringify(beginning)})`, 120)) break;
+        const { status, messages } = await browser.value(RESULT);
+        console.log(`no end, the ${time} time: ${command}: ${await browser.value(size)}; ${status}; ${messages}`);
+    }
+    return browser.value(size);
+}
+
 /** A file is read in parts: neither it nor the output is in the memory of the page or of its worker. */
 async function huge(browser) {
-    const size = 10 ** 8, shows = `document.getElementById("size").textContent`;
     fs.writeFileSync(`${room}/huge`, "");
-    fs.truncateSync(`${room}/huge`, size);
-    await browser.type("command", "tr '\\0' x | cut -b 2");
+    fs.truncateSync(`${room}/huge`, 10 ** 8);
     await choose(browser, "stdin-open", "huge");
-    const wanted = "2 bytes";
-    is("a file of 100 MB", await browser.until(`${shows} === ${JSON.stringify(wanted)}`, 120), true);
-    await browser.type("command", "tr '\\0' '\\n' | tr -d x");
-    is("100 MB of output", await browser.until(`${shows}.startsWith("100,000,000 bytes, of which")`, 120), true);
+    is("a file of 100 MB", await sizeOf(browser, "tr '\\0' x | cut -b 2", "2 bytes"), "2 bytes");
+    is("100 MB of output", await sizeOf(browser, "tr '\\0' '\\n' | tr -d x", "100,000,000 bytes, of which"),
+        "100,000,000 bytes, of which the first 65,536 are shown");
     await browser.value(`document.getElementById("stdin-empty").click()`);
     fs.rmSync(`${room}/huge`);
 }
@@ -224,12 +234,14 @@ async function shared(browser) {
     is("the address stays", await browser.value("location.href"), linked);
 }
 
-/** A run at which the worker fails is told, and so is the one after it. */
+/** A run at which the worker fails is told, and so is the one after it. A worker that has ended is replaced. */
 async function failing(browser) {
     await browser.value(`{ const send = Worker.prototype.postMessage;
         Worker.prototype.postMessage = function (message, ...rest) {
-            const isRun = message.commands && message.commands[0][0] === "uniq";
-            return send.call(this, isRun ? { ...message, commands: [["uniq", 7]] } : message, ...rest);
+            const tool = message.commands?.[0][0];
+            if (tool === "comm") window.ended = this;
+            const wrong = { uniq: { ...message, commands: [["uniq", 7]] }, comm: null };
+            return send.call(this, tool in wrong ? wrong[tool] : message, ...rest);
         }; }`);
     await browser.type("command", "uniq");
     is("a run that fails", await browser.until(`(${RESULT}).status.startsWith("Failed")`), true);
@@ -238,6 +250,12 @@ async function failing(browser) {
     is("its result", await browser.value(RESULT), failed);
     await browser.type("command", "cut -q");
     is("a run after it", await browser.until(`(${RESULT}).status.startsWith("Status 2: ")`), true);
+    await browser.type("command", "comm");
+    const ends = "Failed: the worker of this page does not run";
+    is("a worker that fails", await browser.until(`(${RESULT}).status === "${ends}"`), true);
+    await browser.value("window.ended.terminate()");
+    await browser.type("command", "cut -q");
+    is("another worker", await browser.until(`(${RESULT}).status.startsWith("Status 2: ")`), true);
 }
 
 /** Chooses a file. */

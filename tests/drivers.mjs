@@ -23,9 +23,10 @@ function start(...words) {
 
 const pause = (time) => new Promise((after) => setTimeout(after, time));
 
-/** Calls a function until it gives something. */
+/** Calls a function until it gives something, for about this time. (If a machine is stopped for a while, its clock goes
+ * on: so turns are counted.) */
 async function until(call, seconds = 60) {
-    for (const end = Date.now() + 1000 * seconds; Date.now() < end; await pause(50)) {
+    for (let turn = 0; turn < 20 * seconds; turn++, await pause(50)) {
         const found = await Promise.resolve().then(call).catch(() => null);
         if (found) return found;
     }
