@@ -40,9 +40,12 @@ function newWorker() {
         if (data.number === number) (data.part ? showPart : finish)(data.part ?? data);
     };
     made.onerror = () => {
+        made.terminate();
+        if (made !== worker) return;
         // (The next run gets another one.)
         worker = null;
         settle();
+        show({});
         say("Failed", "the worker of this page does not run");
     };
     made.postMessage({ module: compiled });
@@ -163,8 +166,8 @@ function run() {
     at("same").textContent = isTaken ? "File 1 has this name, too: only file 2 is there." : "";
     try {
         const all = commands(at("command").value);
-        isRunning = true;
         worker ??= newWorker();
+        isRunning = true;
         worker.postMessage({ number, commands: all, stdin: inputOf("stdin"), files });
         patience = setTimeout(() => {
             say("Running…", "");

@@ -8,7 +8,7 @@ import { FIELDS, RESULT, byProgram, counts, is, numbered, room } from "./shown.m
 
 const [chromium, page, program, picture] = process.argv.slice(2);
 const address = pathToFileURL(path.resolve(page)).href;
-let browser = null;
+let browser = null, stalls = 0;
 
 /** A browser, to which messages go by a pipe, as the protocol of its developer tools has them. */
 class Browser {
@@ -189,6 +189,7 @@ async function sizeOf(browser, command, beginning) {
         if (await browser.until(`${size}.startsWith(${JSON.stringify(beginning)})`, 120)) break;
         const { status, messages } = await browser.value(RESULT);
         console.log(`no end, the ${time} time: ${command}: ${await browser.value(size)}; ${status}; ${messages}`);
+        stalls++;
     }
     return browser.value(size);
 }
@@ -234,12 +235,11 @@ async function shared(browser) {
     is("the address stays", await browser.value("location.href"), linked);
 }
 
-/** A run at which the worker fails is told, and so is the one after it. A worker that has ended is replaced. */
+/** A run at which the worker fails is told, and so is the one after it; and a worker with an error is replaced. */
 async function failing(browser) {
     await browser.value(`{ const send = Worker.prototype.postMessage;
         Worker.prototype.postMessage = function (message, ...rest) {
             const tool = message.commands?.[0][0];
-            if (tool === "comm") window.ended = this;
             const wrong = { uniq: { ...message, commands: [["uniq", 7]] }, comm: null };
             return send.call(this, tool in wrong ? wrong[tool] : message, ...rest);
         }; }`);
@@ -251,9 +251,9 @@ async function failing(browser) {
     await browser.type("command", "cut -q");
     is("a run after it", await browser.until(`(${RESULT}).status.startsWith("Status 2: ")`), true);
     await browser.type("command", "comm");
-    const ends = "Failed: the worker of this page does not run";
-    is("a worker that fails", await browser.until(`(${RESULT}).status === "${ends}"`), true);
-    await browser.value("window.ended.terminate()");
+    const gone = { status: "Failed: the worker of this page does not run", out: "", messages: "" };
+    is("a worker with an error", await browser.until(`(${RESULT}).status === "${gone.status}"`), true);
+    is("what is shown then", await browser.value(RESULT), gone);
     await browser.type("command", "cut -q");
     is("another worker", await browser.until(`(${RESULT}).status.startsWith("Status 2: ")`), true);
 }
@@ -380,7 +380,8 @@ async function main() {
     const lacks = await browser.value(`document.getElementById("lacks").textContent`);
     is("it says so", lacks.includes("64-bit addresses"), true);
     await browser.close();
-    console.log(`${counts.tests} tests in Chromium: ${counts.failed} failed`);
+    const stalled = stalls ? `, and ${stalls} runs stalled` : "";
+    console.log(`${counts.tests} tests in Chromium: ${counts.failed} failed${stalled}`);
 }
 
 /** Ends the browser and removes all files. */

@@ -46,17 +46,17 @@ if [ "$built" = "$PWD/build" ]; then
 fi
 chromium=$(command -v chromium || command -v chromium-browser || command -v google-chrome || true)
 if [ "$chromium" ]; then
-    in_time 1200 node tests/browser.mjs "$chromium" "$page" "$program"
+    in_time 1800 node tests/browser.mjs "$chromium" "$page" "$program"
 else
     left_out "the page in Chromium (it is not there)"
 fi
 if has firefox-esr; then
-    in_time 1200 node tests/drivers.mjs firefox "$page" "$program"
+    in_time 1800 node tests/drivers.mjs firefox "$page" "$program"
 else
     left_out "the page in Firefox (there is no firefox-esr)"
 fi
 if has WebKitWebDriver Xvfb; then
-    in_time 1200 node tests/drivers.mjs webkit "$page" "$program"
+    in_time 1800 node tests/drivers.mjs webkit "$page" "$program"
 else
     left_out "the page in WebKitGTK (there is no WebKitWebDriver, or no Xvfb)"
 fi
