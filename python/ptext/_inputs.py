@@ -80,8 +80,8 @@ def find_read_into(given: Input) -> Callable[[memoryview], int | None] | None:
 def fill(what: str, read_into: Callable[[memoryview], int | None], room: memoryview) -> int:
     """Has a file of `io` fill a buffer. Returns the number of bytes that it gave, which is 0 at its end."""
     count = _count_bytes(what, read_into(room))
-    if not 0 <= count <= PIECE:
-        raise OSError(f"{what} gave {count} bytes, and there is room for {PIECE}")
+    if not 0 <= count <= len(room):
+        raise OSError(f"{what} gave {count} bytes, and there is room for {len(room)}")
     return count
 
 
