@@ -58,8 +58,8 @@ pub record AreResumed (run : BlockRun) (cursor next : Side → Sorted) (was is :
   pub second : IsResumed run.second (cursor Second) (next Second) (was Second) (is Second) mid after
   pub result_is : result ≡ (if run.failed then Err Write else Ok tt)
 
--- The precondition of a merge of both blocks: each reader is that of its input, and has the terminator of the tool; and
--- no write has failed.
+-- The precondition of a merge of both blocks, for a tool that merges blocks: the cursors are valid, each reader is that
+-- of its input and has the terminator of the tool, and no write has failed.
 pub record BlocksPre (tool : MergeTool) (key : Side → Key) (one two : Sorted) (now : MergeState) : Type 0 where
   pub tool_is : IsBlockTool tool key
   pub valid_cursors : AreValidCursors key one two now.store

@@ -3,9 +3,8 @@
 //! its segments. A row that is only begun is moved to the front, and lines from slots are added to it. Used by
 //! `paste`.
 
-ghost use Rattle.std.specs.Prelude.{◌≡◌, ◌<◌, ◌≤◌, ◌+◌, ◌%◌, ◌++◌, false, length, take, List, option_to_list, IfNone};
+ghost use Rattle.std.specs.Prelude.{◌≡◌, ◌<◌, ◌≤◌, ◌+◌, ◌%◌, ◌++◌, false, length, take, List, IfNone};
 ghost use Rattle.std.specs.Prelude.{IfSome};
-ghost use Rattle.memchr.specs.Find.{IsFirstByte, is_byte};
 ghost use Rattle.ptlines.specs.Readers.{Reader};
 ghost use Rattle.ptlines.specs.Calls.Readers.{IsSound};
 ghost use Rattle.ptflow.specs.Private.Paste.RowCells.{after_cell, begun_after, begun_in, shape_of};

@@ -126,7 +126,7 @@ impl Group {
         FIRST_SLOT..self.end
     }
 
-    // Checks whether the fields of each line are written as they are in it, so that this is not done for each pair.
+    // Checks whether the fields of each line are written as they are in it. If so, no line is checked again for a pair.
     pub(crate) fn is_unchanged<K: KeyOrder, A: Allocator + Copy, B: Allocator>(
         self,
         merge: &Merge<K>,

@@ -55,14 +55,14 @@ pub(crate) fn find_separated(separator: u8, number: u64, line: &[u8], mask: u64)
 
 // An index in a line, and how many separators are to be passed after it.
 #[derive(Clone, Copy)]
-struct Passed {
+struct AfterChunks {
     at: usize,
     left: u64,
 }
 
 // Passes chunks of a line, each of which has fewer separators than are still to be passed.
 #[inline(always)]
-fn pass_chunks(separator: u8, count: u64, line: &[u8]) -> Passed
+fn pass_chunks(separator: u8, count: u64, line: &[u8]) -> AfterChunks
     ensures { AreSeparatorsPassed separator count line.now result.at result.left }
 {
     let mut at = 0;
@@ -71,18 +71,18 @@ fn pass_chunks(separator: u8, count: u64, line: &[u8]) -> Passed
         let mask = masks_in::<CHUNK>(separator, separator, line, at).first;
         let separators = u64::from(mask.count_ones());
         if separators >= left {
-            return Passed { at, left };
+            return AfterChunks { at, left };
         }
         left -= separators;
         at += CHUNK;
     }
-    Passed { at, left }
+    AfterChunks { at, left }
 }
 
 // Returns the span of the field with this number, counted from 1, or `None` if there is none, by a search for one
 // separator after another.
 #[inline(always)]
-fn find_separated_near(separator: u8, number: u64, line: &[u8]) -> Option<Span>
+fn find_separated_tail(separator: u8, number: u64, line: &[u8]) -> Option<Span>
     ensures { IsFieldFound (Some separator) number line.now result }
 {
     let mut start = 0;
@@ -101,7 +101,7 @@ pub(crate) fn find_separated_long(separator: u8, number: u64, line: &[u8]) -> Op
     ensures { IsFieldFound (Some separator) number line.now result }
 {
     let passed = pass_chunks(separator, number.saturating_sub(1), line);
-    let span = find_separated_near(separator, passed.left + 1, &line[passed.at..])?;
+    let span = find_separated_tail(separator, passed.left + 1, &line[passed.at..])?;
     Some(Span {
         start: passed.at + span.start,
         end: passed.at + span.end,

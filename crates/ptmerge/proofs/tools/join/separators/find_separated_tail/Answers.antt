@@ -3,7 +3,7 @@ use Rattle.ptmerge.proofs
 use proofs.Common.{arith}
 use proofs.JoinLemmas.FieldMasks.{separator_passed_long, separated_found_long, last_found_long}
 use proofs.JoinLemmas.FieldMasks.{none_separated_long, tail_is}
-use proofs.tools.join.separators.find_separated_near.Goals as goal
+use proofs.tools.join.separators.find_separated_tail.Goals as goal
 
 pub returns-in_err-start : goal.returns-in_err-start
 returns-in_err-start c =
