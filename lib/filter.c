@@ -15,14 +15,15 @@ int main(int count, char **words) {
     int *descriptors = malloc((room + PTEXT_FILE) * sizeof *descriptors);
     struct ptext_answer found;
     if (!joined || !names || !output || !opened || !descriptors)
-        return PTEXT_MEMORY;
+        return 1;
     size_t size = 0;
     for (int i = 1; i < count; size += strlen(words[i++]) + 1)
         memcpy(joined + size, words[i], strlen(words[i]) + 1);
     if (ptext_names(joined, size, names, room, output, room, &found))
-        return PTEXT_MEMORY;
+        return 1;
+    /* (If a stream is closed, its number may soon be that of a file.) */
     for (int stream = 0; stream < PTEXT_FILE; stream++)
-        descriptors[stream] = stream;
+        descriptors[stream] = fcntl(stream, F_GETFD) < 0 ? -1 : stream;
     struct ptext_options options = {.opened = opened};
     int are_open = 1;
     for (uint8_t *name = names; name < names + found.out.written; name += strlen((char *)name) + 1) {
@@ -39,5 +40,6 @@ int main(int count, char **words) {
     }
     /* (A pipe that nobody reads is then a failed write.) */
     signal(SIGPIPE, SIG_IGN);
-    return ptext_stream(joined, size, ptext_read_descriptor, ptext_write_descriptor, descriptors, &options);
+    int status = ptext_stream(joined, size, ptext_read_descriptor, ptext_write_descriptor, descriptors, &options);
+    return status == PTEXT_MEMORY ? 1 : status;
 }

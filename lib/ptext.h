@@ -50,8 +50,8 @@ struct ptext_answer {
  * itself, it is PTEXT_ARGUMENTS, and all of the message is counted as lacking.
  *
  * The caller owes that each pointer has as many bytes (or ends) behind it as its size says, that nobody else writes to
- * them during the call, and that malloc(3) aligns to 16 bytes. Threads may call at the same time. The call may not be
- * made from a signal handler.
+ * them during the call, and that malloc(3) aligns to 16 bytes. Threads may call at the same time, each with a stack of
+ * 128 KiB or more. The call may not be made from a signal handler.
  */
 uint8_t ptext_run(const uint8_t *words, size_t words_size, const uint8_t *input, size_t input_size,
                   const uint8_t *files, size_t files_size, const size_t *ends, size_t ends_count,
@@ -111,8 +111,8 @@ struct ptext_options {
  * failed. As in the program, that is said in a message ("cut: standard input: read failed"), and the status is 1. The
  * output is then a beginning of the whole; after a failed read, with all that was decided by then.
  *
- * Threads may call at the same time. The functions are called in the thread of the call. They return (no longjmp, no
- * exception), and may call what is declared here.
+ * Threads may call at the same time, as above. The functions are called in the thread of the call. They return (no
+ * longjmp, no exception), and may call what is declared here.
  */
 uint8_t ptext_stream(const uint8_t *words, size_t words_size, ptext_read *read, ptext_write *write, void *context,
                      const struct ptext_options *options);

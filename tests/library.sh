@@ -57,6 +57,7 @@ is "filter join" "$drinks" "$(cd "$room" && ./filter join -t , - drinks <people)
 is "filter cut" "$(printf '1\ncut: none: cannot be opened\n1')" "$(cd "$room" && head -n 1 people | ./filter cut -b 1 - none 2>&1 || echo $?)"
 is "filter uniq" "$(printf '1,ann\n2,bob')" "$(cd "$room" && ./filter uniq people made && cat made)"
 is "filter, no output file" "$(printf 'uniq: none/made: cannot be opened\n1')" "$(cd "$room" && ./filter uniq people none/made 2>&1 || echo $?)"
+is "filter, no input" "$(printf 'paste: standard input: read failed\n1')" "$(cd "$room" && ./filter paste - people 2>&1 <&- || echo $?)"
 is "filter, no command" 2 "$("$room/filter" cut 2>/dev/null || echo $?)"
 # ---- half a gigabyte in 8 MB of memory
 if [ "$(uname)" = Linux ]; then

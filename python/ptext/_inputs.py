@@ -1,6 +1,7 @@
 """The kinds of inputs, in pieces of bytes."""
 from __future__ import annotations
 
+import codecs
 import contextlib
 import io
 import os
@@ -11,6 +12,7 @@ if TYPE_CHECKING:
     from typing_extensions import Buffer
 
 PIECE = 1 << 18
+TEXTS = (io.TextIOBase, codecs.StreamReader, codecs.StreamWriter, codecs.StreamReaderWriter)
 TAKEN = "bytes or another buffer, a str, a pathlib.Path, a file open in binary mode, or an iterable of bytes"
 
 
@@ -47,7 +49,7 @@ def is_read_once(given: Input) -> bool:
 
 
 def refuse_text(what: str, given: object) -> None:
-    if isinstance(given, io.TextIOBase):
+    if isinstance(given, TEXTS):
         raise TypeError(f"{what} is a file in text mode: open it in binary mode ('rb', 'wb')")
 
 
@@ -70,11 +72,19 @@ def _count_bytes(what: str, count: Any) -> int:
     return int(count)
 
 
+def _has_own(given: Input, base: type, *calls: str) -> bool:
+    """Whether a file of a class of `io` has one of these calls. (In the class itself they only fail.)"""
+    found = [(getattr(type(given), call, None), getattr(base, call, None)) for call in calls]
+    return isinstance(given, base) and any(own is not none for own, none in found)
+
+
 def find_read_into(given: Input) -> Callable[[memoryview], int | None] | None:
-    """The call by which a file of `io` fills a buffer, if it is one."""
-    if isinstance(given, io.RawIOBase):
-        return given.readinto
-    return given.readinto1 if isinstance(given, io.BufferedIOBase) else None
+    """The call by which a file of `io` fills a buffer, if it has one."""
+    if _has_own(given, io.RawIOBase, "readinto"):
+        return given.readinto  # type: ignore[union-attr,no-any-return]
+    if _has_own(given, io.BufferedIOBase, "readinto1", "read1"):
+        return given.readinto1  # type: ignore[union-attr,no-any-return]
+    return None
 
 
 def fill(what: str, read_into: Callable[[memoryview], int | None], room: memoryview) -> int:
@@ -93,8 +103,8 @@ def _fill_pieces(what: str, read_into: Callable[[memoryview], int | None]) -> It
 
 
 def _read_pieces(what: str, file: Any) -> Iterator[Buffer]:
-    # (Where there is `read1`, `read` waits for all that it was asked for.)
-    read = getattr(file, "read1", None) or file.read
+    # (Where there is `read1`, `read` waits for all that it was asked for. That of BufferedIOBase only fails.)
+    read = file.read if isinstance(file, io.BufferedIOBase) else getattr(file, "read1", None) or file.read
     while True:
         piece = read(PIECE)
         if not _count_bytes(what, None if piece is None else len(_check_piece(what, piece))):  # type: ignore[arg-type]

@@ -70,7 +70,7 @@ _NAMES.argtypes = [ctypes.c_char_p, _SIZE, *[_BYTES, _SIZE] * 2, ctypes.POINTER(
 
 
 def list_words(words: Iterable[str]) -> list[str]:
-    if isinstance(words, (str, bytes)):
+    if isinstance(words, (str, bytes)) or not isinstance(words, Iterable):
         raise TypeError("words are a list of texts, as ['cut', '-f', '1']")
     return list(words)
 

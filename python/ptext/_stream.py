@@ -5,6 +5,7 @@ from __future__ import annotations
 import contextlib
 import ctypes
 import io
+import sys
 import threading
 from collections.abc import Iterable, Iterator, Mapping
 from typing import TYPE_CHECKING, Any, Callable, Protocol, TypeVar, overload
@@ -150,6 +151,8 @@ class Stream(Iterator[bytes]):
     def __init__(
         self, words: Iterable[str], stdin: Input, files: Mapping[str, Input] | None, memory: int | None
     ) -> None:
+        if memory is not None and not isinstance(memory, int):
+            raise TypeError(f"`memory` is {type(memory).__name__}, and not a number of bytes or None")
         if memory is not None and memory < 1:
             raise ValueError("`memory` is a number of bytes above 0, or None")
         words, files = list_words(words), check_files(files)
@@ -169,7 +172,7 @@ class Stream(Iterator[bytes]):
                 taken.append(given)
                 self._sources[number] = self._open(f"files[{name!r}]", given)
             opened = bytes(number in self._sources for number in range(FIRST_FILE, FIRST_FILE + len(read)))
-            options = _Options(opened, len(opened), memory or 0, None)
+            options = _Options(opened, len(opened), min(memory or 0, sys.maxsize), None)
             self._run = _OPEN(encoded, len(encoded), options)
             if not self._run:
                 raise MemoryError("ptext: out of memory")
@@ -239,6 +242,10 @@ class Stream(Iterator[bytes]):
         finally:
             self._lock.release()
 
+    def __reduce__(self) -> Any:
+        # (Two of them would close one run.)
+        raise TypeError("a stream can be neither copied nor sent")
+
     def __enter__(self) -> Stream:
         return self
 
@@ -255,13 +262,17 @@ def _view(address: int, size: int) -> Any:
     return _VIEW(address, size, _TO_READ)
 
 
-def write_all(out: Writable, text: bytes) -> None:
-    """Writes to a file, which may take a part of what it is given."""
+def write_all(out: Writable, text: Any) -> None:
+    """Writes to a file, which may take a part of what it is given, and keeps no view of it."""
     while text:
         count = out.write(text)
-        if count is None and hasattr(out, "fileno"):
+        if count is None and isinstance(out, io.RawIOBase):
             raise BlockingIOError("`out` takes no bytes now: it may not be in non-blocking mode")
-        text = text[len(text) if count is None else count :]
+        if count is not None and not 0 < count <= len(text):
+            raise OSError(f"`out` took {count} bytes of {len(text)}")
+        given, text = text, text[len(text) if count is None else count :]
+        if isinstance(given, memoryview):
+            given.release()
 
 
 @overload
@@ -277,6 +288,15 @@ def stream(
     out: Writable,
     memory: int | None = ...,
 ) -> None: ...
+@overload
+def stream(
+    words: Iterable[str],
+    stdin: Input = ...,
+    files: Mapping[str, Input] | None = ...,
+    *,
+    out: Writable | None,
+    memory: int | None = ...,
+) -> Stream | None: ...
 def stream(
     words: Iterable[str],
     stdin: Input = b"",

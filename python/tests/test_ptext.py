@@ -1,6 +1,8 @@
 """Tests of the module. Run them in python/ with `python3 -m unittest discover tests`."""
 import array
+import codecs
 import concurrent.futures
+import copy
 import io
 import itertools
 import mmap
@@ -135,6 +137,9 @@ class Failures(unittest.TestCase):
         for call in (ptext.run, ptext.stream):
             with self.assertRaisesRegex(TypeError, "list, and not a mapping"):
                 call(["cut", "-b", "1", "f"], files=["f"])
+            self.assertRaisesRegex(TypeError, "words are a list", call, None)
+        with codecs.open(os.devnull, "r", "utf-8") as text:
+            self.assertRaisesRegex(TypeError, "text mode", ptext.stream, ["cut", "-b", "1"], text)
         with self.assertRaises(FileNotFoundError):
             ptext.stream(["cut", "-b", "1"], stdin=pathlib.Path("/none/such"))
 
@@ -263,6 +268,20 @@ class Streams(unittest.TestCase):
             with self.assertRaisesRegex(OSError, "stdin gave -?[0-9]+ bytes"):
                 ptext.stream(["tr", "a", "b"], stdin=file, out=io.BytesIO())
 
+    def test_files_of_io_that_have_only_read(self):
+        for base in (io.IOBase, io.RawIOBase, io.BufferedIOBase):
+            kind = type("Given", (base,), {"read": lambda self, size=-1: self.left.read(size)})
+            for run in (ptext.run, self.joined):
+                file = kind()
+                file.left = io.BytesIO(b"ab\ncd\n")
+                self.assertEqual(run(["cut", "-b", "1"], stdin=file), b"a\nc\n")
+
+    def test_a_stream_is_not_copied(self):
+        output = ptext.stream(["tr", "a", "b"], b"a\n")
+        for call in (copy.copy, copy.deepcopy, pickle.dumps):
+            self.assertRaisesRegex(TypeError, "neither copied nor sent", call, output)
+        self.assertEqual(list(output), [b"b\n"])
+
     def test_what_can_be_read_once_is_named_once(self):
         once = io.BytesIO(b"a\n")
         for words, stdin, files in [
@@ -283,6 +302,8 @@ class Streams(unittest.TestCase):
         self.assertEqual(self.joined(["cut", "-b", "1", "a"], files=files, memory=100_000), b"k\n" * 20_000)
         for memory in (0, -1):
             self.assertRaisesRegex(ValueError, "above 0", ptext.stream, ["tr", "a", "b"], memory=memory)
+        self.assertRaisesRegex(TypeError, "`memory` is str", ptext.stream, ["tr", "a", "b"], memory="5")
+        self.assertEqual(self.joined(["cut", "-b", "1", "a"], files=files, memory=(1 << 64) + 1), b"k\n" * 20_000)
 
     def test_streams_are_used_by_one_at_a_time(self):
         def itself():
@@ -311,6 +332,33 @@ class Streams(unittest.TestCase):
         slow = Slow()
         ptext.stream(["cut", "-b", "1-3"], stdin=b"abcd\n", out=slow)
         self.assertEqual(slow.text, b"abc\n")
+
+    def test_output_of_which_nothing_is_taken(self):
+        class Taken:
+            def __init__(self, count):
+                self.count = count
+
+            def write(self, data):
+                return self.count
+
+        for count in (0, -1, 6):
+            with self.assertRaisesRegex(OSError, f"`out` took {count} bytes of 5"):
+                ptext.stream(["cut", "-b", "1-4"], stdin=b"abcd\n", out=Taken(count))
+
+    def test_output_that_a_file_may_not_keep(self):
+        class Keeps(io.RawIOBase):
+            def write(self, data):
+                self.kept = data
+                return len(data)
+
+        file = Keeps()
+        ptext.stream(["cut", "-b", "1-4"], stdin=b"abcd\n", out=file)
+        self.assertRaisesRegex(ValueError, "released", bytes, file.kept)
+        # (A file in a file is no file of `io`, and may say nothing of what it took.)
+        written = []
+        wrapper = type("Wrapper", (), {"fileno": file.fileno, "write": lambda self, data: written.append(data)})
+        ptext.stream(["cut", "-b", "1-4"], stdin=b"abcd\n", out=wrapper())
+        self.assertEqual(written, [b"abcd\n"])
 
     def test_output_is_a_copy_where_it_is_kept(self):
         class Kept(list):
