@@ -1,7 +1,7 @@
 // cut, paste, join, comm, uniq and tr for node, by the proved library as WebAssembly. ptext.d.ts describes its calls.
 import fs from "node:fs";
 import { Worker } from "node:worker_threads";
-import { MEMORY, PIECE, Ptext, bytesOf, isBytes, joined, readerOf } from "./module.mjs";
+import { MEMORY, PIECE, Ptext, bytesOf, checkWords, isBytes, joined, readerOf } from "./module.mjs";
 
 const at = (name) => new URL(name, import.meta.url);
 /** How many modules and threads that have ended their run are kept for the next one. */
@@ -182,15 +182,15 @@ class Thread {
     /** The next step: that of a command that begins, or, with a number, after that many bytes of the piece. */
     next(command) {
         if (this.dead) throw this.dead;
-        // (The thread keeps the process alive only while it is waited for.)
-        this.worker.ref();
-        const step = new Promise((good, bad) => Object.assign(this, { good, bad }));
         if (typeof command !== "number") this.worker.postMessage(command);
         else {
             this.control[1] = command;
             Atomics.store(this.control, 0, 1);
             Atomics.notify(this.control, 0);
         }
+        // (The thread keeps the process alive only while it is waited for.)
+        this.worker.ref();
+        const step = new Promise((good, bad) => Object.assign(this, { good, bad }));
         return step.finally(() => this.worker.unref());
     }
 }
@@ -264,8 +264,10 @@ class Running {
 }
 
 export function stream(words, { stdin = "", files = {}, memory } = {}) {
+    checkWords(words);
     checkMemory(memory);
-    const running = new Running(words, new Inputs(stdin, files, ASYNC), memory);
+    // (The thread gets the words at the first read. They may be changed until then.)
+    const running = new Running([...words], new Inputs(stdin, files, ASYNC), memory);
     const pull = async (controller) => {
         const piece = await running.next();
         if (piece) controller.enqueue(piece);

@@ -356,12 +356,17 @@ function wholeSize(size) {
     return whole;
 }
 
-/** Each word, and byte 0 after it. */
-function bytesOfWords(words) {
+/** Throws unless these are words. */
+export function checkWords(words) {
     if (!Array.isArray(words) || words.some((it) => typeof it !== "string")) {
         throw new TypeError("words are a list of strings, as ['cut', '-f', '1']");
     }
     if (words.some((it) => it.includes("\0"))) throw new Error("a word contains byte 0");
+}
+
+/** Each word, and byte 0 after it. */
+function bytesOfWords(words) {
+    checkWords(words);
     return encode(words.map((it) => `${it}\0`).join(""));
 }
 

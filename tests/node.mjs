@@ -109,8 +109,9 @@ for (const call of [(words, options) => run(words, options), (words, options) =>
         const refused = await thrown(() => call(["uniq"], { files: { stdin } }));
         is(`a file is refused: ${stdin}`, refused.name, "TypeError");
     }
-    for (const words of ["uniq", undefined, ["cut", "-f", 1]]) {
-        is(`words are refused: ${words}`, (await thrown(() => call(words))).name, "TypeError");
+    for (const words of ["uniq", undefined, ["cut", "-f", 1], ["cut", Symbol("x")], ["cut", () => 1]]) {
+        is(`words are refused: ${words?.map?.(String) ?? words}`, (await thrown(() => call(words))).message,
+            "words are a list of strings, as ['cut', '-f', '1']");
     }
     is("a piece is refused", (await thrown(() => call(["uniq"], { stdin: pieces("a", 7) }))).name, "TypeError");
     is("byte 0 in a word", (await thrown(() => call(["cut\0"]))).message, "a word contains byte 0");
@@ -215,6 +216,24 @@ const late = setTimeout(() => child.kill(), 20000);
 child.stdin.write("ab\n");
 is("a process that leaves a stream does not wait for its standard input", await once(child, "exit"), [0, null]);
 clearTimeout(late);
+
+const refusing = `import { stream } from ${JSON.stringify(entry)};
+    for (const words of [["cut", Symbol("x")], ["cut", () => 1], ["cut\\0"]]) {
+        try {
+            stream(words);
+        } catch (error) {
+            process.stdout.write(error.name + " ");
+        }
+    }
+    const changed = ["cut", "-f", "1"], pieces = stream(changed, { stdin: "a\\tb\\n" });
+    changed[2] = Symbol("x");
+    for await (const it of pieces) process.stdout.write(it);
+    const late = stream(["paste", "f"], { files: new Map([["f", "a"], [Symbol("x"), "b"]]) });
+    await late.getReader().read().catch(() => {});
+    setTimeout(() => process.stdout.write("end"), 300);`;
+const refused = spawnSync("node", ["--input-type=module", "-e", refusing], { timeout: 60000 });
+is("a process goes on after words that are refused", [refused.status, text(refused.stdout), text(refused.stderr)],
+    [0, "TypeError TypeError Error a\nend", ""]);
 
 // ---- a thread that died, while it was kept or while it ran a command
 const dying = `import { createRequire, syncBuiltinESMExports } from "node:module";
