@@ -28,11 +28,14 @@ export class PtextError extends Error {
 // ---- inputs
 
 /** Whether bytes can be had again. */
-const canBeRepeated = (it) => isBytes(it) || it instanceof URL || it instanceof Blob || Array.isArray(it);
+const canBeRepeated = (it) => isBytes(it) || it instanceof URL || it instanceof Blob || isCollection(it);
 
 /** The inputs of a command: standard input, and the files by their names. */
 class Inputs {
     constructor(stdin, files, kinds) {
+        if (typeof files !== "object" || files === null) {
+            throw new TypeError("files has to be an object or a Map, with inputs by their names");
+        }
         this.stdin = stdin;
         // (An object has names of its own kind, as `constructor`, which are no files.)
         this.files = files instanceof Map ? files : new Map(Object.entries(files));
@@ -43,9 +46,7 @@ class Inputs {
     }
 
     #check(what, given) {
-        if (!this.kinds.some((is) => is(given))) {
-            throw new TypeError(`${what} is no input: a string, a buffer, an iterable of these, or the URL of a file`);
-        }
+        if (!this.kinds.has(given)) throw new TypeError(`${what} is no input: ${this.kinds.said}`);
     }
 
     has(name) {
@@ -64,8 +65,17 @@ class Inputs {
 }
 
 const isIterable = (it) => typeof it?.[Symbol.iterator] === "function";
-const SYNC = [isBytes, (it) => it instanceof URL, isIterable];
-const ASYNC = [...SYNC, (it) => it instanceof Blob, (it) => typeof it?.[Symbol.asyncIterator] === "function"];
+const isAsync = (it) => typeof it?.[Symbol.asyncIterator] === "function";
+/** Whether this can be iterated over again, as an Array or a Set: it is no iterator and no stream. */
+const isCollection = (it) => isIterable(it) && !isAsync(it) && typeof it.next !== "function";
+const SYNC = {
+    has: (it) => isBytes(it) || it instanceof URL || isIterable(it),
+    said: "a string, a buffer, an iterable of these, or the URL of a file (`run` takes nothing that is waited for)",
+};
+const ASYNC = {
+    has: (it) => SYNC.has(it) || it instanceof Blob || isAsync(it),
+    said: "a string, a buffer, an iterable of these (also an async one, as a stream), a Blob, or the URL of a file",
+};
 
 /** The pieces of an input that need not be waited for. */
 function* piecesOf(given) {
@@ -137,6 +147,7 @@ export function run(words, { stdin = "", files = {}, memory, write } = {}) {
         };
     };
     const take = write ?? ((piece) => out.push(piece.slice()));
+    if (typeof take !== "function") throw new TypeError("write has to be a function, which gets pieces of the output");
     try {
         const did = withModule(memory, (module) => module.run(words, open, take));
         const whole = joined(out);

@@ -109,6 +109,10 @@ for (const call of [(words, options) => run(words, options), (words, options) =>
         const refused = await thrown(() => call(["uniq"], { files: { stdin } }));
         is(`a file is refused: ${stdin}`, refused.name, "TypeError");
     }
+    for (const files of [null, 7, "f"]) {
+        is(`files are refused: ${files}`, (await thrown(() => call(["uniq"], { files }))).message,
+            "files has to be an object or a Map, with inputs by their names");
+    }
     for (const words of ["uniq", undefined, ["cut", "-f", 1], ["cut", Symbol("x")], ["cut", () => 1]]) {
         is(`words are refused: ${words?.map?.(String) ?? words}`, (await thrown(() => call(words))).message,
             "words are a list of strings, as ['cut', '-f', '1']");
@@ -124,10 +128,24 @@ for (const call of [(words, options) => run(words, options), (words, options) =>
     const once = pieces("a\n");
     is("read twice", (await thrown(() => call(["paste", "f", "f"], { files: { f: once } }))).message,
         "f is read twice, and can be read only once");
+    const again = { f: new Set(["a\n", "b\n"]), g: { [Symbol.iterator]: () => pieces("c\n", "d\n") } };
+    const four = text(Buffer.from(await call(["paste", "f", "g", "f", "g"], { files: again })));
+    is("iterables that can be read again", four, "a\tc\ta\tc\nb\td\tb\td\n");
     is("after all of these", text(Buffer.from(await call(["uniq"], { stdin: "a\na\n" }))), "a\n");
 }
 const partly = await thrown(() => run(["cut", "-b", "1", "-", "none"], { stdin: "ab\n" }));
 is("the output of a run that fails", text(partly.out), "a\n");
+
+const kinds = [() => run(["uniq"], { stdin: awaited("a") }), () => stream(["uniq"], { files: { f: 7 } })];
+is("what is taken is said", [(await thrown(kinds[0])).message, (await thrown(kinds[1])).message], [
+    "stdin is no input: a string, a buffer, an iterable of these, or the URL of a file " +
+        "(`run` takes nothing that is waited for)",
+    'files["f"] is no input: a string, a buffer, an iterable of these (also an async one, as a stream), a Blob, ' +
+        "or the URL of a file",
+]);
+for (const write of [5, true, "f"]) {
+    is(`write is refused: ${write}`, (await thrown(() => run(["uniq"], { write }))).name, "TypeError");
+}
 
 // ---- pieces
 const large = Buffer.alloc(3 * 10 ** 6, "0123456789\n"), wanted = text(large).replaceAll("5", "x");
