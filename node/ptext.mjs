@@ -47,6 +47,8 @@ class Inputs {
 
     #check(what, given) {
         if (!this.kinds.has(given)) throw new TypeError(`${what} is no input: ${this.kinds.said}`);
+        // (A Readable may fail before it is read. Its reader gets the error, which must not end the process.)
+        if (typeof given.pipe === "function") given.on?.("error", () => {});
     }
 
     has(name) {
@@ -265,7 +267,7 @@ class Running {
         return null;
     }
 
-    /** Ends the command, if it has not ended, and closes its inputs. */
+    /** Ends the command, if it has not ended, and closes the inputs that were begun. */
     close() {
         if (this.isClosed) return;
         this.isClosed = true;

@@ -206,6 +206,20 @@ const lent = new Blob(["a\n"]).stream();
 for await (const it of stream(["uniq"], { stdin: lent })) void it;
 is("a stream that was read is not locked", lent.locked, false);
 
+// ---- a Readable that fails before it is read: its error comes through if it is read, and else it is nobody's
+const missing = () => fs.createReadStream(new URL("none", url));
+for (const words of [["uniq"], ["paste", "f", "-"]]) {
+    const pieces = stream(words, { stdin: missing(), files: { f: awaited(..."a\n".repeat(30)) } });
+    is(`a Readable that failed: ${words}`, (await thrown(() => all(pieces))).code, "ENOENT");
+}
+is("a failed one that is not read", await all(stream(["uniq", "f"], { stdin: missing(), files: { f: "a" } })), "a\n");
+await stream(["uniq"], { stdin: missing() }).cancel();
+
+// ---- an input of which nothing is read stays as it was
+const unread = fs.createReadStream(url), first = (stdin) => all(stream(["cut", "-b", "1"], { stdin }));
+is("another file is read", await all(stream(["uniq", "f"], { stdin: unread, files: { f: "a" } })), "a\n");
+is("and this one after it", await first(unread), await first(url));
+
 // ---- output comes as it is there: a line of a slow input is not held back
 const order = [];
 for await (const piece of stream(["cut", "-b", "1"], { stdin: (async function* () {
