@@ -30,6 +30,9 @@ export class PtextError extends Error {
 /** Whether bytes can be had again. */
 const canBeRepeated = (it) => isBytes(it) || it instanceof URL || it instanceof Blob || isCollection(it);
 
+/** What listens to the errors of a Readable, once, however many commands get it. */
+const unheard = () => {};
+
 /** The inputs of a command: standard input, and the files by their names. */
 class Inputs {
     constructor(stdin, files, kinds) {
@@ -48,7 +51,7 @@ class Inputs {
     #check(what, given) {
         if (!this.kinds.has(given)) throw new TypeError(`${what} is no input: ${this.kinds.said}`);
         // (A Readable may fail before it is read. Its reader gets the error, which must not end the process.)
-        if (typeof given.pipe === "function") given.on?.("error", () => {});
+        if (typeof given.pipe === "function") given.off?.("error", unheard).on("error", unheard);
     }
 
     has(name) {

@@ -213,6 +213,9 @@ for (const words of [["uniq"], ["paste", "f", "-"]]) {
     is(`a Readable that failed: ${words}`, (await thrown(() => all(pieces))).code, "ENOENT");
 }
 is("a failed one that is not read", await all(stream(["uniq", "f"], { stdin: missing(), files: { f: "a" } })), "a\n");
+const shared = missing(), commands = twelve.map(() => stream(["uniq", "f"], { stdin: shared, files: { f: "a" } }));
+await Promise.all(commands.map((it) => it.cancel()));
+is("one listens, however many commands get it", shared.listenerCount("error"), 1);
 await stream(["uniq"], { stdin: missing() }).cancel();
 
 // ---- an input of which nothing is read stays as it was
