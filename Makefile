@@ -19,8 +19,7 @@
 #                           toybox, uutils, 9base, all, or a path, compares with others (docs/POSIX.md)
 # make definitions N=500    has the prover compute the definitions on random words and inputs, and compares the results
 #                           with a model in Python, the system's tools, and the built program if there is one
-# make docs                 writes docs/PROMISE.md, the page of the definitions, from crates/*/specs, and the table of
-#                           docs/ARCHITECTURE.md that shows the files of each tool
+# make docs                 writes docs/PROMISE.md, the page of the definitions, from crates/*/specs
 # make install PREFIX=..    installs the program, its pages and completion into PREFIX (/usr/local), below DESTDIR
 #                           (build/ptext-static if `make static` made it of build/ptext as it is, unless STATIC=no)
 # make install-tools        adds PREFIX/libexec/ptext/bin with each tool by its own name, a folder to put into PATH
@@ -105,7 +104,7 @@ lib: build/libptext.a
 
 # (The tests take build/libptext.a as it is, too.)
 ifndef PTEXT_AS_BUILT
-build/libptext.a: lib/ptext.c lib/stream.c lib/ptext.h $(BUILDER) $(SOURCES)
+build/libptext.a: bindings/c/ptext.c bindings/c/stream.c bindings/c/ptext.h $(BUILDER) $(SOURCES)
 	@$(WITH_RT)
 	python3 tools/builder library
 endif
@@ -116,7 +115,8 @@ install-lib: build/libptext.a
 # (The modules of Debian's packages python3-setuptools and python3-wheel are those of its own Python.)
 PYTHON ?= /usr/bin/python3
 python: build/libptext.a
-	rm -rf build/python && cp -r python build/python
+	rm -rf build/python && cp -r bindings/python build/python
+	rm -rf build/python/tests
 	cp build/libptext.so.$(shell cat VERSION) build/python/ptext/libptext.so
 	cp docs/LIBRARY.md LICENSE-MIT LICENSE-APACHE build/python && cp debian/copyright build/python/NOTICES
 	@# (In build/dist is one wheel only, whatever its platforms.)
@@ -129,7 +129,7 @@ python: build/libptext.a
 page: build/page/ptext.html
 
 LICENSES := LICENSE-MIT LICENSE-APACHE debian/copyright
-build/page/ptext.html: $(BUILDER) $(wildcard page/* node/* man/ptext-*.1) docs/LIBRARY.md VERSION $(LICENSES) $(SOURCES)
+build/page/ptext.html: $(BUILDER) $(wildcard bindings/page/*.* bindings/node/*.* man/ptext-*.1) docs/LIBRARY.md VERSION $(LICENSES) $(SOURCES)
 	@$(WITH_RT)
 	python3 tools/builder page
 
@@ -149,7 +149,6 @@ definitions:
 
 docs:
 	python3 tools/promise.py
-	python3 tools/layers.py
 
 # As root no proof begins on the way: the program has to be there, and newer than its source.
 install: $(if $(filter 0,$(shell id -u)),is-built,build/ptext)

@@ -16,7 +16,7 @@ import time
 
 sys.dont_write_bytecode = True
 TOP = os.path.dirname(os.path.dirname(os.path.realpath(__file__)))
-sys.path[:0] = [f"{TOP}/python", f"{TOP}/tools"]
+sys.path[:0] = [f"{TOP}/bindings/python", f"{TOP}/tools"]
 os.environ.setdefault("PTEXT_LIBRARY", f"{TOP}/build/libptext.so")
 
 import ptext

@@ -8,7 +8,8 @@ Each input has MEGABYTES, 512 by default. It was written just before, so that it
 PARTS for each processor, unless their number is given. The best of three runs counts, and the output is thrown away,
 except that Dask writes it to a file (in memory, if TMPDIR is there). Wall time depends on other work on the machine, so
 its load at the start is printed; processor time (in brackets: user and system, of all processes) hardly does. The
-column of Dask is empty if it is not installed, or if the library is not built. (tests/slurm.sh has the times of Slurm.)
+column of Dask is empty if it is not installed, or if the library is not built. (slurm.sh, in
+bindings/python/tests, has the times of Slurm.)
 """
 
 import importlib
@@ -69,9 +70,9 @@ def format_times(times):
 
 def start_dask(cores):
     """A client of a cluster of this machine, with as many workers as processors; or None."""
-    sys.path.insert(0, f"{TOP}/python")
+    sys.path.insert(0, f"{TOP}/bindings/python")
     os.environ.setdefault("PTEXT_LIBRARY", f"{TOP}/build/libptext.so")
-    os.environ["PYTHONPATH"] = f"{TOP}/python"
+    os.environ["PYTHONPATH"] = f"{TOP}/bindings/python"
     try:
         from distributed import Client, LocalCluster
 
@@ -99,7 +100,7 @@ def main():
         os.chdir(folder)
         os.mkdir("bin")
         os.symlink(ptext, "bin/ptext")
-        os.symlink(f"{TOP}/python/ptext/parts.py", "bin/ptext-parts")
+        os.symlink(f"{TOP}/bindings/python/ptext/parts.py", "bin/ptext-parts")
         os.environ.update(LC_ALL="C", PATH=f"{folder}/bin:{os.environ['PATH']}")
         write_lines("log", size, make_log_line)
         write_lines("left", size, lambda number: f"{number * 2:010} first__________ second_________\n")

@@ -21,7 +21,6 @@ fail() {
 
 # Nothing that an earlier run made is tested.
 rm -f "$log" crates/ptext/out/ptext* build/libptext* build/ptext-static build/page/ptext.html
-follow "$log" python3 tests/counts.py || fail "tests are lacking"
 follow "$log" python3 tests/edits.py || fail "a wrong body is missing, or does not show that a contract refuses it"
 status=0
 follow "$log" rt ci || status=$?

@@ -42,21 +42,21 @@ if [ -x build/ptext ]; then
 else
     needed "the installation and the packages (they are of build/ptext, which is not there)" >>"$room/log"
 fi
-test_of "offsets of parts" python3 tests/offsets.py "$program"
-test_of "parts of files" sh tests/parallel.sh "$program"
+test_of "offsets of parts" python3 bindings/python/tests/offsets.py "$program"
+test_of "parts of files" sh bindings/python/tests/parallel.sh "$program"
 test_of "waiting" python3 tests/waiting.py "$program"
 test_of "the documents" sh tests/documents.sh "$program"
 test_of "completion" python3 tests/completion.py
 if is_current build/libptext.a "make lib"; then
-    test_of "the library" sh tests/library.sh build
-    test_of "parts by Dask" /usr/bin/python3 tests/on_dask.py "$program"
+    test_of "the library" sh bindings/c/tests/library.sh build
+    test_of "parts by Dask" /usr/bin/python3 bindings/python/tests/on_dask.py "$program"
     test_of "the library and the program" python3 tools/same.py "$program" 500
     for way in functions steps descriptors python; do
         test_of "the library over streams, by $way" python3 tools/same.py "$program" 300 --by "$way"
     done
 fi
 if is_current build/page/ptext.html "make page"; then
-    test_of "the page" sh tests/page.sh "$program"
+    test_of "the page" sh bindings/page/tests/page.sh "$program"
 fi
 if is_current build/ptext-static "make static"; then
     test_of "the static program" sh tests/static.sh build/ptext-static

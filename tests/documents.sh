@@ -9,5 +9,4 @@ status=0
 for test in examples pages replacing references; do
     python3 "$test.py" "$program" || status=1
 done
-python3 ../tools/layers.py --check || status=1
 exit "$status"

@@ -84,7 +84,7 @@ def run_examples(file, program, known):
         os.mkdir(f"{room}/bin")
         os.makedirs(f"{room}/here/build")
         os.symlink(program, f"{room}/bin/ptext")
-        os.symlink(f"{TOP}/python/ptext/parts.py", f"{room}/bin/ptext-parts")
+        os.symlink(f"{TOP}/bindings/python/ptext/parts.py", f"{room}/bin/ptext-parts")
         os.symlink(program, f"{room}/here/build/ptext")
         surroundings = {**os.environ, "PATH": f"{room}/bin:{os.environ['PATH']}", "LC_ALL": "C"}
         for side, command, wanted in find_examples(file):

@@ -35,7 +35,7 @@ from names import NAMES
 from project import TOP, Failed, read_version, run_script
 
 # The program that runs parts, which needs Python, and is the module of the library too.
-PARTS = "python/ptext/parts.py"
+PARTS = "bindings/python/ptext/parts.py"
 # Each file below datadir, its mode, and its source.
 OTHERS = [
     ("ptext/ptext-slurm.sh", 0o755, "tools/ptext-slurm.sh"),
@@ -295,7 +295,7 @@ def list_files_of_library(where, prefix):
         (f"{lib}/libptext.so.{read_version().partition('.')[0]}", None, whole),
         (f"{lib}/libptext.so", None, whole),
         (f"{lib}/pkgconfig/ptext.pc", 0o644, make_settings(where, prefix)),
-        (f"{where['includedir']}/ptext.h", 0o644, read_bytes(f"{TOP}/lib/ptext.h")),
+        (f"{where['includedir']}/ptext.h", 0o644, read_bytes(f"{TOP}/bindings/c/ptext.h")),
         (f"{where['mandir']}/man3/ptext.3", 0o644, make_page("ptext.3")),
         *((f"{doc}/{name}", 0o644, read_bytes(f"{TOP}/{source}")) for name, source in LICENSES),
     ]

@@ -26,7 +26,7 @@ import threading
 
 sys.dont_write_bytecode = True
 TOP = os.path.dirname(os.path.dirname(os.path.realpath(__file__)))
-sys.path[:0] = [f"{TOP}/tools/compare", f"{TOP}/tools", f"{TOP}/python"]
+sys.path[:0] = [f"{TOP}/tools/compare", f"{TOP}/tools", f"{TOP}/bindings/python"]
 os.environ.setdefault("PTEXT_LIBRARY", f"{TOP}/build/libptext.so")
 
 from generating import make_case

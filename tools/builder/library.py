@@ -1,7 +1,7 @@
 """The library for C in build/: libptext.a, libptext.so.VERSION and its links, ptext.h and ptext.pc.
 
 The gate proves the crates below `ptrunc`, or takes what it proved on this machine. Then `ptrunc` is proved and compiled
-to an archive. lib/ptext.c and lib/stream.c, which check what the caller gives, and the toolchain's calls of the C library
+to an archive. In bindings/c, ptext.c and stream.c, which check what the caller gives, and the toolchain's calls of the C library
 are added to it, and gcc links the shared library from that. Both libraries export nothing but the calls of ptext.h.
 """
 import glob
@@ -20,7 +20,7 @@ KEPT = f"{TOP}/build/{CRATE}-kept"
 EXPORTED = ["ptext_run", "ptext_names", "ptext_version", "ptext_stream", "ptext_open", "ptext_next", "ptext_close"]
 EXPORTED += ["ptext_read_descriptor", "ptext_write_descriptor"]
 # The calls that the crate makes: of the C library, and of the toolchain for memory. Those that are named twice are bound
-# to functions of lib/stream.c.
+# to functions of bindings/c/stream.c.
 BOUND = {
     "read": "ptext_host_read",
     "write": "ptext_host_write",
@@ -56,11 +56,11 @@ def find_called(archive):
 
 
 def bind(archive, place):
-    """Binds the calls of the crate to lib/stream.c, if they are those that it knows. (Linked without it, the crate would
+    """Binds the calls of the crate to stream.c, if they are those that it knows. (Linked without it, the crate would
     read and write descriptors.)"""
     called = find_called(archive)
     if called != CALLED:
-        raise Failed(f"the archive of {CRATE} calls {sorted(called)}, and not {sorted(CALLED)}: lib/stream.c has no others")
+        raise Failed(f"the archive of {CRATE} calls {sorted(called)}, and not {sorted(CALLED)}: stream.c has no others")
     run(["objcopy", *(f"--redefine-sym={name}={to}" for name, to in BOUND.items()), archive], place)
 
 
@@ -70,13 +70,13 @@ def link(kit, place):
     os.mkdir(objects)
     flags = ["-std=c11", "-O2", "-fPIC", "-Wall", "-Wextra", "-Werror"]
     for name in ("ptext", "stream"):
-        run(["gcc", *flags, "-c", "-o", f"{objects}/{name}.o", f"{TOP}/lib/{name}.c"], place)
+        run(["gcc", *flags, "-c", "-o", f"{objects}/{name}.o", f"{TOP}/bindings/c/{name}.c"], place)
     bind(f"{place}/{CRATE}.a", place)
     parts = f"{place}/parts"
     os.mkdir(parts)
     for archive in (f"{place}/{CRATE}.a", f"{kit}/{HEAP}"):
         run(["ar", "x", archive], parts)
-    # (Tests compile lib/ once more, with sanitizers, and link it with these.)
+    # (Tests compile bindings/c once more, with sanitizers, and link it with these.)
     run(["ar", "rcsD", f"{place}/parts.a", *sorted(glob.glob(f"{parts}/*.o"))], place)
     # One object, of which only the calls of ptext.h can be seen: other libraries of the toolchain have its names, too.
     one = f"{place}/libptext.o"
@@ -110,7 +110,7 @@ def build(kit, place):
     link(kit, place)
     put(f"{place}/libptext.so", f"{TOP}/build/libptext.so.{version}")
     make_links(f"{TOP}/build", version)
-    put(f"{TOP}/lib/ptext.h", f"{TOP}/build/ptext.h")
+    put(f"{TOP}/bindings/c/ptext.h", f"{TOP}/build/ptext.h")
     write_text(f"{TOP}/build/ptext.pc", SETTINGS.format(version=version))
     put(f"{place}/parts.a", f"{TOP}/build/{CRATE}.a")
     put(f"{place}/libptext.a", f"{TOP}/build/libptext.a")

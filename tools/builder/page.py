@@ -225,7 +225,7 @@ def fill_fields(command, folder):
     found = {"command": text, "stdin": run_shell(makes.strip().removesuffix("|"), folder) if makes else ""}
     names = dict.fromkeys(word for word in shlex.split(text) if os.path.isfile(f"{folder}/{word}"))
     if len(names) > FILES:
-        raise Failed(f"page/page.html has no room for more than {FILES} files, which an example in man/ has: {command}")
+        raise Failed(f"page.html has no room for more than {FILES} files, which an example in man/ has: {command}")
     for number, name in enumerate(names, 1):
         found |= {f"name{number}": name, f"file{number}": read_text(f"{folder}/{name}")}
     return found
@@ -261,8 +261,8 @@ def make_buttons(all_examples):
 
 
 def read_script(name):
-    """A module of page/ as a plain script."""
-    text = re.sub(r"^import .*\n", "", read_text(f"{TOP}/page/{name}"), flags=re.M)
+    """A module of bindings/page as a plain script."""
+    text = re.sub(r"^import .*\n", "", read_text(f"{TOP}/bindings/page/{name}"), flags=re.M)
     return re.sub(r"^export ", "", text, flags=re.M)
 
 
@@ -280,7 +280,7 @@ def make_page(wasm):
     with open(wasm, "rb") as file:
         encoded = base64.b64encode(file.read()).decode()
     parts = {
-        "page.css": read_text(f"{TOP}/page/page.css"),
+        "page.css": read_text(f"{TOP}/bindings/page/page.css"),
         "buttons": make_buttons(all_examples),
         "version": read_version(),
         "licenses": html.escape(make_licenses()),
@@ -291,20 +291,21 @@ def make_page(wasm):
         "worker.mjs": read_script("worker.mjs"),
         "page.mjs": read_script("page.mjs"),
     }
-    return re.sub(r"\{\{([\w.]+)\}\}", lambda found: parts[found[1]], read_text(f"{TOP}/page/page.html"))
+    return re.sub(r"\{\{([\w.]+)\}\}", lambda found: parts[found[1]], read_text(f"{TOP}/bindings/page/page.html"))
 
 
 def make_package(wasm):
     """The package for node, in build/node."""
     made = f"{TOP}/build/node"
     for name in ("ptext.mjs", "worker.mjs", "ptext.d.ts"):
-        put(f"{TOP}/node/{name}", f"{made}/{name}")
-    put(f"{TOP}/page/ptext.mjs", f"{made}/module.mjs")
+        put(f"{TOP}/bindings/node/{name}", f"{made}/{name}")
+    put(f"{TOP}/bindings/page/ptext.mjs", f"{made}/module.mjs")
     put(wasm, f"{made}/ptext.wasm")
     section = re.search(r"^## JavaScript\n(.*?)^## ", read_text(f"{TOP}/docs/LIBRARY.md"), re.M | re.S)
     write_text(f"{made}/README.md", f"# ptext {read_version()}\n{section[1]}")
     write_text(f"{made}/LICENSES", make_licenses())
-    write_text(f"{made}/package.json", read_text(f"{TOP}/node/package.json").replace("VERSION", read_version()))
+    text = read_text(f"{TOP}/bindings/node/package.json")
+    write_text(f"{made}/package.json", text.replace("VERSION", read_version()))
 
 
 def build(kit, place):

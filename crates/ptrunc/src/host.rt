@@ -1,7 +1,7 @@
 //! `Caller`, the host whose streams are those of the caller of `ptext_run_streams`.
 //!
-//! The reads and writes that the crate `io` asks the C library for are bound to two functions of lib/stream.c when the
-//! library is built. These find the run of their thread, and the number of a descriptor is that of a stream. The number
+//! The reads and writes that the crate `io` asks the C library for are bound to two functions of bindings/c/stream.c
+//! when the library is built. These find the run of their thread, and the number of a descriptor is that of a stream. The number
 //! with all bits changed is a question about it: a write there succeeds if no read of the stream has failed, or if it is
 //! flushed.
 
@@ -41,7 +41,7 @@ pub struct CallerStream {
 }
 
 impl CallerStream {
-    /// The stream with this number. (lib/stream.c refuses a call with more files than there are numbers.)
+    /// The stream with this number. (bindings/c/stream.c refuses a call with more files than there are numbers.)
     pub fn new(number: usize) -> Self {
         CallerStream {
             number: i32::try_from(number).unwrap_or(i32::MAX),

@@ -1,6 +1,6 @@
-//! Whole runs over bytes in memory, and over streams of the caller, for programs in C and in other languages. lib/ptext.c
-//! and lib/stream.c check the pointers that they are given, and call the functions here; lib/ptext.h says what callers
-//! owe.
+//! Whole runs over bytes in memory, and over streams of the caller, for programs in C and in other languages. In
+//! bindings/c, ptext.c and stream.c check the pointers that they are given, and call the functions here; ptext.h says
+//! what callers owe.
 #![tactic(auto)]
 
 mod answer;

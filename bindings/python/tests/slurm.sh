@@ -3,10 +3,10 @@
 # and munged, as root. It compares the outputs of the six tools with one run over the whole; then a file is out of order, a
 # disk is full, and a node is killed in the middle of a command. It takes some four minutes, in two of which Slurm waits
 # before it queues parts again.
-# usage: tests/slurm.sh PROGRAM [MEGABYTES]
+# usage: bindings/python/tests/slurm.sh PROGRAM [MEGABYTES]
 set -u
 program=$(realpath "${1:?which program?}")
-top=$(cd "$(dirname "$0")/.." && pwd)
+top=$(cd "$(dirname "$0")/../../.." && pwd)
 . "$top/tests/common.sh"
 PATH=$PATH:/usr/sbin:/sbin
 if [ "$(id -u)" != 0 ] || ! has slurmctld slurmd munged sbatch; then
@@ -28,7 +28,7 @@ cd "$room" || exit 1
 mkdir bin munge spool spool/w1 spool/w2 spool/w3 state logs
 chmod 700 munge
 ln -s "$program" bin/ptext
-ln -s "$top/python/ptext/parts.py" bin/ptext-parts
+ln -s "$top/bindings/python/ptext/parts.py" bin/ptext-parts
 ln -s "$top/tools/ptext-slurm.sh" bin/ptext-slurm.sh
 export LC_ALL=C PATH="$room/bin:$PATH" SLURM_CONF="$room/slurm.conf" PYTHONDONTWRITEBYTECODE=1
 host=$(hostname -s)
@@ -104,8 +104,8 @@ block() {
         inside && shown { print substr($0, 5) }' "$top/docs/PARALLEL.md"
 }
 
-# The inputs are those of tests/on_dask.py.
-python3 "$top/tests/on_dask.py" --inputs "${2:-64}" || failed "the inputs"
+# The inputs are those of bindings/python/tests/on_dask.py.
+python3 "$top/bindings/python/tests/on_dask.py" --inputs "${2:-64}" || failed "the inputs"
 block "ptext-parts plan 12 cut -d ' ' -f 1,3 log > plan" >plans
 command=$(block 'mkdir parts && ptext-slurm.sh plan parts result')
 [ "$(wc -l <plans)" = 6 ] && [ "$command" ] || failed "the page lacks a plan, or the command for Slurm"
@@ -178,5 +178,5 @@ wait "$waiting" || failed "a node died, and the job failed"
 cmp -s wanted result || failed "a node died, and the output is not that of one run"
 grep -q -i requeue logs/ctld.log || failed "no part was queued again"
 count=$((count + 1))
-echo "tests/slurm.sh: $count commands, $bad failed"
+echo "bindings/python/tests/slurm.sh: $count commands, $bad failed"
 [ "$bad" = 0 ]

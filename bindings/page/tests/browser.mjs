@@ -1,5 +1,5 @@
 // Tests of a built page in Chromium without a window: types, clicks, and compares with the program.
-// usage: node tests/browser.mjs CHROMIUM PAGE PROGRAM [PICTURE]      PICTURE: a picture of the page is put there
+// usage: node browser.mjs CHROMIUM PAGE PROGRAM [PICTURE]      PICTURE: a picture of the page is put there
 import { spawn } from "node:child_process";
 import fs from "node:fs";
 import path from "node:path";

@@ -1,4 +1,4 @@
-/* Calls lib/ptext.c alone, with null pointers of size 0: the calls of the proved crate, which are here in its place, get
+/* Calls ptext.c alone, with null pointers of size 0: the calls of the proved crate, which are here in its place, get
  * none, since a slice has an address even if it has no bytes. */
 #include "ptext.h"
 

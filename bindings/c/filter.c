@@ -1,5 +1,5 @@
 /* Runs a command over standard input and the files that its words name, in constant memory, as the program does.
- * tests/library.sh compiles and runs it. usage: filter TOOL [WORD ..] */
+ * bindings/c/tests/library.sh compiles and runs it. usage: filter TOOL [WORD ..] */
 #include "ptext.h"
 #include <fcntl.h>
 #include <signal.h>

@@ -1,5 +1,5 @@
 // Tests of a built page in Firefox or in WebKitGTK: examples, a file, a link, and long output, beside the program.
-// usage: node tests/drivers.mjs firefox|webkit PAGE PROGRAM
+// usage: node bindings/page/tests/drivers.mjs firefox|webkit PAGE PROGRAM
 import { spawn } from "node:child_process";
 import fs from "node:fs";
 import net from "node:net";

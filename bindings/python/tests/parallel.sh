@@ -1,11 +1,11 @@
 #!/bin/sh
 # Tests the commands of docs/PARALLEL.md: the outputs of the parts of files of 64 MB, for each tool and each way to run
 # them, against one run over the whole; and parts that fail. Several machines are network namespaces of this one, with
-# an sshd in each. (tests/on_dask.py and tests/slurm.sh run those for a cluster.)
-# usage: tests/parallel.sh PROGRAM
+# an sshd in each. (bindings/python/tests/on_dask.py and bindings/python/tests/slurm.sh run those for a cluster.)
+# usage: bindings/python/tests/parallel.sh PROGRAM
 set -u
 program=$(realpath "${1:?which program?}")
-top=$(cd "$(dirname "$0")/.." && pwd)
+top=$(cd "$(dirname "$0")/../../.." && pwd)
 page=$top/docs/PARALLEL.md
 . "$top/tests/common.sh"
 servers='' spaces='' made=''
@@ -31,7 +31,7 @@ if [ "$(df -Pk . | awk 'NR == 2 { print $4 }')" -lt 3000000 ]; then
 fi
 mkdir bin
 ln -s "$program" bin/ptext
-ln -s "$top/python/ptext/parts.py" bin/ptext-parts
+ln -s "$top/bindings/python/ptext/parts.py" bin/ptext-parts
 ln -s "$(command -v parallel)" bin/parallel
 export LC_ALL=C PYTHONDONTWRITEBYTECODE=1 PATH="$room/bin:$PATH" PARALLEL_HOME="$room" PARALLEL=--will-cite
 : >messages
@@ -284,5 +284,5 @@ fi
 blocks | sort >in.page
 sort tested | cmp -s - in.page || failed "not tested: $(sort tested | comm -13 - in.page)"
 
-echo "tests/parallel.sh: $count commands, $bad failed"
+echo "bindings/python/tests/parallel.sh: $count commands, $bad failed"
 [ "$bad" = 0 ]

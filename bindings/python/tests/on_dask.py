@@ -2,8 +2,8 @@
 """Runs the six tools by ptext.dask on a scheduler and three workers of this machine, over loopback, and compares the
 outputs with one run over the whole.
 
-  python3 tests/on_dask.py PROGRAM [MEGABYTES]
-  python3 tests/on_dask.py --inputs MEGABYTES       only writes the inputs
+  python3 bindings/python/tests/on_dask.py PROGRAM [MEGABYTES]
+  python3 bindings/python/tests/on_dask.py --inputs MEGABYTES       only writes the inputs
 
 A worker is killed in the middle of a command. Then commands that fail: files out of order, a full disk, no law, words
 that the program refuses. It needs the packages dask and distributed, and the library (PTEXT_LIBRARY, or
@@ -22,8 +22,8 @@ import threading
 import time
 
 sys.dont_write_bytecode = True
-TOP = os.path.dirname(os.path.dirname(os.path.realpath(__file__)))
-sys.path[:0] = [f"{TOP}/tools", f"{TOP}/bench", f"{TOP}/python"]
+TOP = os.path.realpath(os.path.join(os.path.dirname(os.path.realpath(__file__)), "../../.."))
+sys.path[:0] = [f"{TOP}/tools", f"{TOP}/bench", f"{TOP}/bindings/python"]
 
 from project import Failed, read_text, run_script, say
 
@@ -53,7 +53,7 @@ def start_cluster(room):
     """The scheduler and the workers, as processes, and the address of the scheduler."""
     environment = {
         **os.environ,
-        "PYTHONPATH": f"{TOP}/python",
+        "PYTHONPATH": f"{TOP}/bindings/python",
         "PYTHONDONTWRITEBYTECODE": "1",
         "DASK_TEMPORARY_DIRECTORY": room,
         "DASK_DISTRIBUTED__COMM__TIMEOUTS__CONNECT": "60s",
@@ -226,7 +226,7 @@ def main():
             for process in reversed(started):
                 process.wait()
             os.chdir(TOP)
-    print("tests/on_dask.py: six tools in parts, a killed worker and six failures")
+    print("bindings/python/tests/on_dask.py: six tools in parts, a killed worker and six failures")
     return 0
 
 

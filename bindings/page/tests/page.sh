@@ -1,12 +1,12 @@
 #!/bin/sh
 # Tests a built page and the package for node: the module and the scripts by node, and the page itself in Chromium,
 # Firefox and WebKitGTK, beside the program.
-# usage: tests/page.sh PROGRAM [FOLDER]      FOLDER has page/ptext.html and node/ (build/)
+# usage: bindings/page/tests/page.sh PROGRAM [FOLDER]      FOLDER has page/ptext.html and node/ (build/)
 set -eu
 program=$(realpath "${1:?which program?}")
 built=$(realpath "${2:-build}")
 page=$built/page/ptext.html
-cd "$(dirname "$0")/.."
+cd "$(dirname "$0")/../../.."
 . tests/common.sh
 if ! has node; then
     left_out "the page (there is no node)"
@@ -22,12 +22,12 @@ fi
 in_time() {
     timeout --foreground "$@" || bad=$((bad + 1))
 }
-in_time 600 node tests/page.mjs "$built/node/ptext.wasm"
-in_time 600 node tests/node.mjs "$built/node"
+in_time 600 node bindings/page/tests/page.mjs "$built/node/ptext.wasm"
+in_time 600 node bindings/node/tests/node.mjs "$built/node"
 if has tsc; then
     mkdir -p "$room/typed/node_modules"
     ln -s "$built/node" "$room/typed/node_modules/ptext"
-    cp tests/user.mts "$room/typed"
+    cp bindings/node/tests/user.mts "$room/typed"
     known="--target es2022 --lib es2022,dom,dom.iterable --module node16"
     is "the types of a program" "" "$(cd "$room/typed" && tsc --strict --noEmit $known user.mts 2>&1)"
 else
@@ -46,17 +46,17 @@ if [ "$built" = "$PWD/build" ]; then
 fi
 chromium=$(command -v chromium || command -v chromium-browser || command -v google-chrome || true)
 if [ "$chromium" ]; then
-    in_time 1800 node tests/browser.mjs "$chromium" "$page" "$program"
+    in_time 1800 node bindings/page/tests/browser.mjs "$chromium" "$page" "$program"
 else
     left_out "the page in Chromium (it is not there)"
 fi
 if has firefox-esr; then
-    in_time 1800 node tests/drivers.mjs firefox "$page" "$program"
+    in_time 1800 node bindings/page/tests/drivers.mjs firefox "$page" "$program"
 else
     left_out "the page in Firefox (there is no firefox-esr)"
 fi
 if has WebKitWebDriver Xvfb; then
-    in_time 1800 node tests/drivers.mjs webkit "$page" "$program"
+    in_time 1800 node bindings/page/tests/drivers.mjs webkit "$page" "$program"
 else
     left_out "the page in WebKitGTK (there is no WebKitWebDriver, or no Xvfb)"
 fi

@@ -1,4 +1,4 @@
-/* Joins two tables in memory. tests/library.sh compiles and runs it. */
+/* Joins two tables in memory. bindings/c/tests/library.sh compiles and runs it. */
 #include "ptext.h"
 #include <stdio.h>
 

@@ -2,31 +2,31 @@
 # Tests the library for C and the Python module over it: the examples, bad arguments, too little room, streams (also with
 # sanitizers, and each request for memory refused), threads, what it exports; and, if it is in build/, that it is
 # installed, found by pkg-config and removed, and that the wheel of `make python` has it.
-# usage: tests/library.sh [FOLDER]      FOLDER has libptext.so, libptext.a and ptrunc.a (build/)
+# usage: bindings/c/tests/library.sh [FOLDER]      FOLDER has libptext.so, libptext.a and ptrunc.a (build/)
 set -eu
 built=$(realpath "${1:-build}")
-cd "$(dirname "$0")/.."
+cd "$(dirname "$0")/../../.."
 . tests/common.sh
-flags="-std=c11 -O2 -Wall -Wextra -Werror -Ilib"
-gcc $flags -o "$room/example" lib/example.c "$built/libptext.a"
-gcc $flags -o "$room/shared" lib/example.c -L"$built" -lptext
-gcc $flags -pthread -o "$room/calls" tests/library.c "$built/libptext.a"
-gcc $flags -o "$room/pointers" tests/pointers.c lib/ptext.c
+flags="-std=c11 -O2 -Wall -Wextra -Werror -Ibindings/c"
+gcc $flags -o "$room/example" bindings/c/example.c "$built/libptext.a"
+gcc $flags -o "$room/shared" bindings/c/example.c -L"$built" -lptext
+gcc $flags -pthread -o "$room/calls" bindings/c/tests/library.c "$built/libptext.a"
+gcc $flags -o "$room/pointers" bindings/c/tests/pointers.c bindings/c/ptext.c
 drinks=$(printf '1,ann,tea\n2,bob,milk\n')
 for program in example shared; do
-    is "lib/example.c, $program" "$drinks" "$(LD_LIBRARY_PATH=$built "$room/$program")"
+    is "bindings/c/example.c, $program" "$drinks" "$(LD_LIBRARY_PATH=$built "$room/$program")"
 done
 "$room/calls"
 "$room/pointers"
 painted="-DPAINTED -Wl,--wrap=mmap,--wrap=munmap"
-gcc $flags -pthread $painted -o "$room/streams" tests/streams.c "$built/libptext.a"
+gcc $flags -pthread $painted -o "$room/streams" bindings/c/tests/streams.c "$built/libptext.a"
 "$room/streams"
 refuse="-DREFUSED -Wl,--wrap=malloc,--wrap=calloc,--wrap=realloc"
-gcc $flags -pthread $refuse -o "$room/refused" tests/streams.c "$built/libptext.a"
+gcc $flags -pthread $refuse -o "$room/refused" bindings/c/tests/streams.c "$built/libptext.a"
 "$room/refused"
-# (What is compiled anew for sanitizers is lib/ and the tests. ThreadSanitizer and valgrind know no stacks of steps.)
-parts="lib/ptext.c lib/stream.c $built/ptrunc.a"
-calls="tests/library.c" streams="tests/streams.c"
+# (What is compiled anew for sanitizers is bindings/c and its tests. ThreadSanitizer and valgrind know no stacks of steps.)
+parts="bindings/c/ptext.c bindings/c/stream.c $built/ptrunc.a"
+calls="bindings/c/tests/library.c" streams="bindings/c/tests/streams.c"
 for with in "address,undefined $calls" "thread $calls" "address,undefined $streams" \
     "address,undefined $refuse $streams" "thread -DNO_STEPS $streams"; do
     if gcc $flags -DSANITIZED -g -O1 -pthread -fsanitize=$with -o "$room/checked" $parts 2>"$room/said"; then
@@ -44,15 +44,15 @@ for with in "address,undefined $calls" "thread $calls" "address,undefined $strea
     fi
 done
 if has valgrind; then
-    gcc $flags -g -pthread -DNO_STEPS -o "$room/checked" tests/streams.c "$built/libptext.a"
+    gcc $flags -g -pthread -DNO_STEPS -o "$room/checked" bindings/c/tests/streams.c "$built/libptext.a"
     valgrind -q --leak-check=full --error-exitcode=9 "$room/checked" || bad=$((bad + 1))
 else
     left_out "streams by valgrind (it is not there)"
 fi
-# ---- lib/filter.c does as the program
+# ---- bindings/c/filter.c does as the program
 printf '1,ann\n2,bob\n' >"$room/people"
 printf '1,tea\n2,milk\n' >"$room/drinks"
-gcc $flags -o "$room/filter" lib/filter.c "$built/libptext.a"
+gcc $flags -o "$room/filter" bindings/c/filter.c "$built/libptext.a"
 is "filter join" "$drinks" "$(cd "$room" && ./filter join -t , - drinks <people)"
 is "filter cut" "$(printf '1\ncut: none: cannot be opened\n1')" "$(cd "$room" && head -n 1 people | ./filter cut -b 1 - none 2>&1 || echo $?)"
 is "filter uniq" "$(printf '1,ann\n2,bob')" "$(cd "$room" && ./filter uniq people made && cat made)"
@@ -64,7 +64,7 @@ if [ "$(uname)" = Linux ]; then
     is "a long stream" 120000000 "$(yes 'a,b,c,d' | head -n 60000000 | (ulimit -v 8192 && "$room/filter" cut -d , -f 2) | wc -c)"
 fi
 # ---- nothing but the calls of ptext.h is exported
-calls=$(sed -n 's/^[a-z].* \**\(ptext_[a-z_]*\)(.*/\1/p' lib/ptext.h | grep -v '^ptext_read$\|^ptext_write$' | sort)
+calls=$(sed -n 's/^[a-z].* \**\(ptext_[a-z_]*\)(.*/\1/p' bindings/c/ptext.h | grep -v '^ptext_read$\|^ptext_write$' | sort)
 is "exports of libptext.so" "$calls" "$(nm -D --defined-only "$built/libptext.so" | sed -n 's/.* T \(.*\)@@.*/\1/p' | sort)"
 is "exports of libptext.a" "$calls" "$(nm -g --defined-only "$built/libptext.a" | sed -n 's/.* T //p' | sort)"
 # (The tests of make need none of its flags, and start no build.)
@@ -79,10 +79,10 @@ if [ "$built" = "$PWD/build" ]; then
     at install-lib
     if has pkg-config; then
         export PKG_CONFIG_PATH="$room/a b/lib64/pkgconfig"
-        (eval "set -- $(pkg-config --cflags --libs ptext)" && gcc -o "$room/installed" lib/example.c "$@")
+        (eval "set -- $(pkg-config --cflags --libs ptext)" && gcc -o "$room/installed" bindings/c/example.c "$@")
     else
         left_out "pkg-config (it is not there)"
-        gcc -o "$room/installed" lib/example.c "-I$room/a b/include" "-L$room/a b/lib64" -lptext
+        gcc -o "$room/installed" bindings/c/example.c "-I$room/a b/include" "-L$room/a b/lib64" -lptext
     fi
     is "the installed library" "$drinks" "$(LD_LIBRARY_PATH="$room/a b/lib64" "$room/installed")"
     is "its page" yes "$([ -s "$room/a b/share/man/man3/ptext.3" ] && echo yes)"
@@ -106,7 +106,7 @@ if [ "$built" = "$PWD/build" ]; then
         left_out "the wheel of the Python module (there is no setuptools, or no wheel)"
     fi
 fi
-cd python
+cd bindings/python
 export PTEXT_LIBRARY="$built/libptext.so" PYTHONDONTWRITEBYTECODE=1
 timeout --foreground 600 python3 -m unittest discover -s tests || bad=$((bad + 1))
 if has mypy; then

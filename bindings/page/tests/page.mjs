@@ -1,8 +1,8 @@
-// Tests of the module of a page, and of the scripts around it, by node. usage: node tests/page.mjs MODULE
+// Tests of the module of a page, and of the scripts around it, by node. usage: node bindings/page/tests/page.mjs MODULE
 import fs from "node:fs";
-import { commands, runAll, Refused } from "../page/command.mjs";
-import { Heap, Ptext, joined, readerOf } from "../page/ptext.mjs";
-import { firstOf, shown } from "../page/shown.mjs";
+import { commands, runAll, Refused } from "../command.mjs";
+import { Heap, Ptext, joined, readerOf } from "../ptext.mjs";
+import { firstOf, shown } from "../shown.mjs";
 
 const module = fs.readFileSync(process.argv[2]);
 let tests = 0, failed = 0;
@@ -257,7 +257,7 @@ is("the guards", [looked > 20, faultsOfGuards], [true, 0]);
 // ---- the worker: it answers each run, also one that fails
 const answers = [];
 globalThis.self = { postMessage: (message) => answers.push(message) };
-await import("../page/worker.mjs");
+await import("../worker.mjs");
 globalThis.self.onmessage({ data: { module: ptext.module } });
 globalThis.self.onmessage({ data: { number: 1, commands: [["uniq", 7]], stdin: "", files: [] } });
 globalThis.self.onmessage({ data: { number: 2, commands: [["uniq", "-c"]], stdin: "a\n", files: [] } });

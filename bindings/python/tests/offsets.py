@@ -1,7 +1,7 @@
 #!/usr/bin/env python3
 """Cuts random small files by ptext-parts into 1 to 20 parts, and compares the outputs of these with that of the whole.
 
-  python3 tests/offsets.py PROGRAM [COUNT [SEED]]
+  python3 bindings/python/tests/offsets.py PROGRAM [COUNT [SEED]]
 
 The commands are those of tools/compare: all options, files out of order, empty files, last lines without a terminator.
 The program checks the words of each. The outputs are those of the model there, and of the program for one command in
@@ -16,8 +16,8 @@ import tempfile
 from collections import Counter
 
 sys.dont_write_bytecode = True
-TOP = os.path.dirname(os.path.dirname(os.path.realpath(__file__)))
-sys.path[:0] = [f"{TOP}/tools/compare", f"{TOP}/tools", f"{TOP}/python/ptext"]
+TOP = os.path.realpath(os.path.join(os.path.dirname(os.path.realpath(__file__)), "../../.."))
+sys.path[:0] = [f"{TOP}/tools/compare", f"{TOP}/tools", f"{TOP}/bindings/python/ptext"]
 
 import parts
 from cases import list_late_words
@@ -161,7 +161,7 @@ def compare_without_splice(program, room):
 
 def fails(wanted, *words):
     """What is wrong with a call of ptext-parts that has to fail with this message."""
-    command = [sys.executable, f"{TOP}/python/ptext/parts.py", *words]
+    command = [sys.executable, f"{TOP}/bindings/python/ptext/parts.py", *words]
     answer = subprocess.run(command, capture_output=True, text=True, check=False)
     said = answer.stderr.replace(os.getcwd() + "/", "")
     return (
@@ -215,7 +215,7 @@ def main():
         os.chdir(TOP)
     if wrong:
         raise Failed("\n".join(wrong[:9]) + f"\n{len(wrong)} are wrong")
-    print(f"tests/offsets.py: {count} commands, none is wrong")
+    print(f"bindings/python/tests/offsets.py: {count} commands, none is wrong")
     return 0
 
 

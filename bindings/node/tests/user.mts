@@ -1,4 +1,4 @@
-// A program that uses the package for node as most do: tests/page.sh has a compiler of TypeScript check its types.
+// A program that uses the package for node as most do: bindings/page/tests/page.sh has a compiler of TypeScript check its types.
 import { PtextError, names, run, stream, type Files, type Input, type Options, type SyncInput } from "ptext";
 
 const bytes = new Uint8Array([97, 10]);

@@ -1,4 +1,4 @@
-// Tests of the package for node. usage: node tests/node.mjs FOLDER
+// Tests of the package for node. usage: node bindings/node/tests/node.mjs FOLDER
 import { spawn, spawnSync } from "node:child_process";
 import { once } from "node:events";
 import fs from "node:fs";
