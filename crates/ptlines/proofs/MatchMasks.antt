@@ -139,5 +139,3 @@ module _ (test : ℕ → Bool) (hay : List ℕ) where
       (subst (λ n. mask_l flags < 2 ^ n)
       (length-map (chunk 16 48 hay) test ∙ length-chunk 16 48 hay (omega (arith, room))) (mask_l-lt flags)) in
       omega (arith, all, is, none, rest, few)
-
-pub ruleset first_match_steps = (first_after, none_if_zero_mask, first_at_lowest_bit)

@@ -171,10 +171,6 @@ pub record OperandStep (order : List Input) (i p n : ℕ) : Type 0 where
   pub next : take (i + 1) (positions order) ≡ take i (positions order) ++ p ∷ []
   pub split : take i (positions order) ++ p ∷ drop (i + 1) (positions order) ≡ positions order
 
-pub only_within : {p n : ℕ} → p < n → All (λ q. q < n) (p ∷ [])
-only_within low zero d within = low
-only_within low (suc k) d within = absurd (omega arith)
-
 pub operand_step : {p n : ℕ} (order : List Input) (i : ℕ) (d : Input) → All (λ q. q < n) (positions order)
     → i < length order → p ≡ position (get_or order i d) → OperandStep order i p n
 operand_step {p} {n} order i d in_range within is = record {

@@ -52,28 +52,6 @@ module _ {A : Type 0} (old new : Filling) (file : Kept A) where
         cause = λ failed. inl failed;
       }
 
-  pub partly_appended : WriteOutErr (filling_state old) (filling_state new) file.bytes.items
-      → AppendPost old new (Some file) true
-  partly_appended part = record {
-    same_room = same_room old new part.front part.accepted;
-    is_prefix = record {
-      rest = part.rest;
-      is = ap (λ l. filling_bytes old ++ l) part.split
-          ∙ sym (append_assoc (filling_bytes old) part.front part.rest)
-          ∙ ap (λ l. l ++ part.rest) (sym (bytes_after old new part.front part.accepted));
-    };
-    whole = λ fine. absurd (true≢false fine);
-    cause = λ failed. inr part.failed;
-  }
-
-pub nothing_appended : {A : Type 0} (out : Filling) → AppendPost {A = A} out out None out.rest.failed
-nothing_appended out = record {
-  same_room = refl;
-  is_prefix = record { rest = []; is = refl };
-  whole = λ fine. (sym (append-nil (filling_bytes out)), fine, refl);
-  cause = λ failed. inr failed;
-}
-
 -- ---- a room
 
 module _ (s : Filling) where

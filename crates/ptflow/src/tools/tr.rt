@@ -149,7 +149,7 @@ impl<'a> BlockFilter for Translator<'a> {
         let written = self
             .translation
             .squeezed(self.last, mapped, &mut self.squeezed);
-        out.push(written)?;
+        out.push_block(written)?;
         self.last = written.last().copied().or(self.last);
         Ok(())
     }

@@ -273,7 +273,7 @@ impl<'a> BlockFilter for ByteCut<'a> {
         let end = self
             .selection
             .cut_block(self.line_offset, block, &mut self.buffer);
-        out.push(&self.buffer[..end.at])?;
+        out.push_block(&self.buffer[..end.at])?;
         self.line_offset = end.line_offset;
         Ok(())
     }

@@ -341,7 +341,7 @@ impl<'a, A: Allocator + Copy> LineFilter for FieldCut<'a, A> {
             rest = &rest[copied.len..];
             end = copied.end;
         }
-        out.push(&self.buffer[..end])?;
+        out.push_block(&self.buffer[..end])?;
         Ok(block.len() - rest.len())
     }
 

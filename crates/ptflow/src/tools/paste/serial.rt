@@ -163,7 +163,7 @@ impl<'a> BlockFilter for SerialPaste<'a> {
 
     fn process_block<W: Sink>(&mut self, block: &[u8], out: &mut Out<W>) -> Result<(), WriteFault> {
         let copied = self.format.copy_block(self.cell, block, &mut self.buffer);
-        out.push(&self.buffer[..copied.size])?;
+        out.push_block(&self.buffer[..copied.size])?;
         self.cell = copied.next;
         Ok(())
     }

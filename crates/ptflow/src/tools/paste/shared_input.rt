@@ -101,5 +101,5 @@ pub(crate) fn write_shared_rows<S: Source, R: Source, W: Sink>(
         return Ok(());
     }
     reader.consume(count);
-    out.push(&into[..count])
+    out.push_block(&into[..count])
 }

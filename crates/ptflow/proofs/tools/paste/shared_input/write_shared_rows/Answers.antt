@@ -31,4 +31,4 @@ returns-clause-rows g c =
     let copied = c.copy_shared_rows-count.ensures in
     copied_rows shared (next_reader c.requires.readable shared.some c.index-readers-row.result) copied.sound
     (omega arith) copied.within (rw (shared.terminator, shared.len) at copied.rows) c.consume.ensures.consumed
-    copied.copied c.push.ensures.pushed.wrote
+    copied.copied c.push_block.ensures.pushed.wrote

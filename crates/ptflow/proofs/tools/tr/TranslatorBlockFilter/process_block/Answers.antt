@@ -6,14 +6,14 @@ use proofs.TrLemmas.TrFrom.{block_on, front_on}
 use proofs.tools.tr.TranslatorBlockFilter.process_block.Goals as goal
 use proofs.Common.{rules, arith}
 
-pub returns-in_err-push-clause-halts : goal.returns-in_err-push-clause-halts
-returns-in_err-push-clause-halts g c =
+pub returns-in_err-push_block-clause-halts : goal.returns-in_err-push_block-clause-halts
+returns-in_err-push_block-clause-halts g c =
     let t = c.args.self.now in
     on_err c.from_residual.result
     (record {
       pushed = _;
-      wrote = c.push.ensures.pushed.wrote;
-      fault = c.in_err-push.ensures.pushed.fault;
+      wrote = c.push_block.ensures.pushed.wrote;
+      fault = c.in_err-push_block.ensures.pushed.fault;
       is_prefix = λ rest. (grind (arith, (front_on (byte_map_of t.translation.plan.now))));
     })
 

@@ -24,14 +24,14 @@ lines-preserved g c =
       long = c.copy_lines-copied.ensures.long ∙ l.invariant.long;
     })
 
-pub returns-in_err-push-clause-halts : goal.returns-in_err-push-clause-halts
-returns-in_err-push-clause-halts g c =
+pub returns-in_err-push_block-clause-halts : goal.returns-in_err-push_block-clause-halts
+returns-in_err-push_block-clause-halts g c =
     let l = c.lines in
     on_err c.from_residual.result
     (record {
       passed = take l.end l.self.buffer;
-      wrote = c.push.ensures.pushed.wrote;
-      fault = c.in_err-push.ensures.pushed.fault;
+      wrote = c.push_block.ensures.pushed.wrote;
+      fault = c.in_err-push_block.ensures.pushed.fault;
       is_prefix = λ more. (
         cut_lines (cut_job c.args.self.now.selection.job.now)
             (complete_lines (cut_job c.args.self.now.selection.job.now).terminator l.rest.now ++ more),
@@ -50,8 +50,8 @@ returns-clause-continues g c =
     let none = complete_lines_none _ _
     (none_left g (goal.at.returns-clause-continues g c).In_default) in record {
       passed = take l.end l.self.buffer;
-      wrote = c.in_ok-push.ensures.pushed.wrote;
-      clean = λ was_clean. c.in_ok-push.ensures.pushed.clean;
+      wrote = c.in_ok-push_block.ensures.pushed.wrote;
+      clean = λ was_clean. c.in_ok-push_block.ensures.pushed.clean;
       on = λ more. l.invariant.on more ∙ ap
           (λ ls. take l.end l.self.buffer ++ cut_lines (cut_job c.args.self.now.selection.job.now) (ls ++ more)) none;
       count = omega arith;
