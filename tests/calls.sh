@@ -14,14 +14,15 @@ fi
 
 # opened WANT WORDS..: the names that are opened, each with ! if it can't be and > if it is created, and | once
 # something was written. The program opens each operand once, in the order of the words, all before anything is written;
-# the output file of uniq is created after its input was opened, and by no other command.
+# the output file of uniq is created after its input was opened, and by no other command. (What is opened to load the
+# program, and to see that the standard streams are open, is left out.)
 opened() {
     wanted=$1
     shift
     strace -qq -e trace=open,openat,creat,write -o trace "$program" "$@" <abcd >out 2>messages
     is "opened by $*" "$wanted" "$(awk -F'"' '
         /^write/ { if (!written) print "|"; written = 1; next }
-        $2 !~ /^\// { print ($3 ~ /O_CREAT/ ? ">" : "") $2 ($3 ~ /= -1/ ? "!" : "") }
+        $2 !~ /^\/($|etc\/ld|lib|usr\/lib)/ { print ($3 ~ /O_CREAT/ ? ">" : "") $2 ($3 ~ /= -1/ ? "!" : "") }
     ' trace | tr '\n' ' ' | sed 's/ $//')"
 }
 
@@ -42,6 +43,10 @@ opened 'f g |' comm f g
 opened 'none! f |' join none f
 opened '|' tr a b
 opened '|' cut -q f
+opened '|' uniq - -
+many=$(yes f | head -n 60 | tr '\n' ' ')
+opened "$many|" cut -c 1 $many
+opened "none! $many|" paste none $many
 
 # counted WORDS..: standard input, of 100,000 bytes, is read once for each block of 8,192 bytes and once at its end, and
 # standard output is written at most once for each block, and three times more

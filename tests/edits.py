@@ -1,7 +1,7 @@
 #!/usr/bin/env python3
 """Checks the wrong bodies in crates/*/must-fail and crates/*/must-fail-release before they are tried: each applies, and
-changes code, never a definition, a proof, or a clause of a contract. One that changes a clause shows nothing if it is
-refused.
+changes code, never a definition, a proof, an attribute, or a clause of a contract. One that changes a clause shows
+nothing if it is refused. None is lacking: COUNTS has their numbers.
 
   python3 tests/edits.py               says which do not, and which public functions of the libraries have none
   python3 tests/edits.py --list        prints each public function and the wrong bodies that belong to it, in brackets
@@ -25,6 +25,9 @@ WITHOUT_EDIT = {
     "ptfiles::Calls::new": "only contracts read the record that it returns",
     "ptfiles::Calls::with": "only contracts read the record that it returns",
 }
+
+# How many wrong bodies there are in must-fail, which the gate tries, and in must-fail-release.
+COUNTS = (150, 60)
 
 # Where a clause or another ghost item begins.
 GHOST = re.compile(r"\b(?:(requires|ensures)\b[^{;]*|ghost\b[^{;]*)([{;])")
@@ -57,8 +60,8 @@ def find_edits():
 
 
 def find_code(text):
-    """The text of a file without comments and blanks."""
-    return "".join(re.sub(r"//[^\n]*", "", text).split())
+    """The text of a file without comments, attributes and blanks."""
+    return "".join(re.sub(r"//[^\n]*|#!?\[[^\n]*\]", "", text).split())
 
 
 def find_end(text, begin):
@@ -200,6 +203,9 @@ def main():
         except Failed as why:
             lost.append(f"{os.path.relpath(edit.path, TOP)}: {why}")
     lost += find_missing(by_crate)
+    of_release = sum(edit.is_of_release for edit in edits)
+    if COUNTS != (len(edits) - of_release, of_release):
+        lost.append(f"there are {len(edits) - of_release} and {of_release}, and COUNTS in tests/edits.py has {COUNTS}")
     if lost:
         raise Failed("\n".join(lost))
     print(f"{len(edits)} wrong bodies: each applies, and changes code alone; each public function has one")

@@ -462,5 +462,17 @@ for words in 'cut -f 1' 'uniq' 'paste -' 'comm - empty' 'join -t , -a 1 - empty'
     same "one line of 150 MB: $words" 0
 done
 
+# A name of 4,002 bytes, and 100,000 lines of one key in the second file.
+rm -f line want.out
+printf 'ab\n' >f
+want 'a\n' ''
+run empty cut -c 1 "$(printf '%04000d' 0 | sed 's/00/.\//g')/f"
+same "a name of 4,002 bytes" 0
+seq -f 'k %.0f' 100000 >keys
+printf 'k x\n' >key
+sed 's/k/k x/' keys >want.out
+run key join - keys
+same "100,000 lines of one key" 0
+
 echo "$((count - bad)) of $count runs of the program as wanted"
 [ "$bad" = 0 ]
