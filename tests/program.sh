@@ -128,6 +128,63 @@ cp named out
 want 'ef\n' 'cut: output: write failed\n'
 same "a file that was read while output was closed" 1
 
+# So it is where the root folder may not be read: a folder, or the null device, takes the place of the closed stream. If
+# neither can be opened, nothing is run.
+in_jail() {
+    python3 -c '
+import os, sys
+os.chroot("jail")
+os.chdir(sys.argv[1])
+os.setgroups([])
+os.setgid(65534)
+os.setuid(65534)
+os.execv("/ptext", ["ptext", *sys.argv[2:]])' "$@"
+    status=$?
+}
+
+mkdir -p jail/dev jail/open
+cp "$program" jail/ptext
+ldd "$program" 2>/dev/null | grep -o '/[^ ]*' | while read -r library; do
+    mkdir -p "jail$(dirname "$library")"
+    cp "$library" "jail$library"
+done
+cp abcd jail/f
+chmod 711 jail
+chmod 755 jail/ptext
+chmod 777 jail/open
+if [ "$(id -u)" != 0 ] || ! (in_jail / tr a b <empty >out 2>messages; exit "$status"); then
+    left_out "closed streams where the root folder may not be read (only the superuser may enter another root)"
+else
+    for place in nothing null folder; do
+        at=/
+        [ $place != null ] || { : >jail/dev/null && chmod 666 jail/dev/null; }
+        [ $place != folder ] || { rm jail/dev/null && at=/open; }
+        for words in 'cut -c 1 - /f' 'paste - /f' 'paste -s - /f' uniq 'comm - /f' 'join - /f' 'tr a b'; do
+            tool=${words%% *}
+            in=": standard input: read failed" out=": output: write failed"
+            [ $place != nothing ] || {
+                tool=ptext in=": a standard stream is closed, and nothing can take its place"
+                out=$in
+            }
+            in_jail $at $words <&- >out 2>messages
+            want '' "$tool$in\n"
+            same "a closed input of $words, and $place" 1
+            in_jail $at $words <abcd 2>messages >&-
+            : >out
+            want '' "$tool$out\n"
+            same "a closed output of $words, and $place" 1
+        done
+        : >messages
+        in_jail $at uniq - /open/made <folder >out 2>&-
+        [ ! -s jail/open/made ] || echo made >>out
+        want '' ''
+        same "closed messages, and $place" 1
+    done
+    in_jail / cut -c 1 - /f <abcd >out 2>messages
+    want 'a\na\n' ''
+    same "no closed stream, and nothing that can be opened" 0
+fi
+
 # A closed pipe ends the run with the message of a failed write.
 head -c 4000000 /dev/zero | tr '\0' 'a' >many
 (

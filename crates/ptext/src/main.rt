@@ -3,21 +3,26 @@
 //! occupied.
 #![tactic(auto)]
 
+mod descriptors;
 mod perform;
 mod system;
 
-use perform::{perform, report_no_memory, report_not_utf8};
+use descriptors::occupy_closed_descriptors;
+use perform::{perform, report_closed_stream, report_no_memory, report_not_utf8};
 use ptlines::{FromRead, FromWrite};
 use ptrun::Report;
 use std::alloc::{AllocError, Allocator};
 use std::process::ExitCode;
-use std::{env, fs, io};
+use std::{env, io};
 
 fn main(rt: HostRuntime) -> ExitCode {
-    let _streams = reserve_std_descriptors(&rt);
+    let has_streams = occupy_closed_descriptors(&rt);
     let standard = FromRead::new(rt.stdin());
     let out = FromWrite::new(rt.stdout());
     let messages = FromWrite::new(rt.stderr());
+    if !has_streams {
+        return ExitCode::from(report_closed_stream(out, messages).status);
+    }
     let report = match command_words(&rt) {
         Ok(args) => match as_strs(rt.alloc(), &args) {
             Ok(words) => perform(&rt, rt.alloc(), &words, standard, out, messages),
@@ -27,13 +32,6 @@ fn main(rt: HostRuntime) -> ExitCode {
         Err(_) => report_no_memory(out, messages),
     };
     ExitCode::from(report.status)
-}
-
-// Occupies descriptors 0 to 2 if they are closed, so that no file that is opened later gets one of them and is mistaken
-// for a standard stream. They are opened on a directory, which can be neither read nor written, so that a use of such a
-// stream fails.
-fn reserve_std_descriptors(rt: &HostRuntime) -> [io::Result<fs::File>; 3] {
-    [fs::open(rt, "/"), fs::open(rt, "/"), fs::open(rt, "/")]
 }
 
 // Returns the words after the program's own name.

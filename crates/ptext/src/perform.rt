@@ -95,3 +95,20 @@ pub fn report_not_utf8<W: Sink, E: Sink>(out: W, messages: E) -> Report<W, E>
 {
     report_not_run(2, "ptext: a word is not UTF-8", out, messages)
 }
+
+/// Reports that a standard stream is closed, and nothing could be opened in its place, with status 1.
+pub fn report_closed_stream<W: Sink, E: Sink>(out: W, messages: E) -> Report<W, E>
+    requires { (E.state messages).failed ≡ false }
+    ensures status { result.status ≡ 1 }
+    ensures memory { (result.peak ≡ 0) × (result.denied ≡ false) }
+    ensures out { result.out ≡ out }
+    ensures has_said { HasSaid (E.state messages) (E.state result.messages)
+        (line_of (codes "ptext: a standard stream is closed, and nothing can take its place" ∷ [])) }
+{
+    report_not_run(
+        1,
+        "ptext: a standard stream is closed, and nothing can take its place",
+        out,
+        messages,
+    )
+}
