@@ -129,7 +129,7 @@ for page in share/man/man1/ptext.1 libexec/ptext/man/man1/cut.1; do
 done
 is "the script of the archive" yes "$([ -x "$local/share/ptext/ptext-slurm.sh" ] && echo yes)"
 is "ptext-parts of the archive" "[[0, 2]]" \
-    "$(echo a >"$room/line" && PATH=$local/bin:$PATH ptext-parts plan 1 cut -c 1 "$room/line" | tail -n 1)"
+    "$(echo a >"$room/line" && PATH=$local/bin:$PATH ptext-parts plan 1 cut -c 1 "$room/line" | sed -n 2p)"
 is "the page of section 7" yes "$([ -s "$local/share/man/man7/ptext-replacing.7" ] && echo yes)"
 is "the file that bash reads" yes "$([ -s "$local/$(lines '^[.] ' | sed 's/.*[.]local.//')" ] && echo yes)"
 (export HOME="$room/home" && eval "$(lines '^cd ')")

@@ -9,7 +9,7 @@ set -eu
 PTEXT_PLAN=$(realpath -- "$1") PTEXT_FOLDER=$(realpath -- "$2") result=$3
 export PTEXT_PLAN PTEXT_FOLDER
 shift 3
-parts=$(($(wc -l <"$PTEXT_PLAN") - 1))
+parts=$(($(wc -l <"$PTEXT_PLAN") - 2))
 rm -f "$PTEXT_FOLDER"/log.*
 job=$(sbatch --parsable --requeue --job-name=ptext --array="1-$parts" --ntasks=1 --open-mode=append \
     --output="$PTEXT_FOLDER/log.%a" "$@" <<'END'

@@ -378,9 +378,9 @@ class Plan(NamedTuple):
     parts: list[list[Range]]
 
     def write(self) -> str:
-        """The lines of a plan: the command and its files, then for each part its offsets in each file."""
+        """The lines of a plan: the command and its files, then for each part its offsets in each file, and the end."""
         head = {"words": self.words, "files": [list(file) for file in self.inputs]}
-        return "".join(json.dumps(line) + "\n" for line in [head, *self.parts])
+        return "".join(json.dumps(line) + "\n" for line in [head, *self.parts, {"end": len(self.parts)}])
 
     @property
     def mark(self) -> str:
@@ -391,17 +391,36 @@ class Plan(NamedTuple):
         return f"{part:05}.{self.mark}"
 
 
+def check_ranges(plan: Plan) -> None:
+    """That the parts of each file begin at 0, join, and end at its size."""
+    for at, file in enumerate(plan.inputs):
+        last = 0
+        for part, ranges in enumerate(plan.parts, 1):
+            begin, end = ranges[at]
+            if begin != last or end < begin:
+                raise PartsError(f"part {part} has bytes {begin} to {end} of {file.path}, after byte {last}")
+            last = end
+        if last != file.size:
+            raise PartsError(f"its parts end at byte {last} of {file.path}, which has {file.size}")
+
+
 def read_plan(path: str) -> Plan:
+    """The plan in a file, if all of it is there: less than all would make less than the result."""
     try:
         with open(path, encoding="utf-8") as file:
-            head, *parts = map(json.loads, file)
+            head, *parts, end = map(json.loads, file)
         inputs = [Input(*each) for each in head["files"]]
-        ranges = [[(begin, end) for begin, end in part] for part in parts]
-        if not ranges or any(len(part) != len(inputs) for part in ranges):
+        plan = Plan(head["words"], inputs, [[(begin, end) for begin, end in part] for part in parts])
+        if end != {"end": len(parts)}:
+            raise PartsError("its last line, which has the number of its parts, is missing")
+        if not parts or any(len(each) != len(inputs) for each in [read_words(plan.words).inputs, *parts]):
             raise ValueError
-        return Plan(head["words"], inputs, ranges)
+        check_ranges(plan)
+        return plan
     except OSError as why:
         raise PartsError(f"{path}: {why.strerror}") from why
+    except PartsError as why:
+        raise PartsError(f"{path}: not all of a plan, or not as it was printed: {why}") from why
     except (ValueError, TypeError, KeyError) as why:
         raise PartsError(f"{path}: not a plan of ptext-parts, or not all of it") from why
 

@@ -169,6 +169,32 @@ def fails(wanted, *words):
     )
 
 
+def check_changed_plans():
+    """A plan that is cut off or changed is refused by the message that says how, though all its parts are there."""
+    plan = parts.make_plan(["cut", "-c", "1", "sorted"], 5)
+    os.mkdir("five")
+    for part in range(1, 6):
+        parts.put_part(plan, part, "five")
+    head, first, second, *later = plan.write().splitlines(keepends=True)
+    changes = {
+        "its last line, which has the number of its parts, is missing": [head, first, second, later[0]],
+        "the number of its parts, is missing": [head, first, *later],
+        "part 2 has bytes 0 to 3600 of sorted, after byte 3600": [head, first, first, *later],
+        "part 2 has bytes 7200 to 3600 of sorted": [head, first, "[[7200, 3600]]\n", *later],
+        "its parts end at byte 18000 of sorted, which has 17999": [head.replace("18000", "17999"), first, second, *later],
+        "its parts end at byte 0 of sorted": [head, *["[[0, 0]]\n"] * 5, later[-1]],
+        "not a plan of ptext-parts, or not all of it": [head, first, second[:-3]],
+        "changed.plan: not a plan of ptext-parts": [head, *["[]\n"] * 5, later[-1]],
+    }
+    wrong = []
+    for wanted, lines in changes.items():
+        write_file("changed.plan", "".join(lines).encode())
+        wrong += fails(wanted, "run", "changed.plan", "1")
+        wrong += fails(wanted, "run", "changed.plan", "1", "empty")
+        wrong += fails(wanted, "whole", "changed.plan", "five", "result.bad")
+    return wrong
+
+
 def check_failures():
     """Each failure has a message and a status that is not 0, and leaves no result."""
     os.mkdir("empty")
@@ -193,6 +219,7 @@ def check_failures():
     wrong += fails("none: No such file", "plan", "5", "cut", "-c", "1", "none")
     wrong += fails("empty: not a regular file", "plan", "5", "cut", "-c", "1", "empty")
     wrong += fails("not a plan of ptext-parts", "run", "sorted", "1")
+    wrong += check_changed_plans()
     write_file("disorder", b"a\n")
     wrong += fails("disorder: it has changed since it was cut", "run", "folder.plan", "1", "empty")
     os.remove("disorder")
