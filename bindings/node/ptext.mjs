@@ -1,9 +1,11 @@
 // cut, paste, join, comm, uniq and tr for node, by the proved library as WebAssembly. ptext.d.ts describes its calls.
 import fs from "node:fs";
 import { Worker } from "node:worker_threads";
-import { MEMORY, PIECE, Ptext, bytesOf, checkWords, isBytes, joined, readerOf } from "./module.mjs";
+import { checkOptions, checkStatus, mapOf } from "./checks.mjs";
+import { PIECE, Ptext, bytesOf, checkWords, isBytes, joined, readerOf } from "./module.mjs";
 
-const at = (name) => new URL(name, import.meta.url);
+export { PtextError } from "./checks.mjs";
+
 /** How many modules and threads that have ended their run are kept for the next one. */
 const KEPT = 4;
 
@@ -12,17 +14,8 @@ const modules = [], threads = [];
 
 /** The compiled module, which all threads share. */
 function compile() {
-    compiled ??= new WebAssembly.Module(fs.readFileSync(at("ptext.wasm")));
+    compiled ??= new WebAssembly.Module(fs.readFileSync(new URL("./ptext.wasm", import.meta.url)));
     return compiled;
-}
-
-/** A command has ended with a status that is not 0. */
-export class PtextError extends Error {
-    constructor(status, messages, out, unknown) {
-        const lacking = unknown.map((it) => JSON.stringify(it)).join(", ");
-        super(messages.trimEnd() + (lacking && ` (\`files\` has no ${lacking}: no file is opened by its name)`));
-        Object.assign(this, { name: "PtextError", status, messages, out, unknown });
-    }
 }
 
 // ---- inputs
@@ -36,12 +29,8 @@ const unheard = () => {};
 /** The inputs of a command: standard input, and the files by their names. */
 class Inputs {
     constructor(stdin, files, kinds) {
-        if (typeof files !== "object" || files === null) {
-            throw new TypeError("files has to be an object or a Map, with inputs by their names");
-        }
         this.stdin = stdin;
-        // (An object has names of its own kind, as `constructor`, which are no files.)
-        this.files = files instanceof Map ? files : new Map(Object.entries(files));
+        this.files = mapOf(files);
         this.kinds = kinds;
         this.taken = new Set();
         this.#check("stdin", stdin);
@@ -119,13 +108,6 @@ export function names(words) {
     return withModule(undefined, (module) => module.names(words));
 }
 
-/** Throws unless this is a limit of memory, or none. */
-function checkMemory(memory) {
-    if (memory !== undefined && !(typeof memory === "number" && memory >= 0)) {
-        throw new TypeError("memory has to be a number of bytes");
-    }
-}
-
 /** Calls a function with a module that is in no other call. */
 function withModule(memory, call) {
     const module = (memory === undefined && modules.pop()) || new Ptext(compile(), memory);
@@ -137,8 +119,9 @@ function withModule(memory, call) {
     }
 }
 
-export function run(words, { stdin = "", files = {}, memory, write } = {}) {
-    checkMemory(memory);
+export function run(words, options = {}) {
+    checkOptions(options, ["stdin", "files", "memory", "write"]);
+    const { stdin = "", files = {}, memory, write } = options;
     const inputs = new Inputs(stdin, files, SYNC), out = [], iterators = [];
     const open = (name) => {
         if (name !== null && !inputs.has(name)) return null;
@@ -156,18 +139,11 @@ export function run(words, { stdin = "", files = {}, memory, write } = {}) {
     try {
         const did = withModule(memory, (module) => module.run(words, open, take));
         const whole = joined(out);
-        check(did, inputs, whole);
+        checkStatus(did, inputs.files, whole);
         return write ? undefined : whole;
     } finally {
         for (const it of iterators) it.return();
     }
-}
-
-/** Throws what a status other than 0 means. */
-function check({ status, messages, read }, inputs, out) {
-    if (!status) return;
-    const unknown = status === 1 ? [...new Set(read)].filter((name) => !inputs.has(name)) : [];
-    throw new PtextError(status, new TextDecoder().decode(messages), out, unknown);
 }
 
 // ---- in a thread of its own, which waits for inputs and for whoever reads the output
@@ -180,7 +156,8 @@ class Thread {
         // (With little room for what is new, the buffers that a run leaves are collected soon.)
         const resourceLimits = { maxYoungGenerationSizeMb: 1 }, workerData = { module: compile(), shared: this.shared };
         // (Options of the process, as `--input-type`, are not for this script.)
-        this.worker = new Worker(at("worker.mjs"), { workerData, resourceLimits, execArgv: [] });
+        const how = { workerData, resourceLimits, execArgv: [] };
+        this.worker = new Worker(new URL("./worker.mjs", import.meta.url), how);
         this.worker.unref();
         this.worker.on("message", (step) => this.good(step));
         this.worker.on("error", (error) => this.#died(error));
@@ -266,7 +243,7 @@ class Running {
         else this.thread.worker.terminate();
         this.thread = null;
         this.close();
-        check(ended, this.inputs, new Uint8Array(0));
+        checkStatus(ended, this.inputs.files, new Uint8Array(0));
         return null;
     }
 
@@ -279,9 +256,13 @@ class Running {
     }
 }
 
-export function stream(words, { stdin = "", files = {}, memory } = {}) {
+/** Ends the command of a stream that nobody has any more. (A command has no reference to its stream.) */
+const dropped = new FinalizationRegistry((running) => running.close());
+
+export function stream(words, options = {}) {
+    checkOptions(options, ["stdin", "files", "memory"]);
+    const { stdin = "", files = {}, memory } = options;
     checkWords(words);
-    checkMemory(memory);
     // (The thread gets the words at the first read. They may be changed until then.)
     const running = new Running([...words], new Inputs(stdin, files, ASYNC), memory);
     const pull = async (controller) => {
@@ -289,5 +270,7 @@ export function stream(words, { stdin = "", files = {}, memory } = {}) {
         if (piece) controller.enqueue(piece);
         else controller.close();
     };
-    return new ReadableStream({ pull, cancel: () => running.close() }, { highWaterMark: 0 });
+    const made = new ReadableStream({ pull, cancel: () => running.close() }, { highWaterMark: 0 });
+    dropped.register(made, running);
+    return made;
 }

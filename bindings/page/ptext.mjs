@@ -362,6 +362,8 @@ export function checkWords(words) {
         throw new TypeError("words are a list of strings, as ['cut', '-f', '1']");
     }
     if (words.some((it) => it.includes("\0"))) throw new Error("a word contains byte 0");
+    // (As UTF-8 it would be another character.)
+    if (words.some((it) => /\p{Surrogate}/u.test(it))) throw new Error("a word contains half a surrogate pair");
 }
 
 /** Each word, and byte 0 after it. */

@@ -297,7 +297,7 @@ def make_page(wasm):
 def make_package(wasm):
     """The package for node, in build/node."""
     made = f"{TOP}/build/node"
-    for name in ("ptext.mjs", "worker.mjs", "ptext.d.ts"):
+    for name in ("ptext.mjs", "checks.mjs", "worker.mjs", "ptext.d.ts"):
         put(f"{TOP}/bindings/node/{name}", f"{made}/{name}")
     put(f"{TOP}/bindings/page/ptext.mjs", f"{made}/module.mjs")
     put(wasm, f"{made}/ptext.wasm")

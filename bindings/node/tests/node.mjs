@@ -86,6 +86,8 @@ const three = { stdin: "1\n", files: { a: "2\n", b: "3\n" } };
 is("files of an object", text(run(["paste", "-", "b", "a"], three)), "1\t3\t2\n");
 const twice = await all(stream(["paste", "f", "f"], { files: { f: url } }));
 is("a file that is named twice", twice, "1,ann\t1,ann\n2,bob\t2,bob\n");
+const blob = { f: new Blob(["1\n", "2\n"]) };
+is("a Blob that is named twice", await all(stream(["paste", "f", "f"], { files: blob })), "1\t1\n2\t2\n");
 is("names", names(["uniq", "a", "b"]), { read: ["a"], output: "b" });
 is("an output file", text(run(["uniq", "a", "b"], { files: { a: "x\nx\n" } })), "x\n");
 
@@ -100,6 +102,8 @@ for (const call of [(words, options) => run(words, options), (words, options) =>
         ["constructor"]]);
     const tooLong = { stdin: "x".repeat(10 ** 6), memory: 10 ** 5 };
     is("too little memory", (await thrown(() => call(["uniq"], tooLong))).status, 4);
+    is("a limit", text(Buffer.from(await call(["uniq"], { stdin: "a\n", memory: 10 ** 5 }))), "a\n");
+    is("it is only of its own call", (await call(["uniq"], { stdin: tooLong.stdin })).length, 10 ** 6 + 1);
     for (const memory of [NaN, "1", null, -1]) {
         is(`memory is refused: ${memory}`, (await thrown(() => call(["uniq"], { memory }))).name, "TypeError");
     }
@@ -118,6 +122,16 @@ for (const call of [(words, options) => run(words, options), (words, options) =>
             "words are a list of strings, as ['cut', '-f', '1']");
     }
     is("a piece is refused", (await thrown(() => call(["uniq"], { stdin: pieces("a", 7) }))).name, "TypeError");
+    for (const name of ["stdIn", "file", "Memory"]) {
+        const refused = await thrown(() => call(["uniq"], { [name]: "a" }));
+        is(`an unknown option: ${name}`, [refused.name, refused.message.split(":")[0]],
+            ["TypeError", `there is no option ${name}`]);
+    }
+    for (const word of ["\ud83d", "a\udca9b", "\udca9\ud83d"]) {
+        is(`half a pair in a word: ${JSON.stringify(word)}`, (await thrown(() => call(["tr", "a", word]))).message,
+            "a word contains half a surrogate pair");
+    }
+    is("a pair in a word", text(Buffer.from(await call(["uniq", "💩"], { files: { "💩": "a\n" } }))), "a\n");
     is("byte 0 in a word", (await thrown(() => call(["cut\0"]))).message, "a word contains byte 0");
     const none = new URL("none", url);
     is("a file that does not exist", (await thrown(() => call(["uniq"], { stdin: none }))).code, "ENOENT");
@@ -206,6 +220,37 @@ const lent = new Blob(["a\n"]).stream();
 for await (const it of stream(["uniq"], { stdin: lent })) void it;
 is("a stream that was read is not locked", lent.locked, false);
 
+// ---- a call that ends before its inputs do closes them: files, and iterators
+const isOpen = () => fs.readdirSync("/proc/self/fd").some((it) => {
+    try {
+        return fs.readlinkSync(`/proc/self/fd/${it}`) === `${room}/long`;
+    } catch {
+        return false;
+    }
+});
+fs.writeFileSync(`${room}/long`, large);
+const long = pathToFileURL(`${room}/long`);
+let ends = 0;
+function* counted(...given) {
+    try {
+        yield* given;
+    } finally {
+        ends++;
+    }
+}
+run(["cut", "-b", "1"], { stdin: long });
+is("a file that was read is closed", isOpen(), false);
+const stops = { write: () => {
+    throw new Error("enough");
+} };
+is("output that is not taken", (await thrown(() => run(["uniq"], { stdin: long, ...stops }))).message, "enough");
+await thrown(() => run(["comm", "f", "g"], { files: { f: long, g: counted("b\n", "a\n", large, large) } }));
+await thrown(() => run(["uniq"], { stdin: counted(large, large), ...stops }));
+is("a file of a run that ended early is closed, and iterators", [isOpen(), ends], [false, 2]);
+for await (const piece of stream(["paste", "-", "f"], { stdin: long, files: { f: counted(large, large) } })) break;
+await new Promise((after) => setTimeout(after, 100));
+is("a file of a stream that ended early is closed, and iterators", [isOpen(), ends], [false, 3]);
+
 // ---- a Readable that fails before it is read: its error comes through if it is read, and else it is nobody's
 const missing = () => fs.createReadStream(new URL("none", url));
 for (const words of [["uniq"], ["paste", "f", "-"]]) {
@@ -270,8 +315,47 @@ const refused = spawnSync("node", ["--input-type=module", "-e", refusing], { tim
 is("a process goes on after words that are refused", [refused.status, text(refused.stdout), text(refused.stderr)],
     [0, "TypeError TypeError Error a\nend", ""]);
 
-// ---- a thread that died, while it was kept or while it ran a command
-const dying = `import { createRequire, syncBuiltinESMExports } from "node:module";
+// ---- a stream that is dropped ends its command, whose thread and files go with it
+const dropping = `import fs from "node:fs";
+    import { stream } from ${JSON.stringify(entry)};
+    const stdin = new URL(${JSON.stringify(long)});
+    const counts = () => ["task", "fd"].map((it) => fs.readdirSync("/proc/self/" + it).length);
+    const first = async () => {
+        const reader = stream(["tr", "a", "b"], { stdin }).getReader();
+        await reader.read();
+        return reader;
+    };
+    const pause = () => new Promise((after) => setTimeout(after, 20));
+    const collected = async (wanted) => {
+        for (let turn = 0; turn < 200 && counts().some((it, index) => it > wanted[index]); turn++) {
+            gc();
+            await pause();
+        }
+        return counts();
+    };
+    await (await first()).cancel();
+    for (let turn = 0; turn < 20; turn++) await pause();
+    const before = counts();
+    for (let count = 0; count < 40; count++) await first();
+    const grown = counts(), after = await collected(before);
+    process.stdout.write(JSON.stringify([grown.every((it, index) => it > before[index]), after, before]));`;
+const dropped = spawnSync("node", ["--expose-gc", "--input-type=module", "-e", dropping], { timeout: 120000 });
+const [hasGrown, left, wasThere] = JSON.parse(text(dropped.stdout) || "[]");
+is("40 streams that are dropped", [hasGrown, left?.every((it, index) => it <= wasThere[index]), text(dropped.stderr)],
+    [true, true, ""]);
+
+// ---- by pipeline, the documented way, a slow reader of standard output keeps the memory small
+const piping = `import { pipeline } from "node:stream/promises";
+    import { stream } from ${JSON.stringify(entry)};
+    const stdin = (function* () { for (let count = 0; count < 300; count++) yield "0123456789\\n".repeat(10 ** 5); })();
+    await pipeline(stream(["tr", "5", "x"], { stdin }), process.stdout);
+    process.stderr.write(String(process.resourceUsage().maxRSS < 2 ** 18));`;
+const slow = ["-c", 'node --input-type=module -e "$1" | { sleep 2; tail -c 5; }', "sh", piping];
+const piped = spawnSync("sh", slow, { timeout: 60000 });
+is("a pipeline", [text(piped.stdout), text(piped.stderr)], ["6789\n", "true"]);
+
+// ---- a thread that died, while it was kept or while it ran a command; and one that has much memory is not kept
+const counting = `import { createRequire, syncBuiltinESMExports } from "node:module";
     const threads = createRequire("/")("node:worker_threads"), { Worker } = threads, made = [];
     threads.Worker = class extends Worker {
         constructor(...given) {
@@ -280,7 +364,8 @@ const dying = `import { createRequire, syncBuiltinESMExports } from "node:module
         }
     };
     syncBuiltinESMExports();
-    const { stream } = await import(${JSON.stringify(entry)});
+    const { stream } = await import(${JSON.stringify(entry)});`;
+const dying = `${counting}
     const all = async (stdin) => {
         let found = "";
         for await (const it of stream(["uniq"], { stdin })) found += Buffer.from(it);
@@ -297,6 +382,15 @@ const dying = `import { createRequire, syncBuiltinESMExports } from "node:module
 const died = spawnSync("node", ["--input-type=module", "-e", dying], { timeout: 60000 });
 is("threads that died", [text(died.stdout), text(died.stderr)],
     ['["a\\n","b\\n","the thread of the command has ended","d\\n",3]', ""]);
+const keeping = `${counting}
+    const counts = [];
+    for (const size of [1, 1, 4 * 10 ** 7, 1]) {
+        for await (const it of stream(["uniq"], { stdin: ["x".repeat(size)] }));
+        counts.push(made.length);
+    }
+    process.stdout.write(JSON.stringify(counts));`;
+const kept = spawnSync("node", ["--input-type=module", "-e", keeping], { timeout: 60000 });
+is("threads that are made", [text(kept.stdout), text(kept.stderr)], ["[1,1,1,2]", ""]);
 
 // ---- the package: npm's files, the licenses, and the types
 const about = JSON.parse(fs.readFileSync(`${folder}/package.json`));
