@@ -50,8 +50,7 @@ pub fn copy_all(bytes: &[u8], into: &mut [u8], at: usize)
     }
 }
 
-// Copies any number of bytes. Out of line, so that few are copied without a call (`cut -c 3-,1` of a log: 3.0
-// instructions a byte for 3.2).
+// Copies any number of bytes. Out of line, so that few are copied without a call (`cut -c 3-,1`).
 #[inline(never)]
 fn copy_long(bytes: &[u8], into: &mut [u8], at: usize)
     requires { at + length bytes.now ≤ length into.old }

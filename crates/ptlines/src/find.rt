@@ -105,7 +105,7 @@ fn find_overlapping<const N: usize>(byte: u8, bytes: &[u8]) -> Option<usize>
     }
 }
 
-// Searches fewer than 16 bytes. Out of line (`uniq -f 3` of a log: 216 instructions a line for 240).
+// Searches fewer than 16 bytes. Out of line (`uniq -f 3`).
 #[inline(never)]
 fn find_short(byte: u8, bytes: &[u8]) -> Option<usize>
     requires { length bytes.now < 16 }

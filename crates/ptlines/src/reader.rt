@@ -322,7 +322,7 @@ impl<S: Source, R: Source> LineReader<S, R> {
     }
 
     // Copies the next line to a slot piece by piece, wherever its terminator is. It has the contract of `fill`. Out
-    // of line (`join`: 256 instructions a line for 282).
+    // of line (`join`).
     #[inline(never)]
     fn fill_slow<A: Allocator + Copy>(
         &mut self,

@@ -48,8 +48,7 @@ fn is_equal_long(a: &[u8], b: &[u8]) -> bool
 }
 
 // Whether two slices of one length, from `N` to `2 * N`, are equal: their first `N` bytes, and their last. It has no
-// loop, which would keep an index of the last bytes in a register (`uniq` of a dictionary: 4.5 instructions a byte for
-// 5.0).
+// loop, which would keep an index of the last bytes in a register (`uniq` of a dictionary).
 fn is_equal_short<const N: usize>(a: &[u8], b: &[u8]) -> bool
     requires lanes { N ≤ 64 }
     requires size { (N ≤ length a.now) × (length a.now ≤ N + N) × (length a.now ≡ length b.now) }

@@ -122,7 +122,7 @@ fn filter_tail<T: ByteTest>(
 }
 
 // Appends the bytes that are kept, 64 at a time. Returns the new count. Inlined, since bytes that are compared with
-// themselves need no comparison (`tr -d 0-9` of a log: 2.5 instructions a byte for 2.8).
+// themselves need no comparison (`tr -d 0-9`).
 #[inline(always)]
 fn filter_pairs<T: ByteTest>(
     by: &Filter<T>,

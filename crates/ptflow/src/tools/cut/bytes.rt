@@ -47,7 +47,7 @@ struct BlockEnd {
 
 impl Selection<'_> {
     // Copies the selected bytes among the first `count` bytes of a line. Returns the index after the copied bytes. Out
-    // of line, to keep registers free in the copy of most lines (`cut -c 2-4`: 3.4 instructions a byte for 4.6).
+    // of line, to keep registers free in the copy of most lines (`cut -c 2-4`).
     #[inline(never)]
     fn copy_selected(&self, block: &[u8], line: Line, count: usize, into: &mut PaddedBlock) -> usize
         requires within { line.start + count ≤ length block.now }
@@ -102,8 +102,7 @@ impl Selection<'_> {
     }
 
     // Copies the selected bytes of a line, which is the first `count` bytes, piece by piece. Returns the index after
-    // the copied bytes. Out of line, to keep registers free in the copy of short lines (`cut -c 2-4`: 3.4
-    // instructions a byte for 4.1).
+    // the copied bytes. Out of line, to keep registers free in the copy of short lines (`cut -c 2-4`).
     #[inline(never)]
     fn copy_pieces(&self, line: &[u8], count: usize, into: &mut PaddedBlock, mut at: usize) -> usize
         requires few { count ≤ self.now.shuffles.max_len }
@@ -137,7 +136,7 @@ impl Selection<'_> {
         let bytes = &block[line.start..];
         let is_short = count <= 16;
         let end = if line.line_offset > 0 || !is_short && count > self.shuffles.max_len {
-            // A copy, so that the line stays in registers elsewhere (`cut -c 2-4`: 3.1 instructions a byte for 3.4).
+            // A copy, so that the line stays in registers elsewhere (`cut -c 2-4`).
             let line = line;
             self.copy_selected(block, line, count, into)
         } else if is_short {

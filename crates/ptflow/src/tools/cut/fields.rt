@@ -120,7 +120,7 @@ fn write_fields<A: Allocator + Copy, W: Sink>(
 }
 
 // A job that selects fields, and the terminator. The delimiter is beside the job, not read through it
-// (`cut -d ' ' -f 2,5` of a log: 3.6 instructions a byte for 3.7).
+// (`cut -d ' ' -f 2,5`).
 #[derive(Drop)]
 struct FieldSelection<'a, A: Allocator> {
     job: &'a CutJob<A>,
@@ -327,8 +327,7 @@ impl<'a, A: Allocator + Copy> LineFilter for FieldCut<'a, A> {
         _store: &Store<B>,
         out: &mut Out<W>,
     ) -> Result<usize, WriteFault> {
-        // A copy, so that the loop does not read the fields through `self` (`cut -d ' ' -f 2,5` of a log: 3.6 instructions
-        // a byte for 3.8).
+        // A copy, so that the loop does not read the fields through `self` (`cut -d ' ' -f 2,5`).
         let selection = FieldSelection {
             job: self.selection.job,
             delim: self.selection.delim,

@@ -20,8 +20,7 @@ use std::simd::prelude::*;
 
 // Copies the next line of a reader to `at` and consumes it, if it ends within the next `N` bytes: the vector that is
 // searched for the terminator is stored as it is. Returns the offset after the copy. The line is consumed before the
-// vector is stored, so that the position of the reader is not loaded again (`paste` of 2 files: 44.9 instructions a
-// line for 45.9).
+// vector is stored, so that the position of the reader is not loaded again (`paste` of 2 files).
 #[inline(always)]
 fn copy_line_in<const N: usize, S: Source, R: Source>(
     terminator: u8,
@@ -49,8 +48,7 @@ fn copy_line_in<const N: usize, S: Source, R: Source>(
 }
 
 // Like `copy_line_in`, for a line of any length, with fast paths for lines of at most 63 bytes; `None` if it is not
-// complete in the buffer or does not fit. Out of line, so that the loop over columns is short (`paste` of 2 files:
-// 44.9 instructions a line for 51.2).
+// complete in the buffer or does not fit. Out of line, so that the loop over columns is short (`paste` of 2 files).
 #[inline(never)]
 fn copy_line_long<S: Source, R: Source>(
     terminator: u8,
@@ -224,8 +222,7 @@ fn copy_rows_by<S: Source, R: Source>(
     }
 }
 
-// Copies rows like `copy_rows`, by all segments that begin a row. Out of line (`paste` of 50 files: 44.2 instructions a
-// line for 45.1).
+// Copies rows like `copy_rows`, by all segments that begin a row. Out of line (`paste` of 50 files).
 #[inline(never)]
 fn copy_rows_by_segments<S: Source, R: Source>(
     row: RowFormat,
