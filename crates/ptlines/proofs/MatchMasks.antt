@@ -37,11 +37,6 @@ module _ (P : ℕ → Type 0) where
   pub nowhere_trans : (i j k : ℕ) → Nowhere P i j → Nowhere P j k → Nowhere P i k
   nowhere_trans = grind arith
 
-  -- nothing matches before `later`, so a search from `j` finds the first match from `i` on
-  pub first_after : (i j k later : ℕ) (r : Option ℕ) → i ≤ j → j ≤ later → Nowhere P i later → IsFirst P j k r
-      → IsFirst P i k r
-  first_after = grind arith
-
 -- If there is no match among the first bytes, the first match is that among the bytes after them.
 module _ (test : ℕ → Bool) (hay : List ℕ) (size : ℕ) (none : Nowhere (Passes test hay) 0 size) where
   there : (k : ℕ) → size ≤ k → Passes test hay k → Passes test (drop size hay) (k - size)

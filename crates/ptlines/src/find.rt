@@ -126,7 +126,6 @@ fn find_short(byte: u8, bytes: &[u8]) -> Option<usize>
 
 // Searches the first 64 bytes, of which the first 16 have no match.
 #[inline(always)]
-#[tactic(auto, using(crate::proofs::MatchMasks::first_after))]
 fn find_after_16(byte: u8, bytes: &[u8]) -> Option<usize>
     requires none { Nowhere (Passes (is_byte byte) bytes.now) 0 16 }
     requires long { 64 ≤ length bytes.now }
