@@ -12,7 +12,7 @@ use ptlines::{BLOCK, PaddedBlock};
 use std::simd::prelude::*;
 
 // The most removed bytes of 64 for which those after each are copied again.
-const FEW: u32 = 4;
+const FEW: u32 = 3;
 
 /// The set of the bytes that may be removed, and the table for compression.
 #[derive(Clone, Copy)]
