@@ -24,6 +24,8 @@ from project import TOP, Failed, find_below, read_text, read_uses, run_script
 WITHOUT_EDIT = {
     "ptfiles::Calls::new": "only contracts read the record that it returns",
     "ptfiles::Calls::with": "only contracts read the record that it returns",
+    "ptfiles::GhostBytes::new": "only contracts read the bytes that it returns",
+    "ptfiles::GhostBytes::with": "only contracts read the bytes that it returns",
 }
 
 # How many wrong bodies there are in must-fail, which the gate tries, and in must-fail-release.

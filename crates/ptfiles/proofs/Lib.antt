@@ -7,3 +7,4 @@ pub mod Runs
 pub mod StreamLemmas
 pub mod WordLemmas
 mod CallsMade
+mod GhostBytesMade

@@ -1,6 +1,6 @@
--- A run that is given a file returns a file: no file has the state of a closed sink. And what is said of the state of an
--- output holds of the file itself.
-use Rattle.std.proofs.Common.{◌≡◌, ℕ, false, List, [], ◌∷◌, Option, Some, None, ap, sym, ◌∙◌, refl, option_map}
+-- A run that is given a target returns the same one, by the marks of their states. And what is said of a marked state
+-- holds of the sink itself.
+use Rattle.std.proofs.Common.{◌≡◌, ℕ, suc, Bool, false, List, [], ◌∷◌, Option, Some, None, ap, sym, ◌∙◌, refl, subst}
 use Rattle.std.specs.Io.KnownBytes.{append_known}
 use Rattle.ptlines.specs.Readers.{Reader}
 use Rattle.ptlines.specs.Sinks.{SinkState}
@@ -10,74 +10,115 @@ use Rattle.ptrun.specs.Files.{ReceivedInputs}
 use Rattle.ptflow.specs.declared.faults.FlowFault.{FlowFault}
 use Rattle.ptrun.specs.Runs.{Outcome, IsRun, IsRunInStore, IsExactUnlessFailed, IsUnchangedIfUnread, RunEnd, sinks}
 use Rattle.ptfiles.specs.Outputs.{closed_state}
-use Rattle.ptfiles.specs.Calls.Outputs.{file_of_output}
-use Rattle.ptfiles.specs.Private.Outputs.{mark, output_state}
-use Rattle.ptfiles.specs.declared.output.Output.{Output as code}
-use Rattle.ptfiles.specs.declared.output.Output.TheVariants.{File, Closed}
+use Rattle.ptfiles.specs.Private.Outputs.{IsStandard, known_or, mark, output_state, target_state}
+use Rattle.ptfiles.specs.declared.output.Output.{Output}
+use Rattle.ptfiles.specs.declared.output.Target.{Target}
+use Rattle.ptfiles.specs.declared.output.Target.TheVariants as to
 
-tail_of : List ℕ → List ℕ
-tail_of [] = []
-tail_of (b ∷ bytes) = bytes
+-- ---- marks
+
+known_of : Option (List ℕ) → Option (List ℕ)
+known_of (Some (kind ∷ suc n ∷ bytes)) = Some bytes
+known_of bytes = None
 
 unmark : SinkState → SinkState
-unmark s = record s { accepted = option_map tail_of s.accepted }
+unmark s = record s { accepted = known_of s.accepted }
 
-unmark_mark : (s : SinkState) → unmark (mark s) ≡ s
-unfolding unmark tail_of
-unmark_mark s = λ i. record s { accepted = by_bytes s.accepted i }
+unmark_mark : (kind : ℕ) (written : List ℕ) (s : SinkState) → unmark (mark kind written s) ≡ s
+unfolding unmark known_of
+unmark_mark kind written s = λ i. record s { accepted = by_bytes s.accepted i }
   where
-    by_bytes : (known : Option (List ℕ)) → option_map tail_of (option_map (λ bytes. 1 ∷ bytes) known) ≡ known
+    by_bytes : (known : Option (List ℕ)) → known_of (Some (kind ∷ known_or written known)) ≡ known
     by_bytes None = refl
     by_bytes (Some bytes) = refl
 
-pub marks_are_equal : (a b : SinkState) → mark a ≡ mark b → a ≡ b
-marks_are_equal a b same = sym (unmark_mark a) ∙ ap unmark same ∙ unmark_mark b
+pub marks_are_equal : (kind : ℕ) (written after : List ℕ) (a b : SinkState) → mark kind after a ≡ mark kind written b
+    → a ≡ b
+marks_are_equal kind written after a b same =
+    sym (unmark_mark kind after a) ∙ ap unmark same ∙ unmark_mark kind written b
 
--- bytes that were added after those of a file, with its mark before them, were added to the file
-added_to_file : (old new : Option (List ℕ)) (bytes : List ℕ)
-    → option_map (λ l. 1 ∷ l) new ≡ append_known (option_map (λ l. 1 ∷ l) old) bytes → new ≡ append_known old bytes
-added_to_file None None bytes is = refl
-added_to_file None (Some new) bytes is = cc
-added_to_file (Some old) None bytes is = cc
-added_to_file (Some old) (Some new) bytes is = cc
+-- bytes that were added behind a mark were added to the sink
+added_behind : (kind : ℕ) (written after : List ℕ) (old new : Option (List ℕ)) (bytes : List ℕ)
+    → Some (kind ∷ known_or after new) ≡ append_known (Some (kind ∷ known_or written old)) bytes
+    → new ≡ append_known old bytes
+added_behind kind written after None None bytes is = refl
+added_behind kind written after None (Some new) bytes is = cc
+added_behind kind written after (Some old) None bytes is = cc
+added_behind kind written after (Some old) (Some new) bytes is = cc
 
-pub file_returned : {F : Type 0} (of_file : F → SinkState) (output : code F) (old : SinkState) (bytes : List ℕ)
-    → (output_state of_file output).accepted ≡ append_known (mark old).accepted bytes
-    → (file : F) × (output ≡ File file)
-file_returned of_file (File file) old bytes is = (file, refl)
-file_returned of_file (Closed failed) old bytes is = absurd (by_known old.accepted is)
+pub new_state : {W F : Type 0} (of_out : W → SinkState) (of_file : F → SinkState) (output : Output W F)
+    {target : Target W F} → output.target ≡ target → output.written.items ≡ []
+    → output_state of_out of_file output ≡ target_state of_out of_file target []
+new_state of_out of_file output is none = λ i. target_state of_out of_file (is i) (none i)
+
+-- ---- a run returns the target that it was given
+
+pub unused_is : {W : Type 0} {unused : Option W} {given out : W} → unused ≡ Some given → unused ≡ Some out → out ≡ given
+unused_is given out = cc
+
+pub not_none : {W : Type 0} {unused : Option W} {given : W} → unused ≡ Some given → unused ≡ None → ⊥
+not_none given none = cc
+
+module _ {W F : Type 0} (of_out : W → SinkState) (of_file : F → SinkState) (target : Target W F) (after bytes : List ℕ)
   where
-    by_known : (known : Option (List ℕ)) → Some (0 ∷ []) ≡ append_known (option_map (λ l. 1 ∷ l) known) bytes → ⊥
-    by_known None is = cc
-    by_known (Some l) is = cc
+    pub standard_returned : (written : List ℕ) (old : SinkState)
+        → (target_state of_out of_file target after).accepted ≡ append_known (mark 2 written old).accepted bytes
+        → (out : W) × (target ≡ to.Standard out)
+    standard_returned written old is = by_target target is
+      where
+        by_target : (t : Target W F)
+            → (target_state of_out of_file t after).accepted ≡ append_known (mark 2 written old).accepted bytes
+            → (out : W) × (t ≡ to.Standard out)
+        by_target (to.Standard out) is = (out, refl)
+        by_target (to.File file) is = cc
+        by_target (to.Nowhere failed) is = cc
 
-pub no_file_returned : {F : Type 0} (of_file : F → SinkState) (output : code F) (bytes : List ℕ)
-    → (output_state of_file output).accepted ≡ append_known (closed_state false).accepted bytes
-    → file_of_output output ≡ None
-no_file_returned of_file (Closed failed) bytes is = refl
-no_file_returned of_file (File file) bytes is = absurd (by_known (of_file file).accepted is)
-  where
-    by_known : (known : Option (List ℕ)) → option_map (λ l. 1 ∷ l) known ≡ append_known (Some (0 ∷ [])) bytes → ⊥
-    by_known None is = cc
-    by_known (Some l) is = cc
+    pub returns_standard : {first : SinkState} (written : List ℕ) (old : SinkState) → first ≡ mark 2 written old
+        → (target_state of_out of_file target after).accepted ≡ append_known first.accepted bytes → IsStandard target
+    returns_standard written old first is =
+        subst IsStandard (sym (standard_returned written old (rw first at is)).1) tt
 
--- ---- a run that is given the state of an output is one that is given the file
+    pub file_returned : (written : List ℕ) (old : SinkState)
+        → (target_state of_out of_file target after).accepted ≡ append_known (mark 1 written old).accepted bytes
+        → (file : F) × (target ≡ to.File file)
+    file_returned written old is = by_target target is
+      where
+        by_target : (t : Target W F)
+            → (target_state of_out of_file t after).accepted ≡ append_known (mark 1 written old).accepted bytes
+            → (file : F) × (t ≡ to.File file)
+        by_target (to.Standard out) is = cc
+        by_target (to.File file) is = (file, refl)
+        by_target (to.Nowhere failed) is = cc
 
-module _ (m : CommandSpec) (old new : List Reader) (messages : SinkState) (s s' : SinkState) (o : Outcome) where
-  stopped : (received : ReceivedInputs) (written message : List ℕ) (done : ℕ) (fault : Option FlowFault)
-      → RunEnd m received old new written message (record o { out = mark s' }) done fault
-      → RunEnd m received old new written message (record o { out = s' }) done fault
-  stopped received written message done None ends = ends
-  stopped received written message done (Some fault) ends =
+    pub nowhere_returned : (target_state of_out of_file target after).accepted
+        ≡ append_known (closed_state false).accepted bytes → (failed : Bool) × (target ≡ to.Nowhere failed)
+    nowhere_returned is = by_target target is
+      where
+        by_target : (t : Target W F)
+            → (target_state of_out of_file t after).accepted ≡ append_known (closed_state false).accepted bytes
+            → (failed : Bool) × (t ≡ to.Nowhere failed)
+        by_target (to.Standard out) is = cc
+        by_target (to.File file) is = cc
+        by_target (to.Nowhere failed) is = (failed, refl)
+
+-- ---- a run that is given a marked sink is one that is given the sink
+
+module _ (kind : ℕ) (written after : List ℕ) (m : CommandSpec) (old new : List Reader) (messages : SinkState)
+    (s s' : SinkState) (o : Outcome) where
+  stopped : (received : ReceivedInputs) (pushed message : List ℕ) (done : ℕ) (fault : Option FlowFault)
+      → RunEnd m received old new pushed message (record o { out = mark kind after s' }) done fault
+      → RunEnd m received old new pushed message (record o { out = s' }) done fault
+  stopped received pushed message done None ends = ends
+  stopped received pushed message done (Some fault) ends =
       record { within = ends.within; messages = ends.messages; cause = ends.cause; status_is = ends.status_is }
 
-  run_of_mark : IsRun m old new (sinks (mark s) messages) (record o { out = mark s' })
+  is_run_behind : IsRun m old new (sinks (mark kind written s) messages) (record o { out = mark kind after s' })
       → IsRun m old new (sinks s messages) (record o { out = s' })
-  run_of_mark r = record {
+  is_run_behind r = record {
     received = r.received;
     came = r.came;
     written = r.written;
-    output = added_to_file s.accepted s'.accepted r.written r.output;
+    output = added_behind kind written after s.accepted s'.accepted r.written r.output;
     flushed = r.flushed;
     flushes = r.flushes;
     message = r.message;
@@ -95,23 +136,23 @@ module _ (m : CommandSpec) (old new : List Reader) (messages : SinkState) (s s' 
     bounded = r.bounded;
   }
 
-  pub run_of_file : (lent left : Slots)
-      → IsRunInStore m old new (sinks (mark s) messages) (record o { out = mark s' }) lent left
+  pub run_behind : (lent left : Slots)
+      → IsRunInStore m old new (sinks (mark kind written s) messages) (record o { out = mark kind after s' }) lent left
       → IsRunInStore m old new (sinks s messages) (record o { out = s' }) lent left
-  unfolding run_of_mark
-  run_of_file lent left r = record { run = run_of_mark r.run; slots = r.slots }
+  unfolding is_run_behind
+  run_behind lent left r = record { run = is_run_behind r.run; slots = r.slots }
 
-  pub exact_of_file : IsExactUnlessFailed m old new (sinks (mark s) messages) (record o { out = mark s' })
+  pub exact_behind : IsExactUnlessFailed m old new (sinks (mark kind written s) messages) (record o { out = mark kind after s' })
       → IsExactUnlessFailed m old new (sinks s messages) (record o { out = s' })
-  exact_of_file exact w bytes unfailed written fits = let e = exact w bytes unfailed written fits in record {
-    out = added_to_file s.accepted s'.accepted (m.out w) e.out;
+  exact_behind exact w bytes unfailed writes fits = let e = exact w bytes unfailed writes fits in record {
+    out = added_behind kind written after s.accepted s'.accepted (m.out w) e.out;
     messages = e.messages;
     status_is = e.status_is;
     bounded = e.bounded;
   }
 
-pub unread_of_file : (m : CommandSpec) (old new : List Reader) (s s' : SinkState) (o : Outcome)
-    → IsUnchangedIfUnread m old new (mark s) (record o { out = mark s' })
+pub unread_behind : (kind : ℕ) (written after : List ℕ) (m : CommandSpec) (old new : List Reader) (s s' : SinkState)
+    (o : Outcome) → IsUnchangedIfUnread m old new (mark kind written s) (record o { out = mark kind after s' })
     → IsUnchangedIfUnread m old new s (record o { out = s' })
-unread_of_file m old new s s' o unread none =
-    let u = unread none in (u.0, (marks_are_equal s' s u.1.0, u.1.1, u.1.2))
+unread_behind kind written after m old new s s' o unread none =
+    let u = unread none in (u.0, (marks_are_equal kind written after s' s u.1.0, u.1.1, u.1.2))

@@ -6,6 +6,7 @@ use Rattle.std.proofs.Common.{All, arith, sym, ◌∙◌, ap, refl, subst, ⊎_e
 use Rattle.std.proofs.lemmas.Bool.{false≢true}
 use Rattle.std.proofs.lemmas.List.{append-nil}
 use Rattle.std.proofs.lemmas.List.Elements.{All-nil}
+use Rattle.std.specs.Io.KnownBytes.{append_known}
 use Rattle.std.specs.List.{list_any}
 use Rattle.ptopts.specs.Commands.{Command, command_of_args}
 use Rattle.ptopts.specs.Faults.{Fault}
@@ -25,8 +26,7 @@ use Rattle.ptrun.specs.Runs.{sinks}
 use Rattle.ptrun.specs.SpecOfArgs.{is_memory_fault, file_count, spec_of_args, spec_of_parsed, spec_of_result}
 use Rattle.ptrun.specs.SpecOfArgs.{spec_unless_memory, tool_name}
 use Rattle.ptfiles.specs.Files.{FilesState, Output, with_created}
-use Rattle.ptfiles.specs.Calls.Outputs.{file_of_output}
-use Rattle.ptfiles.specs.Private.Outputs.{mark, output_state}
+use Rattle.ptfiles.specs.Private.Outputs.{AreParts, mark, target_state}
 use Rattle.ptfiles.specs.Shell.{After, Before, HasRun, HasRunOver, IsDirected, IsNotCreated}
 use Rattle.ptfiles.specs.Private.Shell.{HaveOpened, OpenInputsPost}
 use Rattle.ptfiles.specs.Files.{new_readers}
@@ -34,9 +34,10 @@ use Rattle.ptfiles.specs.Outputs.{closed_state}
 use Rattle.ptfiles.specs.Shell.{RunOverFilesPost, command_to_run, input_names}
 use Rattle.ptfiles.specs.Private.Shell.{RunOverInputsPost, command_of_parsed}
 use Rattle.ptfiles.specs.Shell.{has_standard_output, name_of_output, output_names, valid_command, before}
-use Rattle.ptfiles.specs.declared.output.Output.{Output as code_output}
+use Rattle.ptfiles.specs.declared.output.Target.{Target}
 use Rattle.ptfiles.proofs.Inputs.{none_opened, opened_are_new, readers_have_bytes}
-use Rattle.ptfiles.proofs.Outputs.{exact_of_file, file_returned, run_of_file, unread_of_file}
+use Rattle.ptfiles.proofs.Outputs.{exact_behind, file_returned, nowhere_returned, run_behind, standard_returned}
+use Rattle.ptfiles.proofs.Outputs.{unread_behind}
 
 pub nothing_created : (s : FilesState) → s ≡ with_created s [] []
 nothing_created s = λ i. record {
@@ -114,38 +115,85 @@ module _ {A : Type 0} (command : Result (code.Command A) UseFault) (words : List
       store = store;
     }
 
-  -- The run was given a file that was created, and returned it.
+  -- The run was given a target in the state `first`, and `target` is the one that it returned.
   module _ (old new : List Reader) (b : Before) (a : After) (Unused : Type 0)
       (oom : a.out_of_memory ≡ is_memory_fault command) (ran : Outcome) (same : record a.outcome { out = ran.out } ≡ ran)
       (store : (a.outcome.peak ≡ a.store.peak) × (a.outcome.denied ≡ a.store.denied))
       (keeps : IsStoreUnchangedIfUnread (spec_of_parsed command words) old b.store a.store)
-      {F : Type 0} (of_file : F → SinkState) (given : F) (output : code_output F)
-      (returned : ran.out ≡ output_state of_file output) where
-    pub ran_to_file : (name : List ℕ) → has_standard_output (command_of_parsed command) ≡ false
-        → output_names (command_of_parsed command) old ≡ name ∷ []
-        → a.files ≡ with_created b.files (name ∷ []) (Some (of_file given) ∷ [])
-        → a.file ≡ option_map of_file (file_of_output output) → Unused
-        → IsRunInStore (spec_of_parsed command words) old new (sinks (mark (of_file given)) b.messages) ran b.store a.store
-        → (is_memory_fault command ≡ false
-        → IsExactUnlessFailed (spec_of_args words) old new (sinks (mark (of_file given)) b.messages) ran)
-        → IsUnchangedIfUnread (spec_of_parsed command words) old new (mark (of_file given)) ran
-        → HasRunOver words old new b a Unused
-    ran_to_file name not_standard names created file unused run exact unread =
-        let f = file_returned of_file output (of_file given) run.run.written (rw (← returned) run.run.output) in
-        let with_out : SinkState → Outcome = λ s. record ran { out = s } in
-        let to_file : Outcome → Outcome = λ o. record o { out = of_file f.0 } in
+      (first : SinkState)
+      (run : IsRunInStore (spec_of_parsed command words) old new (sinks first b.messages) ran b.store a.store)
+      (exact : is_memory_fault command ≡ false
+      → IsExactUnlessFailed (spec_of_args words) old new (sinks first b.messages) ran)
+      (unread : IsUnchangedIfUnread (spec_of_parsed command words) old new first ran)
+      {W F : Type 0} (of_out : W → SinkState) (of_file : F → SinkState) (target : Target W F) (after : List ℕ)
+      (returned : ran.out ≡ target_state of_out of_file target after) (unused : Option W) (out : W) (file : Option F)
+      (parts : AreParts target unused out file) (out_is : a.outcome.out ≡ of_out out)
+      (file_is : a.file ≡ option_map of_file file) where
+    ran_marked : (kind : ℕ) (s s' : SinkState) → first ≡ mark kind [] s → ran.out ≡ mark kind after s'
+        → (outputs : List Output) → a.files ≡ with_created b.files (output_names (command_of_parsed command) old) outputs
+        → IsDirected (has_standard_output (command_of_parsed command)) (output_names (command_of_parsed command) old) b a
+        outputs s s' Unused → HasRunOver words old new b a Unused
+    ran_marked kind s s' given left outputs created directed =
+        let with_out : SinkState → Outcome = λ t. record ran { out = t } in
+        let unmarked : Outcome → Outcome = λ o. record o { out = s' } in
         let m = spec_of_parsed command words in
-        let is : ran ≡ with_out (mark (of_file f.0)) = ap with_out (returned ∙ ap (output_state of_file) f.1) in
-        ran_over old new b a Unused oom (to_file ran) (ap to_file same) store keeps (of_file given)
-        (Some (of_file given) ∷ []) (rw names created)
-        (rw (not_standard, names) (refl, file ∙ ap (λ o. option_map of_file (file_of_output o)) f.1, unused))
-        (run_of_file m old new b.messages (of_file given) (of_file f.0) ran b.store a.store
-        (subst (λ o. IsRunInStore m old new (sinks (mark (of_file given)) b.messages) o b.store a.store) is run))
-        (λ parsed. exact_of_file (spec_of_args words) old new b.messages (of_file given) (of_file f.0) ran
-        (subst (λ o. IsExactUnlessFailed (spec_of_args words) old new (sinks (mark (of_file given)) b.messages) o) is
-        (exact parsed)))
-        (unread_of_file m old new (of_file given) (of_file f.0) ran
-        (subst (λ o. IsUnchangedIfUnread m old new (mark (of_file given)) o) is unread))
+        let is : ran ≡ with_out (mark kind after s') = ap with_out left in
+        ran_over old new b a Unused oom (unmarked ran) (ap unmarked same) store keeps s outputs created directed
+        (run_behind kind [] after m old new b.messages s s' ran b.store a.store
+        (subst (λ o. IsRunInStore m old new (sinks (mark kind [] s) b.messages) o b.store a.store) is
+        (subst (λ f. IsRunInStore m old new (sinks f b.messages) ran b.store a.store) given run)))
+        (λ parsed. exact_behind kind [] after (spec_of_args words) old new b.messages s s' ran
+        (subst (λ o. IsExactUnlessFailed (spec_of_args words) old new (sinks (mark kind [] s) b.messages) o) is
+        (subst (λ f. IsExactUnlessFailed (spec_of_args words) old new (sinks f b.messages) ran) given (exact parsed))))
+        (unread_behind kind [] after m old new s s' ran
+        (subst (λ o. IsUnchangedIfUnread m old new (mark kind [] s) o) is
+        (subst (λ f. IsUnchangedIfUnread m old new f ran) given unread)))
+
+    -- what was written, to the target that the run returned
+    output_is : (s : SinkState) → first ≡ s
+        → (target_state of_out of_file target after).accepted ≡ append_known s.accepted run.run.written
+    output_is s given = ap (λ t. t.accepted) (sym returned) ∙ run.run.output
+        ∙ ap (λ f. append_known f.accepted run.run.written) given
+
+    still : {t : Target W F} → target ≡ t
+        → (ran.out ≡ target_state of_out of_file t after) × AreParts t unused out file
+    still is = (
+      returned ∙ ap (λ t. target_state of_out of_file t after) is,
+      subst (λ t. AreParts t unused out file) is parts,
+    )
+
+    pub ran_to_standard : (given : W) → first ≡ mark 2 [] (of_out given) → of_out given ≡ b.out
+        → has_standard_output (command_of_parsed command) ≡ true → a.files ≡ b.files → HasRunOver words old new b a Unused
+    ran_to_standard given first_is given_is standard files =
+        let found = standard_returned of_out of_file target after run.run.written [] (of_out given)
+        (output_is (mark 2 [] (of_out given)) first_is) in
+        let left = still found.1 in
+        ran_marked 2 (of_out given) (of_out found.0) first_is left.0 []
+        (rw (no_output_file (command_of_parsed command) old standard) (files ∙ nothing_created b.files))
+        (rw standard (refl, given_is, sym (out_is ∙ ap of_out left.1.0), file_is ∙ ap (option_map of_file) left.1.1))
+
+    pub ran_to_file : (given : F) (name : List ℕ) → first ≡ mark 1 [] (of_file given)
+        → has_standard_output (command_of_parsed command) ≡ false
+        → output_names (command_of_parsed command) old ≡ name ∷ []
+        → a.files ≡ with_created b.files (name ∷ []) (Some (of_file given) ∷ []) → (unused ≡ Some out → Unused)
+        → HasRunOver words old new b a Unused
+    ran_to_file given name first_is not_standard names created is_unused =
+        let found = file_returned of_out of_file target after run.run.written [] (of_file given)
+        (output_is (mark 1 [] (of_file given)) first_is) in
+        let left = still found.1 in
+        ran_marked 1 (of_file given) (of_file found.0) first_is left.0 (Some (of_file given) ∷ []) (rw names created)
+        (rw (not_standard, names) (refl, file_is ∙ ap (option_map of_file) left.1.1, is_unused left.1.0))
+
+    pub ran_nowhere : first ≡ closed_state false → has_standard_output (command_of_parsed command) ≡ false
+        → output_names (command_of_parsed command) old ≡ [] → a.files ≡ b.files → (unused ≡ Some out → Unused)
+        → HasRunOver words old new b a Unused
+    ran_nowhere first_is not_standard names files is_unused =
+        let found = nowhere_returned of_out of_file target after run.run.written (output_is (closed_state false) first_is) in
+        let left = still found.1 in
+        ran_over old new b a Unused oom ran same store keeps first []
+        (rw names (files ∙ nothing_created b.files))
+        (rw (not_standard, names) (refl, first_is, file_is ∙ ap (option_map of_file) left.1.1, is_unused left.1.0))
+        run exact unread
 
 -- A command with an output file was parsed.
 pub output_is_parsed : {A : Type 0} (command : Result (code.Command A) UseFault) (readers : List Reader) (name : List ℕ)

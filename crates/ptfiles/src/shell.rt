@@ -21,7 +21,7 @@ ghost use Rattle.ptfiles.specs.Shell.{before, after};
 
 use crate::failures::failures_are_of_sources;
 use crate::files::Files;
-use crate::output::Output;
+use crate::output::{Output, Target};
 use crate::report::FilesReport;
 use ptlines::{LineReader, Sink, Source, Store};
 use ptopts::{Command, UseFault};
@@ -178,22 +178,17 @@ fn run_over_inputs<A: Allocator + Copy, B: Allocator + Copy, F: Files, S: Source
 {
     let Sinks { out, messages } = sinks;
     let out_of_memory = has_memory_fault(&command);
-    let output = match destination_of(&command, inputs) {
-        Destination::Standard => {
-            let report = run_with_store(store, command, words, inputs, out, messages);
-            return FilesReport {
-                report,
-                file: None,
-                out_of_memory,
-            };
-        }
+    let (target, unused) = match destination_of(&command, inputs) {
+        Destination::Standard => (Target::Standard(out), None),
         Destination::File(name) => match files.create(name) {
-            Some(file) => Output::File(file),
+            Some(file) => (Target::File(file), Some(out)),
             None => return FilesReport::not_created(name, out, messages),
         },
-        Destination::Nowhere => Output::Closed { failed: false },
+        Destination::Nowhere => (Target::Nowhere { failed: false }, Some(out)),
     };
+    let output = Output::new(target);
     let ran = run_with_store(store, command, words, inputs, output, messages);
+    let (out, file) = ran.out.into_parts(unused);
     FilesReport {
         report: Report {
             status: ran.status,
@@ -202,7 +197,7 @@ fn run_over_inputs<A: Allocator + Copy, B: Allocator + Copy, F: Files, S: Source
             out,
             messages: ran.messages,
         },
-        file: ran.out.into_file(),
+        file,
         out_of_memory,
     }
 }

@@ -2,7 +2,6 @@
 -- files, and the run itself, from what it read to its answer.
 pub mod Below
 pub mod FileLemmas
-pub mod GhostBytesMade
 pub mod GivenLemmas
 pub mod NamingLemmas
 pub mod Unread

@@ -5,7 +5,6 @@
 
 mod answer;
 mod files;
-mod ghost_bytes;
 mod given;
 mod host;
 mod memory;

@@ -4,7 +4,7 @@
 ghost use Rattle.std.specs.Prelude.{◌≡◌, ◌+◌, ◌-◌, ◌≤◌, ◌<◌, ◌^◌, false, [], ◌++◌, length, min, take};
 
 use crate::answer::Part;
-use crate::ghost_bytes::GhostBytes;
+use ptfiles::GhostBytes;
 use ptlines::{Failed, Sink};
 use std::alloc::Allocator;
 

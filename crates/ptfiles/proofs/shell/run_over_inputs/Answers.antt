@@ -1,27 +1,15 @@
 -- Answers for `run_over_inputs`: the sink of the run is where the words say, which is standard output, the file that
--- they name, or a closed sink. If that file cannot be created, this is reported and nothing is run.
-use Rattle.std.proofs.Common.{false, [], inl, inr, refl, sym, ◌∙◌, ap}
+-- they name, or nowhere. If that file cannot be created, this is reported and nothing is run.
+use Rattle.std.proofs.Common.{[], inl, inr, refl, sym, ◌∙◌, ap}
 use Rattle.ptopts.specs.Commands.{words_view}
 use Rattle.ptrun.specs.Runs.{outcome}
 use Rattle.ptfiles.specs.Files.{created_state}
-use Rattle.ptfiles.specs.Outputs.{closed_state}
-use Rattle.ptfiles.specs.Private.Outputs.{output_state}
-use Rattle.ptfiles.specs.Private.Shell.{command_of_parsed}
 use Rattle.ptfiles.specs.Shell.{output_names}
-use Rattle.ptfiles.proofs.Outputs.{no_file_returned}
-use Rattle.ptfiles.proofs.Runs.{no_output_file, nothing_created, output_is_parsed, ran_over, ran_to_file, to_run}
-use Rattle.ptfiles.proofs.shell.run_over_inputs.Goals.{in-File+in-Some, in-Nowhere}
+use Rattle.ptfiles.specs.Private.Outputs.{output_state}
+use Rattle.ptfiles.proofs.Outputs.{new_state, not_none, returns_standard, unused_is}
+use Rattle.ptfiles.proofs.Runs.{output_is_parsed, ran_nowhere, ran_to_file, ran_to_standard, to_run}
+use Rattle.ptfiles.proofs.shell.run_over_inputs.Goals.{in-Standard, in-File+in-Some, in-Nowhere}
 use Rattle.ptfiles.proofs.shell.run_over_inputs.Goals as goal
-
-pub returns-in-Standard-clause-run : goal.returns-in-Standard-clause-run
-returns-in-Standard-clause-run g c standard =
-    let r = c.run_with_store-report.ensures in
-    inl (ran_over c.args.command (words_view c.args.words.now) c.requires.meant _ _ _ _ _
-    c.has_memory_fault-out_of_memory.ensures (outcome g.W.Sink.state g.E.Sink.state c.run_with_store-report.result) refl
-    r.store r.reads_nothing.1 (g.W.Sink.state c.args.sinks.out) []
-    (rw (no_output_file (command_of_parsed c.args.command) c.args.inputs.now c.in-Standard.ensures)
-    (nothing_created (g.F.Files.state c.args.files.now)))
-    (rw c.in-Standard.ensures (refl, refl, refl, refl)) r.run r.is_exact r.reads_nothing.0)
 
 pub returns-in-None-clause-run : goal.returns-in-None-clause-run
 returns-in-None-clause-run g c standard =
@@ -44,25 +32,51 @@ returns-in-None-clause-run g c standard =
       };
     })
 
+-- No standard output is left over only where the run is given it, and so returns it.
+pub into_parts-out-requires : goal.into_parts-out-requires
+into_parts-out-requires g c none =
+    let ran = c.run_with_store-ran in
+    elim c.match-destination_of.branch [
+      | in-Standard w ↦ returns_standard g.W.Sink.state g.F.Output.Sink.state ran.result.out.target
+          ran.result.out.written.items ran.ensures.run.run.written [] (g.W.Sink.state c.args.sinks.out)
+          (new_state g.W.Sink.state g.F.Output.Sink.state c.new-output.result
+          (c.new-output.ensures.0 ∙ ap (λ p. p.0) w.target-is) c.new-output.ensures.1)
+          ran.ensures.run.run.output
+      | in-File+in-Some w ↦ absurd (not_none (ap (λ p. p.1) w.target-is) none)
+      | in-Nowhere w ↦ absurd (not_none (ap (λ p. p.1) w.target-is) none)
+    ]
+
 pub returns-clause-run : goal.returns-clause-run
 returns-clause-run g c standard =
+    let out_of = g.W.Sink.state in
+    let file_of = g.F.Output.Sink.state in
     let r = c.run_with_store-ran.ensures in
-    let ran = outcome (output_state g.F.Output.Sink.state) g.E.Sink.state c.run_with_store-ran.result in
+    let sink = c.run_with_store-ran.result.out in
+    let ran = outcome (output_state out_of file_of) g.E.Sink.state c.run_with_store-ran.result in
     let oom = c.has_memory_fault-out_of_memory.ensures in
     let given = c.args.command in
     let words = words_view c.args.words.now in
+    let ended = c.into_parts-out in
     elim c.match-destination_of.branch [
-      | in-File+in-Some w ↦ inl (ran_to_file given words c.requires.meant _ _ _ _ _ oom ran refl
-          r.store r.reads_nothing.1 g.F.Output.Sink.state w.in-Some.file
-          c.run_with_store-ran.result.out refl w.in-File.name.now w.in-File.ensures.0 w.in-File.ensures.1
-          (rw w.files-is (rw w.in-Some.is at w.create.ensures.created))
-          (ap (created_state g.F.Output.Sink.state) c.into_file.ensures) refl (rw w.output-is at r.run)
-          (λ parsed. rw w.output-is at r.is_exact parsed) (rw w.output-is at r.reads_nothing.0))
-      | in-Nowhere w ↦ let no_file = ap (created_state g.F.Output.Sink.state) (c.into_file.ensures
-          ∙ no_file_returned g.F.Output.Sink.state c.run_with_store-ran.result.out r.run.run.written
-          (rw w.output-is at r.run.run.output)) in inl (ran_over given words c.requires.meant _ _ _ _ _ oom ran refl
-          r.store r.reads_nothing.1 (closed_state false) []
-          (rw (w.in-Nowhere.ensures.1, w.files-is) (nothing_created (g.F.Files.state c.args.files.now)))
-          (rw (w.in-Nowhere.ensures.0, w.in-Nowhere.ensures.1) (refl, refl, no_file, refl)) (rw w.output-is at r.run)
-          (λ parsed. rw w.output-is at r.is_exact parsed) (rw w.output-is at r.reads_nothing.0))
+      | in-Standard w ↦ inl (ran_to_standard given words c.requires.meant _ _ _ _ _ oom ran refl r.store
+          r.reads_nothing.1 _ r.run r.is_exact r.reads_nothing.0 out_of file_of sink.target sink.written.items refl
+          c.match-destination_of.target.1 ended.result.0 ended.result.1 ended.ensures refl refl c.args.sinks.out
+          (new_state out_of file_of c.new-output.result (c.new-output.ensures.0 ∙ ap (λ p. p.0) w.target-is)
+          c.new-output.ensures.1)
+          refl w.in-Standard.ensures (ap g.F.Files.state w.files-is))
+      | in-File+in-Some w ↦ inl (ran_to_file given words c.requires.meant _ _ _ _ _ oom ran refl r.store
+          r.reads_nothing.1 _ r.run r.is_exact r.reads_nothing.0 out_of file_of sink.target sink.written.items refl
+          c.match-destination_of.target.1 ended.result.0 ended.result.1 ended.ensures refl refl w.in-Some.file
+          w.in-File.name.now
+          (new_state out_of file_of c.new-output.result (c.new-output.ensures.0 ∙ ap (λ p. p.0) w.target-is)
+          c.new-output.ensures.1)
+          w.in-File.ensures.0 w.in-File.ensures.1 (rw w.files-is (rw w.in-Some.is at w.create.ensures.created))
+          (unused_is (ap (λ p. p.1) w.target-is)))
+      | in-Nowhere w ↦ inl (ran_nowhere given words c.requires.meant _ _ _ _ _ oom ran refl r.store
+          r.reads_nothing.1 _ r.run r.is_exact r.reads_nothing.0 out_of file_of sink.target sink.written.items refl
+          c.match-destination_of.target.1 ended.result.0 ended.result.1 ended.ensures refl refl
+          (new_state out_of file_of c.new-output.result (c.new-output.ensures.0 ∙ ap (λ p. p.0) w.target-is)
+          c.new-output.ensures.1)
+          w.in-Nowhere.ensures.0 w.in-Nowhere.ensures.1 (ap g.F.Files.state w.files-is)
+          (unused_is (ap (λ p. p.1) w.target-is)))
     ]

@@ -16,11 +16,11 @@ use types.ByLocal.{alloc_all, free_all, look_at, pass_all, sets}
 use types.Kit.{◌$◌, ◌∵◌, !, by, fjoin, frame, keep, qed, raw, split, suffices, ‵, ◌⊛◌}
 use types.Part.{agg}
 use types.Run.{enter, no_more, returns}
-use Rattle.ptrunc.proofs.GhostBytesMade.{empty, made}
-use Rattle.ptrunc.specs.contracts.ghost_bytes.GhostBytes as ghost_bytes
-use Rattle.ptrunc.specs.contracts.ghost_bytes.GhostBytes.with as f
-use Rattle.ptrunc.proofs.ghost_bytes.GhostBytes.with.Code as code
-use Rattle.ptrunc.proofs.ghost_bytes.GhostBytes.with.Statement.{statement}
+use Rattle.ptfiles.proofs.GhostBytesMade.{empty, made}
+use Rattle.ptfiles.specs.contracts.ghost_bytes.GhostBytes as ghost_bytes
+use Rattle.ptfiles.specs.contracts.ghost_bytes.GhostBytes.with as f
+use Rattle.ptfiles.proofs.ghost_bytes.GhostBytes.with.Code as code
+use Rattle.ptfiles.proofs.ghost_bytes.GhostBytes.with.Statement.{statement}
 
 pub with_spec : {M : Type 1} → statement M
 with_spec 𝓤 𝓛 𝓜 𝓡 wired =

@@ -5,7 +5,7 @@ use mir.Val.{Val, vstruct, vnil}
 use types.Logic.{Logic}
 use types.Kit.{Goal, Item, Step, ‵}
 use denote.Shadow.{pure_i}
-use Rattle.ptrunc.specs.contracts.ghost_bytes.GhostBytes as ghost_bytes
+use Rattle.ptfiles.specs.contracts.ghost_bytes.GhostBytes as ghost_bytes
 
 abbrev pub empty : Val
 empty = vstruct vnil

@@ -1,4 +1,4 @@
-//! Bytes that only contracts read. Used by `memory`.
+//! Bytes that only contracts read. Used by `output`, and by the library for C.
 
 ghost use Rattle.std.specs.Prelude.{◌≡◌, ℕ, List, [], ◌++◌};
 ghost use Rattle.std.specs.Borrow.{ftrue};
