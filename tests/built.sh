@@ -43,6 +43,7 @@ else
     needed "the installation and the packages (they are of build/ptext, which is not there)" >>"$room/log"
 fi
 test_of "offsets of parts" python3 bindings/python/tests/offsets.py "$program"
+test_of "parts in one step" python3 bindings/python/tests/one_step.py "$program"
 test_of "parts of files" sh bindings/python/tests/parallel.sh "$program"
 test_of "waiting" python3 tests/waiting.py "$program"
 test_of "the documents" sh tests/documents.sh "$program"

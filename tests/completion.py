@@ -29,10 +29,10 @@ FLAGS, VALUED = read_letters("flags"), read_letters("value_letters")
 SHELLS = {
     "bash": (
         ["bash", "--norc", "--noprofile", "-i"],
-        "bind 'set bell-style none'; bind 'set enable-bracketed-paste off'; . @/ptext",
+        "bind 'set bell-style none'; bind 'set enable-bracketed-paste off'; . @/ptext; . @/ptext-parts",
     ),
     "zsh": (["zsh", "-f", "-i"], "fpath=(@ $fpath); autoload -U compinit; compinit -u -D; unsetopt beep; LISTMAX=999"),
-    "fish": (["fish", "--no-config", "-i"], "source @/ptext.fish"),
+    "fish": (["fish", "--no-config", "-i"], "source @/ptext.fish; source @/ptext-parts.fish"),
 }
 # Typed besides, before the tools are completed by their own names.
 SYSTEMS = "/usr/share/bash-completion/bash_completion"
@@ -63,6 +63,17 @@ ROWS = [
     Row("ptext cut -sf 1 -", ["-d", "-z"]),
     Row("ptext join -a ", ["1", "2"]),
     Row("ptext tr -d '[:", CLASSES),
+    Row("ptext-parts ", [*NAMES, "plan", "run", "whole"]),
+    Row("ptext-parts -", ["-i", "-j", "--help"]),
+    Row("ptext-parts -j 4 -i lo", "ptext-parts -j 4 -i lonely"),
+    Row("ptext-parts -j4 -i lonely jo", "ptext-parts -j4 -i lonely join"),
+    Row("ptext-parts -j 4 uniq -", ["-c", "-d", "-f", "-s", "-u", "-z"]),
+    Row("ptext-parts cut -f 1 lo", "ptext-parts cut -f 1 lonely"),
+    Row("ptext-parts -j 4 tr -d '[:dig", "ptext-parts -j 4 tr -d '[:digit:]"),
+    Row("ptext-parts plan 12 ", NAMES),
+    Row("ptext-parts plan 12 pas", "ptext-parts plan 12 paste"),
+    Row("ptext-parts run lo", "ptext-parts run lonely"),
+    Row("ptext-parts plan 12 ", ["run", "whole"], False),
     # No option is offered after an operand.
     Row("ptext uniq lonely -", ["-c", "-d", "-f", "-s", "-u", "-z"], False),
     Row("ptext cut -f 1 lonely -", ["-b", "-c", "-d", "-n", "-s", "-z"], False),

@@ -55,6 +55,7 @@ for tool in cut paste join comm uniq tr; do
     fi
 done
 for file in bash-completion/completions/ptext zsh/site-functions/_ptext fish/vendor_completions.d/ptext.fish \
+    bash-completion/completions/ptext-parts fish/vendor_completions.d/ptext-parts.fish \
     bash-completion/completions/ptext-tools zsh/site-functions/_ptext_tools fish/vendor_completions.d/cut.fish; do
     is "completion $file" yes "$([ -s "$room/empty/share/$file" ] && echo yes)"
 done

@@ -267,7 +267,7 @@ elif command -v dpkg-buildpackage >/dev/null && command -v dh >/dev/null; then
         is "its page of section 7" ptext-replacing.7.gz "$(ls "$usr/share/man/man7")"
         is "its script" yes "$([ -x "$usr/share/ptext/ptext-slurm.sh" ] && echo yes)"
         is "its ptext-parts" yes "$([ -x "$usr/bin/ptext-parts" ] && echo yes)"
-        is "completion in bash" "ptext ptext-tools " "$(ls "$usr/share/bash-completion/completions" | tr '\n' ' ')"
+        is "completion in bash" "ptext ptext-parts ptext-tools " "$(ls "$usr/share/bash-completion/completions" | tr '\n' ' ')"
         is "completion in zsh" "_ptext _ptext_tools " "$(ls "$usr/share/zsh/vendor-completions" | tr '\n' ' ')"
         into -P ptext-tools ptext
         is "nothing is left of the packages" "" "$(find "$room/root" -name '*ptext*')"

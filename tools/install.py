@@ -40,8 +40,10 @@ PARTS = "bindings/python/ptext/parts.py"
 OTHERS = [
     ("ptext/ptext-slurm.sh", 0o755, "tools/ptext-slurm.sh"),
     ("bash-completion/completions/ptext", 0o644, "completion/ptext"),
+    ("bash-completion/completions/ptext-parts", 0o644, "completion/ptext-parts"),
     ("zsh/site-functions/_ptext", 0o644, "completion/_ptext"),
     ("fish/vendor_completions.d/ptext.fish", 0o644, "completion/ptext.fish"),
+    ("fish/vendor_completions.d/ptext-parts.fish", 0o644, "completion/ptext-parts.fish"),
 ]
 # Those of the tools by their own names. (fish looks for the completion of a command in a file of its name.)
 OTHERS_OF_TOOLS = [

@@ -39,8 +39,9 @@ def _read_range(path: str, begin: int, end: int) -> Iterator[bytes]:
             yield piece
 
 
-def _run_part(plan: _Plan, part: int, out: IO[bytes]) -> None:
-    """On a worker: runs the tool over the ranges of a part. (Each has a name of its own, also if a file is named twice.)"""
+def _run_part(plan: _Plan, part: int, out: IO[bytes], place: str = "output") -> None:
+    """On a worker: runs the tool over the ranges of a part. (Each has a name of its own, also if a file is named twice.)
+    `place` names the output in messages."""
     _parts.check_unchanged(plan)
     command = _parts.read_words(plan.words)
     names = {at: "-" if name == "-" else f"/part/{at}" for at, name in command.inputs.items()}
@@ -52,8 +53,7 @@ def _run_part(plan: _Plan, part: int, out: IO[bytes]) -> None:
     except Error as why:
         raise Error(why.status, _parts.describe_failure(plan, part, why.message, names), b"") from why
     except OSError as why:
-        what = f"{why.filename}: {why.strerror}" if why.filename else why.strerror
-        raise PartsError(f"{_parts.describe_part(plan, part)}: {what}") from why
+        raise PartsError(f"{why.filename or place}: {why.strerror} ({_parts.describe_part(plan, part)})") from why
     _parts.check_unchanged(plan)
 
 

@@ -1,30 +1,46 @@
 #!/usr/bin/env python3
 """Runs a command of ptext over parts of its files, which are given by offsets: nothing is copied to cut a file.
 
+  ptext-parts [-j JOBS] [-i INPUT] TOOL [WORD ..]    runs the command, JOBS parts at a time, and writes its output
+
+The same in steps, for several machines:
+
   ptext-parts plan PARTS [-i INPUT] TOOL [WORD ..]   prints a plan: the offsets of each part, in all files
   ptext-parts run PLAN PART [FOLDER]                 writes the output of a part, or puts it into the folder
   ptext-parts whole PLAN FOLDER RESULT               puts the outputs of all parts together
 
-INPUT is the file that the command reads as standard input. Parts are counted from 1. The program ptext is the one in
-PATH, unless PTEXT_PROGRAM names another. The page ptext-parts(1) has the rest.
+JOBS is the number of processors, unless it is given. INPUT is the file that the command reads as standard input. Parts
+are counted from 1. Outputs wait for their turn in the folder TMPDIR, or /tmp. The program ptext is the one in PATH,
+unless PTEXT_PROGRAM names another. The page ptext-parts(1) has the rest.
 """
 from __future__ import annotations
 
+import collections
+import contextlib
 import errno
+import fcntl
+import getopt
 import hashlib
 import json
 import os
+import re
+import shlex
+import signal
 import stat
 import subprocess
 import sys
+import tempfile
 import threading
+import time
 from collections.abc import Callable, Iterator
+from concurrent.futures import Future, ThreadPoolExecutor
 from typing import IO, Any, BinaryIO, NamedTuple
 
 # The options that have a value.
 VALUED = {"cut": "bcdf", "paste": "d", "join": "aveot12", "comm": "", "uniq": "fs", "tr": ""}
-BLANKS = b" \t"
 SMALL, LARGE = 1 << 12, 1 << 20
+MOST_PARTS, PART_SIZE = 10000, 1 << 25
+SET_PIPE_SIZE = getattr(fcntl, "F_SETPIPE_SZ", 1031)  # (Python 3.9 lacks the name.)
 Offsets = list[list[int]]
 Range = tuple[int, int]
 
@@ -140,10 +156,16 @@ class File:
             raise PartsError(f"{path}: not a regular file, so it cannot be cut")
         self.size, self.modified = found.st_size, found.st_mtime_ns
 
+    def read(self, at: int, count: int) -> bytes:
+        try:
+            return os.pread(self.descriptor, count, at)
+        except OSError as why:
+            raise PartsError(f"{self.path}: {why.strerror}") from why
+
     def read_blocks(self, at: int) -> Iterator[bytes]:
         """The bytes from an offset on: first few, since most callers need only one line."""
         block = SMALL
-        while text := os.pread(self.descriptor, block, at):
+        while text := self.read(at, block):
             yield text
             at += len(text)
             block = min(2 * block, LARGE)
@@ -192,53 +214,56 @@ def cut_after_lines(files: list[File], parts: int) -> Offsets:
     return found
 
 
-def make_uniq_key(command: Command) -> Callable[[bytes], bytes]:
-    """The function that returns the part of a line that uniq compares."""
-    fields, chars = int(command.options.get("f", 0)), int(command.options.get("s", 0))
+def count_run(command: Command, file: File, at: int) -> int:
+    """How many lines the run has that begins at an offset: the program counts them, and is ended once it has."""
+    if at == file.size:
+        return 0
+    words = ["uniq", "-c", *[f"-{letter}{value}" for letter, value in command.options.items() if letter in "fsz"], "-"]
+    work = Work()
+    feed = Feed(file.path, (at, file.size), work)
+    try:
+        process: Any = work.start(words, stdin=feed.reader, stdout=subprocess.PIPE)
+    except PartsError:
+        feed.close()
+        raise
+    finally:
+        os.close(feed.reader)
+    feed.start()
+    text = b""
+    while b" " not in text and (more := process.stdout.read1()):
+        text += more
+    process.terminate()
+    said = work.wait(process)
+    feed.join()
+    if feed.why or b" " not in text:
+        raise PartsError(f"{file.path}: {feed.why}" if feed.why else said or "uniq was ended")
+    return int(text.partition(b" ")[0])
 
-    def find_key(line: bytes) -> bytes:
-        for _ in range(fields):
-            if not line:
-                break
-            rest = line.lstrip(BLANKS)
-            ends = [end for end in map(rest.find, (b" ", b"\t")) if end >= 0]
-            line = rest[min(ends) :] if ends else b""
-        return line[chars:]
 
-    return find_key
-
-
-def skip_copies(file: File, at: int, line: bytes) -> int:
-    """The offset after the copies of a line that begin at an offset. Many are compared at once."""
-    count = max(LARGE // len(line), 1)
-    while count:
-        copies = line * count
-        while os.pread(file.descriptor, len(copies), at) == copies:
-            at += len(copies)
-        count //= 2
-    return at
-
-
-def find_change(file: File, at: int, find_key: Callable[[bytes], bytes]) -> int:
-    """The offset where the run ends to which the line at an offset belongs."""
-    first = next(file.read_lines(at), None)
-    if first is None:
-        return at
-    line, end = first
-    key, at = find_key(line), skip_copies(file, end, line + file.terminator)
-    for line, end in file.read_lines(at):
-        if find_key(line) != key:
+def skip_lines(file: File, at: int, count: int) -> int:
+    """The offset after so many lines, of which the first begins at an offset."""
+    for text in file.read_blocks(at):
+        found = text.count(file.terminator)
+        if found >= count:
             break
-        at = end
-    return at
+        at, count = at + len(text), count - found
+    else:
+        return file.size
+    end = 0
+    for _ in range(count):
+        end = text.index(file.terminator, end) + 1
+    return at + end
 
 
-def cut_between_runs(file: File, parts: int, find_key: Callable[[bytes], bytes]) -> Offsets:
+def cut_between_runs(command: Command, file: File, parts: int) -> Offsets:
     """Between two lines whose keys differ: where the run ends of the first line after each wanted offset."""
     found = [0]
     for wanted in share(file.size, parts)[1:-1]:
         at = found[-1]
-        found.append(at if wanted <= at else find_change(file, file.find_line(wanted), find_key))
+        if wanted > at:
+            at = file.find_line(wanted)
+            at = skip_lines(file, at, count_run(command, file, at))
+        found.append(at)
     return [[*found, file.size]]
 
 
@@ -296,7 +321,7 @@ def cut_at_keys(files: list[File], parts: int, keys: list[Callable[[bytes], byte
 def count_lines(file: File) -> list[Range]:
     """The offset of each block, and how many lines end before it; at last those of the whole file."""
     found, at, count, last = [], 0, 0, file.terminator
-    while text := os.pread(file.descriptor, LARGE, at):
+    while text := file.read(at, LARGE):
         found.append((at, count))
         at, count, last = at + len(text), count + text.count(file.terminator), text[-1:]
     return [*found, (at, count + (last != file.terminator))]
@@ -304,14 +329,8 @@ def count_lines(file: File) -> list[Range]:
 
 def find_row(file: File, counted: list[Range], lines: int) -> int:
     """The offset after so many lines, or the end if there are fewer."""
-    if lines >= counted[-1][1]:
-        return file.size
     at, before = next((at, count) for at, count in reversed(counted) if count <= lines)
-    text = os.pread(file.descriptor, LARGE, at)
-    end = 0
-    for _ in range(lines - before):
-        end = text.index(file.terminator, end) + 1
-    return at + end
+    return skip_lines(file, at, lines - before)
 
 
 def cut_after_rows(files: list[File], uses: list[int], parts: int) -> Offsets:
@@ -329,9 +348,11 @@ def cut_of_tr(command: Command, file: File, parts: int) -> Offsets:
     if "s" not in command.options:
         return [share(file.size, parts)]
     if len(call_program(command.words, b"\n\n").stdout) != 2:
+        strings = command.words[command.front :]
+        remedy = f"leave out -s, and squeeze the whole: .. | ptext tr -s {shlex.quote(strings[-1])}"
         raise PartsError(
-            "tr deletes or squeezes newline: the law parts_of_tr (its clause after_byte) lets it be cut "
-            "after no line"
+            "tr deletes or squeezes newline, so it can be cut after no line: "
+            f"{remedy if len(strings) > 1 else 'run it over the whole'}"
         )
     return cut_after_lines([file], parts)
 
@@ -349,7 +370,7 @@ def cut_files(command: Command, files: list[File], parts: int) -> Offsets:
     if command.tool == "uniq":
         if command.words[command.front + 1 :] not in ([], ["-"]):
             raise PartsError("uniq: an output file cannot be that of each part: leave it out", 2)
-        return cut_between_runs(files[0], parts, make_uniq_key(command))
+        return cut_between_runs(command, files[0], parts)
     if command.tool == "cut":
         return cut_after_lines(files, parts)
     keys = [lambda line: line] * 2
@@ -425,14 +446,17 @@ def read_plan(path: str) -> Plan:
         raise PartsError(f"{path}: not a plan of ptext-parts, or not all of it") from why
 
 
-def make_plan(words: list[str], parts: int, stdin: str | None = None) -> Plan:
-    """Cuts the files of a command into parts. `stdin` is the file that it reads as standard input."""
+def make_plan(words: list[str], parts: int, stdin: str | None = None, part_size: int = 0) -> Plan:
+    """Cuts the files of a command into parts: into more if each shall have about `part_size` bytes. `stdin` is the file
+    that it reads as standard input."""
     command = read_words(words)
     check_words(command)
     names = [stdin if name == "-" else name for name in command.inputs.values()]
     if None in names:
         raise PartsError(f"{command.tool} reads standard input: the file for it has to be given (-i, or stdin)", 2)
     files = [File(os.path.abspath(name), command.terminator) for name in names if name is not None]
+    if part_size:
+        parts = max(parts, min(sum(file.size for file in files) // part_size, MOST_PARTS))
     try:
         offsets = cut_files(command, files, parts)
     finally:
@@ -471,15 +495,61 @@ def copy_bytes(file: int, at: int, end: int, pipe: int) -> int:
     return done
 
 
+class Work:
+    """The processes of the parts that run, and how many bytes all parts were given."""
+
+    def __init__(self) -> None:
+        self.lock = threading.Lock()
+        self.running: set[subprocess.Popen[bytes]] = set()
+        self.is_over = False
+        self.given = 0
+
+    def start(self, words: list[str], **how: Any) -> subprocess.Popen[bytes]:
+        """Starts the program, unless all shall end."""
+        with self.lock:
+            if self.is_over:
+                raise PartsError("stopped")
+            try:
+                process = subprocess.Popen([find_program(), *words], stderr=subprocess.PIPE, **how)
+            except OSError as why:
+                raise PartsError(f"{find_program()}: {why.strerror}") from why
+            self.running.add(process)
+            return process
+
+    def wait(self, process: subprocess.Popen[bytes]) -> str:
+        """Waits for a process, and returns its messages. If this is interrupted, the process is ended."""
+        with process:
+            try:
+                return process.stderr.read().decode(errors="replace") if process.stderr else ""
+            except BaseException:
+                process.terminate()
+                raise
+            finally:
+                with self.lock:
+                    self.running.discard(process)
+
+    def end(self) -> None:
+        with self.lock:
+            self.is_over = True
+            for process in self.running:
+                process.terminate()
+
+    def add(self, count: int) -> None:
+        with self.lock:
+            self.given += count
+
+
 class Feed(threading.Thread):
     """Copies a range of a file to a pipe, from which the tool reads it."""
 
-    def __init__(self, path: str, offsets: Range) -> None:
+    def __init__(self, path: str, offsets: Range, work: Work) -> None:
         super().__init__(daemon=True)
-        self.path, (self.at, self.end) = path, offsets
+        self.path, (self.at, self.end), self.work = path, offsets, work
         self.why = ""
         self.file = os.open(path, os.O_RDONLY)
         self.reader, self.writer = os.pipe()
+        with contextlib.suppress(OSError):  # (A user may have so many bytes in pipes.)
+            fcntl.fcntl(self.writer, SET_PIPE_SIZE, LARGE)
 
     def close(self) -> None:
         """Closes the end of the pipe that is written to, and the file."""
@@ -491,6 +561,7 @@ class Feed(threading.Thread):
             while self.at < self.end and not self.why:
                 done = copy_bytes(self.file, self.at, self.end, self.writer)
                 self.at += done
+                self.work.add(done)
                 self.why = "" if done else "it ended before its part did"
         except BrokenPipeError:
             pass  # (The tool has ended, and its status says why.)
@@ -504,54 +575,153 @@ def describe_part(plan: Plan, part: int) -> str:
     return f"part {part} of {len(plan.parts)}"
 
 
+def count_terminators(path: str, end: int, terminator: bytes) -> int:
+    """How many lines end in the first bytes of a file."""
+    count = 0
+    with open(path, "rb") as file:
+        while end > 0 and (text := file.read(min(end, LARGE))):
+            count, end = count + text.count(terminator), end - len(text)
+    return count
+
+
 def describe_failure(plan: Plan, part: int, said: str, names: dict[int, str]) -> str:
-    """The message of a tool about a part, with the names of the files, and with the offsets where the part begins."""
-    for name, file in zip(names.values(), plan.inputs):
-        said = said.replace(f"{'standard input' if name == '-' else name}: ", f"{file.path}: ")
-    ranges = ", ".join(f"{file.path} from byte {begin}" for file, (begin, _) in zip(plan.inputs, plan.parts[part - 1]))
-    return f"{said.rstrip()}\n{describe_part(plan, part)}: lines are counted in {ranges}"
+    """The messages of a tool about a part, with the names of the files, and the numbers of lines in the whole files."""
+    terminator = read_words(plan.words).terminator
+    for name, file, (begin, _) in zip(names.values(), plan.inputs, plan.parts[part - 1]):
+        shown = "standard input" if name == "-" else name
+        if found := re.search(rf"{re.escape(shown)}: line ([0-9]+) ", said):
+            number = int(found[1]) + count_terminators(file.path, begin, terminator)
+            said = f"{said[:found.start(1)]}{number}{said[found.end(1):]}"
+        said = said.replace(f"{shown}: ", f"{file.path}: ")
+    return f"{said.rstrip()} ({describe_part(plan, part)})"
 
 
-def run_part(plan: Plan, part: int, out: int | IO[bytes]) -> None:
-    """Runs the program over a part. It gets each range by a pipe, so that a part need not fit into memory."""
+def run_part(plan: Plan, part: int, out: int | IO[bytes], place: str = "output", work: Work | None = None) -> None:
+    """Runs the program over a part. It gets each range by a pipe, so that a part need not fit into memory. `place` names
+    the output in messages."""
     if not 1 <= part <= len(plan.parts):
         raise PartsError(f"there is no part {part} of {len(plan.parts)}", 2)
     check_unchanged(plan)
-    command = read_words(plan.words)
-    feeds = [Feed(file.path, offsets) for file, offsets in zip(plan.inputs, plan.parts[part - 1])]
+    command, work = read_words(plan.words), work or Work()
+    feeds = [Feed(file.path, offsets, work) for file, offsets in zip(plan.inputs, plan.parts[part - 1])]
     names, stdin = {}, subprocess.DEVNULL
     for (at, name), feed in zip(command.inputs.items(), feeds):
         names[at] = "-" if name == "-" else f"/dev/fd/{feed.reader}"
         stdin = feed.reader if name == "-" else stdin
+    readers = [feed.reader for feed in feeds]
     try:
-        process: Any = subprocess.Popen(
-            [find_program(), *command.name_inputs(names)],
-            stdin=stdin,
-            stdout=out,
-            stderr=subprocess.PIPE,
-            pass_fds=[feed.reader for feed in feeds],
-        )
-    except OSError as why:
+        process = work.start(command.name_inputs(names), stdin=stdin, stdout=out, pass_fds=readers)
+    except BaseException:
         for feed in feeds:
             feed.close()
-        raise PartsError(f"{find_program()}: {why.strerror}") from why
+        raise
     finally:
-        for feed in feeds:
-            os.close(feed.reader)
+        for reader in readers:
+            os.close(reader)
     for feed in feeds:
         feed.start()
-    with process:
-        said = process.stderr.read().decode(errors="replace")
+    said = work.wait(process).replace(f"{command.tool}: output: ", f"{command.tool}: {place}: ")
     for feed in feeds:
         feed.join()
     broken = [f"{feed.path}: {feed.why}" for feed in feeds if feed.why]
     if broken:
-        raise PartsError(f"{describe_part(plan, part)}: {broken[0]}")
+        raise PartsError(f"{broken[0]} ({describe_part(plan, part)})")
     if process.returncode < 0:
-        raise PartsError(f"{describe_part(plan, part)}: {command.tool} was ended by signal {-process.returncode}")
+        raise PartsError(f"{command.tool} was ended by signal {-process.returncode} ({describe_part(plan, part)})")
     if process.returncode:
         raise ToolError(describe_failure(plan, part, said, names), process.returncode)
     check_unchanged(plan)
+
+
+# ---- all parts on this machine
+
+
+class Progress(threading.Thread):
+    """Shows on a terminal how far all is, until the end of a `with`. Nothing is shown if there is no terminal, or if the
+    output goes there."""
+
+    def __init__(self, plan: Plan, work: Work, room: str) -> None:
+        super().__init__(daemon=True)
+        self.plan, self.work, self.room = plan, work, room
+        self.size, self.done = sum(file.size for file in plan.inputs), 0
+        self.is_over = threading.Event()
+        self.is_shown = os.isatty(2) and not os.isatty(1)
+
+    def __enter__(self) -> Progress:
+        if self.is_shown:
+            print(f"ptext-parts: {self.room}", file=sys.stderr)
+            self.start()
+        return self
+
+    def __exit__(self, *_: object) -> None:
+        self.is_over.set()
+        if self.is_shown:
+            self.join()
+            print(end="\r\x1b[K", file=sys.stderr, flush=True)
+
+    def run(self) -> None:
+        began = time.monotonic()
+        while not self.is_over.wait(0.2):
+            left = (time.monotonic() - began) * (self.size / max(self.work.given, 1) - 1)
+            print(
+                f"\r\x1b[K{self.done} of {len(self.plan.parts)} parts, {self.work.given >> 20} of {self.size >> 20} MB, "
+                f"{left:.0f} s left",
+                end="",
+                file=sys.stderr,
+                flush=True,
+            )
+
+
+def run_into_unnamed(plan: Plan, part: int, folder: str, work: Work) -> IO[bytes]:
+    """The output of a part, in a file without a name."""
+    try:
+        file = tempfile.TemporaryFile(dir=folder)
+    except OSError as why:
+        raise PartsError(f"{folder}: {why.strerror}") from why
+    run_part(plan, part, file, f"{folder} (TMPDIR names another folder)", work)
+    return file
+
+
+def name_output() -> str:
+    """The file that standard output is, if it is one."""
+    with contextlib.suppress(OSError):
+        name = os.readlink("/proc/self/fd/1")
+        return name if name.startswith("/") else "output"
+    return "output"
+
+
+def write_out(file: IO[bytes]) -> None:
+    """Writes a file to standard output."""
+    at, end = 0, os.fstat(file.fileno()).st_size
+    try:
+        while at < end:
+            at += copy_bytes(file.fileno(), at, end, 1)
+    except OSError as why:
+        raise PartsError(f"{name_output()}: {why.strerror}") from why
+    file.close()
+
+
+def run_all(plan: Plan, jobs: int) -> None:
+    """Runs all parts, so many at a time, and writes their outputs in order to standard output. They wait for their turn
+    in files without a name, so that nothing is left of them, however this ends."""
+    work, folder = Work(), os.environ.get("TMPDIR") or "/tmp"
+    ahead = min(2 * jobs, len(plan.parts))
+    size = sum(file.size for file in plan.inputs) * ahead // len(plan.parts)
+    room = f"{folder} needs room for the output of {ahead} of {len(plan.parts)} parts (of {size >> 20} MB of input)"
+    waiting: collections.deque[Future[IO[bytes]]] = collections.deque()
+    with Progress(plan, work, room) as progress, ThreadPoolExecutor(jobs) as pool:
+        try:
+            for part in range(1, len(plan.parts) + ahead):
+                if part <= len(plan.parts):
+                    waiting.append(pool.submit(run_into_unnamed, plan, part, folder, work))
+                if part >= ahead:
+                    write_out(waiting.popleft().result())
+                    progress.done += 1
+        except BaseException:
+            work.end()
+            for future in waiting:
+                future.cancel()
+            raise
 
 
 # ---- the parts in a folder
@@ -568,19 +738,21 @@ def put_whole(path: str, write: Callable[[BinaryIO], None]) -> None:
             file.flush()
             os.fsync(file.fileno())
         os.rename(new, path)
-    except BaseException:
-        if os.path.exists(new):
+    except BaseException as why:
+        with contextlib.suppress(OSError):
             os.remove(new)
+        if isinstance(why, OSError) and why.filename in (None, new):
+            raise PartsError(f"{path}: {why.strerror}") from why
         raise
 
 
-def put_part(plan: Plan, part: int, folder: str, run: Callable[[Plan, int, BinaryIO], None] = run_part) -> None:
+def put_part(plan: Plan, part: int, folder: str, run: Callable[[Plan, int, BinaryIO, str], None] = run_part) -> None:
     """Puts the output of a part into the folder, unless it is there already: then the files were the same."""
     path = f"{folder}/{plan.name_part(part)}"
     if os.path.exists(path):
         check_unchanged(plan)
     else:
-        put_whole(path, lambda file: run(plan, part, file))
+        put_whole(path, lambda file: run(plan, part, file, folder))
 
 
 def put_together(plan: Plan, folder: str, result: str) -> None:
@@ -602,42 +774,71 @@ def put_together(plan: Plan, folder: str, result: str) -> None:
 # ---- the program
 
 
+ENDING = [signal.SIGHUP, signal.SIGINT, signal.SIGTERM]
+USAGE = "[-j JOBS] [-i INPUT] TOOL [WORD ..], plan .., run .., or whole .. (--help says more)"
+
+
 def read_number(text: str) -> int:
-    if not text.isascii() or not text.isdigit() or not 1 <= int(text) <= 10000:
-        raise PartsError(f"not a number from 1 to 10000: {text}", 2)
+    if not text.isascii() or not text.isdigit() or not 1 <= int(text) <= MOST_PARTS:
+        raise PartsError(f"not a number from 1 to {MOST_PARTS}: {text}", 2)
     return int(text)
+
+
+def find_stdin() -> str:
+    """Standard input, if that is a file at its beginning."""
+    with contextlib.suppress(OSError):  # (A pipe, which no file can be made of.)
+        if os.lseek(0, 0, os.SEEK_CUR):
+            raise PartsError("standard input was read in part: its file has to be given (-i)", 2)
+    return "/dev/stdin"
 
 
 def call(words: list[str]) -> None:
     """Does what the words say."""
     does, given = words[0] if words else "", words[1:]
-    if does == "plan" and len(given) >= 2:
-        parts, stdin, given = read_number(given[0]), None, given[1:]
-        if given[0] == "-i" and len(given) > 1:
-            stdin, given = given[1], given[2:]
-        sys.stdout.write(make_plan(given, parts, stdin).write())
+    if does == "plan" and given:
+        options, command = getopt.getopt(given[1:], "i:")
+        sys.stdout.write(make_plan(command, read_number(given[0]), dict(options).get("-i")).write())
         sys.stdout.flush()
     elif does == "run" and len(given) == 2:
-        run_part(read_plan(given[0]), read_number(given[1]), sys.stdout.buffer)
+        run_part(read_plan(given[0]), read_number(given[1]), 1, name_output())
     elif does == "run" and len(given) == 3:
         put_part(read_plan(given[0]), read_number(given[1]), given[2])
     elif does == "whole" and len(given) == 3:
         put_together(read_plan(given[0]), given[1], given[2])
+    elif does in VALUED or does.startswith("-"):
+        options, command = getopt.getopt(words, "j:i:", ["help"])
+        chosen = dict(options)
+        if "--help" in chosen:
+            print(__doc__, end="")
+            return
+        jobs = read_number(chosen.get("-j", str(len(os.sched_getaffinity(0)))))
+        run_all(make_plan(command, jobs, chosen.get("-i") or find_stdin(), PART_SIZE), jobs)
     else:
-        raise PartsError("plan PARTS [-i INPUT] TOOL [WORD ..], run PLAN PART [FOLDER], or whole PLAN FOLDER RESULT", 2)
+        raise PartsError(USAGE, 2)
+
+
+def end_by_signal(number: int, _: object) -> None:
+    """Ends all by an exception, so that what was written in part is removed. A second signal changes nothing."""
+    for each in ENDING:
+        signal.signal(each, signal.SIG_IGN)
+    sys.exit(128 + number)
 
 
 def main() -> int:
+    for each in ENDING:
+        if signal.getsignal(each) != signal.SIG_IGN:
+            signal.signal(each, end_by_signal)
     try:
         call(sys.argv[1:])
     except PartsError as why:
         print(f"ptext-parts: {why.message}", file=sys.stderr)
         return why.status
+    except getopt.GetoptError as why:
+        print(f"ptext-parts: {why}: {USAGE}", file=sys.stderr)
+        return 2
     except OSError as why:
         print(f"ptext-parts: {why.filename or 'output'}: {why.strerror}", file=sys.stderr)
         return 1
-    except KeyboardInterrupt:
-        return 130
     return 0
 
 

@@ -202,8 +202,7 @@ def check_failures():
     write_file("disorder", b"".join(b"%05d\n" % number for number in [*range(2000), 0, *range(2000, 3000)]))
     write_file("folder.plan", parts.make_plan(["comm", "sorted", "disorder"], 5).write().encode())
     wrong = fails(
-        "comm: disorder: line 200 is out of order\npart 4 of 5: lines are counted in sorted from byte 10806, "
-        "disorder from byte 10806",
+        "comm: disorder: line 2001 is out of order (part 4 of 5)",
         "run",
         "folder.plan",
         "4",
@@ -213,7 +212,8 @@ def check_failures():
     wrong += fails("there is no part 6 of 5", "run", "folder.plan", "6")
     wrong += fails("comm: wrong number of operands", "plan", "5", "comm", "sorted")
     wrong += fails("parts_of_paste", "plan", "5", "paste", "-s", "sorted")
-    wrong += fails("parts_of_tr", "plan", "5", "-i", "sorted", "tr", "-s", "\\n")
+    wrong += fails("run it over the whole", "plan", "5", "-i", "sorted", "tr", "-s", "\\n")
+    wrong += fails("leave out -s, and squeeze the whole: .. | ptext tr -s '\\n'", *"plan 5 -i sorted tr -cs a-z \\n".split())
     wrong += fails("the file for it has to be given", "plan", "5", "uniq")
     wrong += fails("not a number", "plan", "0", "cut", "-c", "1", "sorted")
     wrong += fails("none: No such file", "plan", "5", "cut", "-c", "1", "none")

@@ -167,16 +167,15 @@ def check_failures(client):
     with open("disorder", "w", encoding="ascii") as file:
         file.write("".join(f"{number:05}\n" for number in [*range(2000), 0, *range(2000, 3000)]))
     words = ["comm", "disorder", "disorder"]
-    expect_failure(
-        "disorder: line 200 is out of order\npart 4 of 5", lambda: dask.run(client, words, "result", parts=5)
-    )
-    expect_failure("disorder: line 200 is out of order\npart 4 of 5", lambda: list(dask.read(client, words, parts=5)))
+    disorder = "disorder: line 2001 is out of order (part 4 of 5)"
+    expect_failure(disorder, lambda: dask.run(client, words, "result", parts=5))
+    expect_failure(disorder, lambda: list(dask.read(client, words, parts=5)))
     expect_failure("parts_of_paste", lambda: dask.run(client, ["paste", "-s", "log"], "result"))
     expect_failure("cut: unknown option in -q", lambda: dask.run(client, ["cut", "-q", "log"], "result"))
     expect_failure("has to be given", lambda: dask.run(client, ["uniq"], "result"))
     # (A limit on the size of files is like a full disk.)
     client.run(limit_files, 1 << 20)
-    expect_failure("of 16: File too large", lambda: dask.run(client, ["cut", "-c", "1-", "log"], "result"))
+    expect_failure("result.parts: File too large (part", lambda: dask.run(client, ["cut", "-c", "1-", "log"], "result"))
     client.run(limit_files, resource.RLIM_INFINITY)
 
 

@@ -127,7 +127,7 @@ done
     echo 'set -o pipefail'
     echo 'import ptext.dask'
     echo 'client = Client(scheduler_file="cluster.json")'
-    echo 'mkdir parts && ptext-slurm.sh plan parts result'
+    echo 'mkdir -p parts && ptext-slurm.sh plan parts result'
     blocks | grep '^ptext-parts plan'
 } >tested
 block "ptext-parts plan 12 cut -d ' ' -f 1,3 log > plan" >plans
@@ -137,12 +137,23 @@ both "{ head -n 1 table && tail -n +2 table | sort -S 1G --parallel=4 -T . -t , 
     "head -n 1 table; tail -n +2 table | sort" one
 both "gzip -dc log.gz | parallel --pipe -k --halt now,fail=1 --block 20M 'ptext cut -d \" \" -f 1,3' | cat" \
     "ptext cut -d ' ' -f 1,3 log" 3M 20M
-folder="mkdir parts && seq 12 | xargs -P 4 -I {} ptext-parts run plan {} parts && ptext-parts whole plan parts result"
+folder="mkdir -p parts && seq 12 | xargs -P 4 -I {} ptext-parts run plan {} parts && ptext-parts whole plan parts result"
 printed="seq 12 | parallel -k --halt soon,fail=1 ptext-parts run plan {} | cat"
 each "$folder" result
+rm result
 run "$folder"
-[ "$status" != 0 ] || failed "status 0, though there is a folder of an earlier run"
+[ "$status" = 0 ] && cmp -s result want || failed "a second run, in the folder of the first (status $status)"
 each "$printed" out
+once="ptext-parts -j 4 cut -d ' ' -f 1,3 log > result"
+printf '%s\n' "$once" >>tested
+block "$once" >at.once
+[ "$(wc -l <at.once)" = 2 ] || failed "not in the page: $once"
+while IFS= read -r words; do
+    whole=ptext${words#ptext-parts -j 4}
+    sh -c "${whole%> result}" >want </dev/null || failed "$whole"
+    run "$words"
+    [ "$status" = 0 ] && cmp -s result want || failed "$words (status $status)"
+done <at.once
 both "export PARALLEL_SHELL=/bin/bash && seq 12 |" "ptext join -a 1 -a 2 left right" one
 
 # A part that fails makes the whole command fail, and there is no result.

@@ -107,7 +107,7 @@ block() {
 # The inputs are those of bindings/python/tests/on_dask.py.
 python3 "$top/bindings/python/tests/on_dask.py" --inputs "${2:-64}" || failed "the inputs"
 block "ptext-parts plan 12 cut -d ' ' -f 1,3 log > plan" >plans
-command=$(block 'mkdir parts && ptext-slurm.sh plan parts result')
+command=$(block 'mkdir -p parts && ptext-slurm.sh plan parts result')
 [ "$(wc -l <plans)" = 6 ] && [ "$command" ] || failed "the page lacks a plan, or the command for Slurm"
 while IFS= read -r plan; do
     whole=$(printf '%s\n' "$plan" | sed 's/^ptext-parts plan 12 //; s/ > plan$//; s/^-i \([a-z]*\) \(.*\)/\2 <\1/')
