@@ -1,6 +1,6 @@
 #!/bin/sh
-# The definitions: docs/PROMISE.md has them as they are, those of the promise alone are in specs/ itself, and the prover
-# computes them on the worked examples, those of the standard, 200 random commands of a fixed seed and 100 with parts of
+# The definitions: docs/PROMISE.md and BEYOND.md have them as they are, with the terms that they show computed by the
+# prover; those of no page are in the folders of specs/. The prover computes them on the worked examples, those of the standard, 200 random commands of a fixed seed and 100 with parts of
 # their inputs, as tools/definitions says.
 # usage: tests/definitions.sh [PROGRAM]
 set -eu

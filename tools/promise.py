@@ -1,26 +1,33 @@
 #!/usr/bin/env python3
-"""Shows the definitions that the contract of a whole run rests on: all that a reader has to believe.
+"""Shows the definitions that the contracts of a whole run rest on, on two pages: all that a reader has to believe.
 
-  python3 tools/promise.py            writes those of a command to docs/PROMISE.md, in reading order with their comments
-  python3 tools/promise.py --check    fails if that page is not what this would write, or if a definition is not where
-                                      it belongs: those that the contracts below rest on are in specs/ itself, and all
-                                      others in its folders Calls, Laws and Private
-  python3 tools/promise.py --size     prints how much these contracts rest on, crate by crate
+  python3 tools/promise.py            writes docs/PROMISE.md, the theorem of a run and what it rests on, and
+                                      docs/BEYOND.md, what the same contracts say beyond output, messages, status and
+                                      memory; both in reading order, with the comments of the definitions
+  python3 tools/promise.py --check    fails if a page is not what this would write, if a definition that the contracts
+                                      below rest on is on neither page, or if one is not where it belongs: those on a
+                                      page are in specs/ itself, and all others in its folders Calls, Laws and Private
+  python3 tools/promise.py --size     prints how long the pages are, and how much the contracts rest on, by crate
 """
 import argparse
 import re
+import shlex
 import sys
+import textwrap
 from os.path import dirname, realpath, relpath
+from typing import NamedTuple
 
 sys.dont_write_bytecode = True
 TOP = dirname(dirname(realpath(__file__)))
 sys.path.insert(1, f"{TOP}/tools/definitions")
 
 from crate import find_declared_types
+from examples import ROWS, STANDARD
 from project import Failed, read_text, run_script
-from specs import Specs, count_lines, is_of_code, parse_root
+from promise_texts import BEYOND_WORDS, CORNERS, LIBRARY, PROMISE_WORDS, SIGNS
+from specs import Specs, count_lines, is_of_code, parse_root, remove_comments
+from steps import STEPS
 
-PAGE = f"{TOP}/docs/PROMISE.md"
 WIDTH = 128
 # The contracts of a whole run: the file of the code, and the name of the function.
 CONTRACTS = [
@@ -28,61 +35,72 @@ CONTRACTS = [
     ("crates/ptfiles/src/shell.rt", "run_over_files"),
     ("crates/ptext/src/perform.rt", "perform"),
 ]
-# Roots of the page: the specification that words have, and the messages of a run without a failure.
-SHOWN = [parse_root("ptrun.SpecOfArgs.spec_of_args"), parse_root("ptrun.CommandSpec.messages")]
-# The sections of the page: a title, a sentence, the definitions with which it begins, the modules, and the definitions
-# whose lines the table counts.
-SECTIONS = [
-    ("Bytes and lines", "", "", ["ptlines.Text", "ptlines.ByteOrder", "ptlines.Received", "ptlines.Slots"], ""),
-    ("Lists", "", "", ["ptlangs.Numbers", "ptlangs.CutLists", "ptlangs.DelimLists", "ptlangs.OutLists"], ""),
-    ("Jobs", "A job is the options of a tool as plain values.", "", ["ptlangs.Jobs"], ""),
-    ("cut", "", "ptflow.Cuts.cut", ["ptflow.ToolSpec", "ptflow.Cuts"], "ptflow.Cuts.cut_tool"),
-    ("paste", "`paste_output` is no part of the promise. `paste_of_different` proves that it is `paste`, without `-s`.",
-     "ptflow.Laws.Outputs.paste_output ptflow.PasteText.paste ptflow.PasteText.paste_serial",
-     ["ptflow.PasteText", "ptflow.PasteCall"],
-     "ptflow.PasteCall.paste_engine ptflow.PasteText.paste_serial_tool"),
-    ("uniq", "", "ptflow.Uniqs.uniq", ["ptflow.Uniqs"], "ptflow.Uniqs.uniq_tool"),
-    ("tr", "First what it does to a text; then its strings, from characters to the plan that two of them make.",
-     "ptflow.TrOutput.tr ptflow.TrOutput.translation ptlangs.TrPlan.byte_map ptlangs.TrPlan.Plan",
-     ["ptflow.TrOutput", "ptlangs.TrChars", "ptlangs.TrClasses", "ptlangs.TrElements", "ptlangs.TrPlan"],
-     "ptflow.TrOutput.tr_tool ptlangs.TrPlan.byte_map ptlangs.TrPlan.plan"),
-    ("Merges", "`comm` and `join` are merges.", "ptmerge.MergeSpec.merged", ["ptmerge.Orders", "ptmerge.MergeSpec"], ""),
-    ("comm", "", "ptmerge.Comm.comm_output", ["ptmerge.Comm"], "ptmerge.Comm.comm_engine"),
-    ("join", "", "ptmerge.Join.join_output", ["ptmerge.Join"], "ptmerge.Join.join_engine"),
-    ("Words", "From the words of a command line to a job, its inputs and its output, or to the first fault.", "",
-     ["ptopts.Syntax", "ptopts.Args", "ptopts.Faults", "ptopts.Commands"], "ptopts.Commands.command_of_args"),
-    ("Messages", "", "", ["ptrun.MessageWrites", "ptrun.Messages"], "ptrun.Messages.usage_message"),
-    ("A run", "From a job and the bytes of its inputs to the output, the messages and the status.", "",
-     ["ptrun.Files", "ptrun.CommandSpec", "ptlines.Engines", "ptflow.Passes", "ptrun.Engines", "ptrun.Operands",
-      "ptrun.Joint", "ptrun.Tools", "ptrun.SpecOfArgs"], "ptrun.SpecOfArgs.spec_of_args"),
-]
-INTRODUCTION = """\
-# The promise
+# Modules that no contract of a run rests on. The contracts of the engines name them.
+OF_ENGINES = """ptlines.Engines ptflow.ToolSpec ptflow.Passes ptflow.PasteCall ptflow.Cuts ptflow.PasteText
+    ptflow.TrOutput ptflow.Uniqs ptmerge.MergeSpec ptmerge.Comm ptmerge.Join""".split()
 
-This is all that has to be believed of what the tools do: the definitions from which the words of a command line and the
-bytes of its inputs give the output, the messages, the exit status, what is decided by a part of the inputs, and the
-bounds of memory. `ptrun::run` and the program are proved to do what they say; [PROVED.md](PROVED.md) has the contracts.
-`make docs` writes this page from crates/*/specs, word for word, but for `abbrev`, `pub`, imports and line breaks. A type
-of the code is listed by its variants. What is not defined here is of the toolchain's library: operations on lists,
-options and numbers, as `flat_map` or `slice_split`. The section of a tool begins with its output, as a function of its
-job and of the bytes of its inputs.
 
-**In words.** The **terminator** ends a line: newline, or byte 0 with `-z`. What was **received** of an input is the bytes
-that were read of it, and whether its end was reached. An input is **consistent** with that if it begins so, and equals it
-if the end was reached. Output is **decided** by what was received if no consistent input changes it; each tool says how
-much of that it has to write. Of an incomplete line `cut` has to write nothing, and `uniq` nothing of the last **run**, the
-adjacent lines with equal **keys**. `comm` and `join` merge two inputs key by key, and write an **entry** a line; the
-**group** of a key is the second input's lines with it. A **disorder** is the first line of an input whose key comes before
-that of the previous line; if both inputs have one, that with the lesser previous key is reported, or the first input's, and
-no entry of a key after that one is written. The **store** keeps lines in numbered **slots**. A tool of one input is six
-things (`ToolSpec`): output, decided output, bounds on the bytes in its slots and on their number, terminator, and whether
-it has none (`tr`). Inputs have **positions**: 0 is standard input, i + 1 is file i. Operands are read **one after another**
-(`cut`, `tr`, `paste -s`), or **together** (the others). A file that could not be opened is **unopened**.
+class Section(NamedTuple):
+    """A section of a page: a title, a sentence, the definitions with which it begins, and the modules of which it has
+    all other definitions that are left. A name after a module stands for these definitions alone."""
 
-`make definitions` has the prover compute them on random commands, and compares the results with the tools of the system
-(where POSIX decides) and with a model in Python. The table counts lines without comments: those of a part, and those of
-all definitions on which it rests, its own included.
-"""
+    title: str
+    sentence: str
+    begins: str
+    modules: str
+
+
+class Page(NamedTuple):
+    """A page: its file, the text above it, and its sections."""
+
+    path: str
+    words: str
+    sections: list
+
+
+BEYOND = Page("docs/BEYOND.md", BEYOND_WORDS, [
+    Section("Slots, and inputs that are not touched", "", "",
+            "ptrun.Slots ptmerge.Join.max_group_lines ptlines.Slots.Slots ptrun.CommandSpec.ended_operands "
+            "ptrun.CommandSpec.IsUnwritten ptrun.CommandSpec.IsUnfinished ptrun.Files.AreReadToEnd "
+            "ptrun.Files.IsOneUnended ptlines.Readers.IsDone ptrun.Runs.IsRunInStore ptrun.Runs.HasWrittenNothing "
+            "ptrun.Runs.IsUnchangedIfUnread ptrun.Runs.IsStoreUnchangedIfUnread"),
+    Section("Lag", "", "", "ptlines.Lag ptrun.Lag"),
+    Section("Names of files", "", "", "ptfiles.Files ptfiles.Outputs ptfiles.Shell ptext.Perform"),
+    Section("Values of the code", "What the code has, as plain values.", "",
+            "ptrun.SpecOfArgs.spec_of_parsed ptrun.SpecOfArgs.is_memory_fault ptrun.SpecOfArgs.file_count "
+            "ptrun.Runs.outcome ptrun.Runs.sinks ptlines.Readers.reader_of ptlines.Readers.new_reader ptlines.Sources "
+            "ptlangs.Results ptopts.View ptlangs.TrTables ptlangs.Jobs.cut_job ptlangs.Jobs.paste_job "
+            "ptlangs.Jobs.uniq_job ptlangs.Jobs.comm_job ptlangs.Jobs.join_job "
+            "ptopts.Commands.words_view ptopts.Commands.command_view ptopts.Commands.with_inputs"),
+])
+PROMISE = Page("docs/PROMISE.md", PROMISE_WORDS, [
+    Section("The theorem", "First what holds if nothing fails, then what holds whatever fails; then what they name.",
+            "ptrun.Runs.IsExactUnlessFailed ptrun.Runs.IsExact ptrun.Runs.IsRun ptrun.Runs.RunEnd "
+            "ptrun.Runs.IsComplete ptrun.Runs.IsStopped ptrun.Runs.HasCause",
+            "ptrun.Runs ptrun.Files ptlines.Received ptlines.Readers ptlines.Sinks ptlines.Engines "
+            "ptrun.MessageWrites.HasSaid"),
+    Section("A run", "From a job and what was received to output, messages, status and bound.",
+            "ptrun.SpecOfArgs.spec_of_args ptrun.SpecOfArgs.spec_of_result ptrun.SpecOfArgs.command_spec "
+            "ptrun.SpecOfArgs.spec_of_job ptrun.Decided.output ptrun.Decided.decided ptrun.Decided.at_end "
+            "ptrun.Decided.decided_of_one ptrun.Decided.decided_of_all ptrun.Decided.reads_in_turn ptrun.Bounds.bound",
+            "ptrun.SpecOfArgs ptrun.CommandSpec ptrun.Decided ptrun.Bounds ptrun.Operands"),
+    Section("Bytes and lines", "", "", "ptlines.Text ptlines.ByteOrder ptlines.Slots"),
+    Section("Jobs", "A job is the options of a tool as plain values.", "", "ptlangs.Jobs"),
+    Section("uniq", "", "ptflow.Uniqs.uniq_decided", "ptflow.Uniqs"),
+    Section("cut", "", "ptflow.Cuts.cut_decided", "ptflow.Cuts"),
+    Section("paste", "", "ptflow.PasteText.paste_decided ptflow.PasteText.paste_serial_decided", "ptflow.PasteText"),
+    Section("comm", "", "ptrun.Merges.comm ptrun.Merges.comm_disorder", "ptmerge.Comm"),
+    Section("join", "", "ptrun.Merges.join ptrun.Merges.join_disorder", "ptmerge.Join"),
+    Section("Merges", "`comm` and `join` are merges of two lists of lines by their keys.", "ptrun.Merges.merged",
+            "ptrun.Merges ptmerge.Orders ptmerge.MergeSpec"),
+    Section("tr", "First what it does to a text; then its strings, from characters to the plan that two of them make.",
+            "ptflow.TrOutput.tr_decided ptflow.TrOutput.tr ptlangs.TrPlan.byte_map ptlangs.TrPlan.Plan",
+            "ptflow.TrOutput ptlangs.TrChars ptlangs.TrClasses ptlangs.TrElements ptlangs.TrPlan"),
+    Section("Lists", "", "", "ptlangs.Numbers ptlangs.CutLists ptlangs.DelimLists ptlangs.OutLists"),
+    Section("Words", "From the words of a command line to a job and its inputs, or to the first fault.", "",
+            "ptopts.Syntax ptopts.Args ptopts.Faults ptopts.Commands"),
+    Section("Messages", "", "", "ptrun.MessageWrites ptrun.Messages"),
+])
 
 
 def join_lines(clause):
@@ -96,7 +114,7 @@ def join_lines(clause):
         return clause.split("\n")
     lines = [""]
     for field in one.split("; "):
-        if len(lines[-1]) + len(field) + 1 > WIDTH:
+        if lines[-1] and len(lines[-1]) + len(field) + 1 > WIDTH:
             lines.append("   ")
         lines[-1] += f" {field};" if lines[-1] else f"{field};"
     return [*lines[:-1], lines[-1].rstrip(";")]
@@ -115,69 +133,249 @@ def put_comments_beside(lines):
     return found
 
 
-def format_definition(definition):
-    """The lines of a definition on the page."""
+def find_type_name(head):
+    """The name of a type of the code, by the head of its declaration."""
+    return re.search(r"\b(?:enum|struct) (\w+)", head)[1]
+
+
+def find_constructors(needed, declared):
+    """The types that have a constructor or a variant of each name."""
+    found = {}
+    for definitions in needed.values():
+        for definition in definitions:
+            if definition.kind == "data":
+                for name in definition.names[1:]:
+                    found.setdefault(name, set()).add(definition.names[0])
+    for text in declared.values():
+        head, _, body = text.partition("{")
+        if "enum" in head:
+            for name in re.findall(r"^\s+(\w+)", body, re.M):
+                found.setdefault(name, set()).add(find_type_name(head))
+    return found
+
+
+class Names:
+    """The names of constructors on a page. One that two types have is shown with its type before it."""
+
+    def __init__(self, constructors):
+        self.shared = {name for name, types in constructors.items() if len(types) > 1}
+
+    def find_types(self, specs, module):
+        """The shared names that a module uses, by their local names: what is shown for each."""
+        shown = {}
+        for definition in module.definitions:
+            if definition.kind == "data":
+                first, *names = definition.names
+                shown.update({name: f"{first}.{name}" for name in names if name in self.shared})
+        for local, (path, name) in module.imports.items():
+            if name in self.shared and path.endswith(".TheVariants"):
+                shown[local] = f"{path.split('.')[-2]}.{name}"
+            elif name in self.shared and not is_of_code(path):
+                origin, original = specs.find_origin(path, name)
+                definition = specs.read_module(origin).named[original] if not is_of_code(origin) else None
+                if definition and definition.kind == "data":
+                    shown[local] = f"{definition.names[0]}.{original}"
+        for alias, path in module.aliases.items():
+            if path.endswith(".TheVariants"):
+                shown[f"{alias}."] = f"{path.split('.')[-2]}."
+        return shown
+
+    def show(self, text, shown):
+        """A text of a definition, with these names in place of the local ones."""
+        for local, full in shown.items():
+            end = "" if local.endswith(".") else r"(?![\w'.-])"
+            text = re.sub(rf"(?<![\w'.-]){re.escape(local)}{end}", full, text)
+        return text
+
+
+def format_definition(definition, names, shown):
+    """The lines of a definition on a page."""
     first, *clauses = definition.blocks
     first = re.sub(r"^(?:(?:abbrev|unfoldable|opaque|pub) )+", "", first)
     first = re.sub(r"^  pub ", "  ", first, flags=re.M)
-    lines = [*definition.comment, *join_lines(first)]
+    lines = [*definition.comment, *join_lines(names.show(first, shown))]
     for clause in clauses:
-        lines += join_lines(clause)
+        lines += join_lines(names.show(clause, shown))
     return put_comments_beside(lines)
 
 
-def format_variants(text):
+def format_variants(text, names):
     """A type of the code in one line: its fields or its variants."""
     head, _, body = text.partition("{")
-    names = [line.strip().rstrip(",") for line in body.split("\n") if line.strip() not in ("", "}")]
-    mark = " | " if "enum" in head else ", "
-    return f"{head.split()[-1]} = {mark.join(re.sub('^pub | = [0-9]+$', '', name) for name in names)}"
-
-
-def count_below(specs, roots):
-    """The lines that some definitions rest on."""
-    needed, _ = specs.find_needed([parse_root(root) for root in roots.split()])
-    return sum(count_lines(definitions) for definitions in needed.values())
+    variants = [line.strip().rstrip(",") for line in body.split("\n") if line.strip() not in ("", "}")]
+    variants = [re.sub("^pub | = [0-9]+$", "", name) for name in variants]
+    type_name = find_type_name(head)
+    if "enum" not in head:
+        return f"{type_name} = {', '.join(variants)}"
+    shown = [f"{type_name}.{name}" if re.match(r"\w+", name)[0] in names.shared else name for name in variants]
+    return f"{type_name} = {' | '.join(shown)}"
 
 
 def make_anchor(title):
-    return title.lower().replace(" ", "-")
+    return re.sub("[^a-z0-9 -]", "", title.lower()).replace(" ", "-")
 
 
-def format_section(specs, needed, declared, title, sentence, begins, modules):
-    """The text of a section of the page."""
-    lines = [f"## {title}", *([sentence] if sentence else []), "```"]
-    first = [specs.read_module(path).named[name] for path, name in map(parse_root, begins.split())]
-    for definition in first:
-        lines += format_definition(definition)
-    lines += [format_variants(declared[name]) for name in declared]
-    for module in modules:
-        for definition in needed.pop(f"Rattle.{module.replace('.', '.specs.', 1)}", []):
-            if not any(definition is other for other in first):
-                lines += format_definition(definition)
-    return "\n".join([*lines, "```", ""])
+def take_section(specs, left, section):
+    """Takes the definitions of a section out of those that are left: pairs of a module and a definition."""
+    taken = []
+
+    def take(path, wanted):
+        for definition in [known for known in left.get(path, []) if wanted(known)]:
+            left[path] = [other for other in left[path] if other is not definition]
+            taken.append((path, definition))
+
+    for root in section.begins.split():
+        path, name = parse_root(root)
+        take(path, lambda known, name=name: name in known.names)
+    for text in section.modules.split():
+        path, name = parse_root(text)
+        is_module = path.endswith(".")
+        take(path + name if is_module else path, lambda known, name=name, all=is_module: all or name in known.names)
+    return taken
 
 
-def make_page():
-    """The text of the page. Raises Failed if a definition has no section."""
+def split_pages(specs):
+    """The definitions that the contracts of a whole run rest on, by the sections of both pages: for each page a list of
+    sections with their definitions. Raises Failed if one is on neither."""
+    left = dict(find_promise(specs))
+    pages = {}
+    for page in (BEYOND, PROMISE):
+        pages[page.path] = [(section, take_section(specs, left, section)) for section in page.sections]
+    missing = [f"{path}: {name.names[0]}" for path, rest in left.items() for name in rest]
+    if missing:
+        raise Failed("on neither page of tools/promise.py:\n" + "\n".join(missing))
+    return pages
+
+
+def find_types(specs, taken):
+    """The types of the code that definitions name, with their texts."""
+    used = {target for path, definition in taken for _, (target, _) in specs.find_uses(path, definition)
+            if is_of_code(target) and not target.endswith(".TheConstants")}
+    return find_declared_types(specs, used)
+
+
+def find_library_names(specs, taken):
+    """The names of the toolchain's library in definitions."""
+    found = set()
+    for path, definition in taken:
+        text = " ".join(remove_comments(block) for block in definition.blocks)
+        words = set(re.findall(r"[^\s(){}\[\],;]+", text))
+        for line in specs.read_module(path).libraries:
+            names = re.search(r"\{(.*)\}", " ".join(line.split()))
+            for name in names[1].split(",") if names else []:
+                name = name.strip().partition(" as ")[0]
+                parts = [part for part in name.split("◌") if part]
+                if all(part in words or f"{part}" in text and "◌" in name for part in parts):
+                    found.add(name)
+    return found
+
+
+def format_library(used):
+    """The table of the names of the library that a page uses."""
+    missing = sorted(used - set(SIGNS) - {name for names, _, _ in LIBRARY for name in names.split()})
+    if missing:
+        raise Failed(f"tools/promise_texts.py does not explain {', '.join(missing)}")
+    rows = ["| Name | What it is | Example |", "|---|---|---|"]
+    for names, what, example in LIBRARY:
+        mine = [name for name in names.split() if name in used]
+        if mine:
+            shown = ", ".join(format_code(name.replace("◌", " ").strip()) for name in mine)
+            text = example if isinstance(example, str) else " = ".join(map(format_code, example))
+            rows.append(f"| {shown} | {what} | {text} |")
+    return "\n".join(rows)
+
+
+def format_code(text):
+    """A text as code in a table."""
+    return f"`{text}`".replace("|", r"\|")
+
+
+def format_steps(title):
+    """The evaluation of a section, step by step."""
+    if title not in STEPS:
+        return []
+    what, name, kind, value, steps = STEPS[title]
+    said = f"Step by step, {what}; here `{name} : {kind}` is `{value}`."
+    lines = [textwrap.fill(said, 120, break_long_words=False, break_on_hyphens=False), ""] if name else []
+    lines += ["| Term | What it is |", "|---|---|"]
+    lines += [f"| {format_code(left)} | {format_code(right)} |" for left, right in steps]
+    return [*lines, ""]
+
+
+def format_text(text):
+    """The text of an input or an output as code in a table."""
+    return format_code(text.replace("\\", r"\\").replace("\n", r"\n").replace("\t", r"\t").replace("\0", r"\0"))
+
+
+def format_corners(title):
+    """The table of the corner cases of a section. Raises Failed for one that is no example."""
+    if title not in CORNERS:
+        return []
+    lines = ["Corner cases, each computed by the prover:", ""]
+    lines += ["| Command | Inputs | Output | POSIX |", "|---|---|---|---|"]
+    for words, source in CORNERS[title]:
+        example = next((row for row in ROWS + STANDARD if row.words == shlex.split(words)), None)
+        if not example:
+            raise Failed(f"tools/definitions/examples.py has no example {words}")
+        texts = [(name, text.decode("latin-1")) for name, text in example.inputs.items() if text]
+        inputs = ", ".join(f"{name} {format_text(text)}" for name, text in texts)
+        output = " and ".join(map(format_text, filter(None, [example.out.decode("latin-1"), example.messages])))
+        lines.append(f"| {format_code(words)} | {inputs} | {output or 'none'} | {source} |")
+    return [*lines, ""]
+
+
+def format_field(specs, root):
+    """A field of a record in one line, such as ptrun.Runs.IsExact.out."""
+    record, _, field = root.rpartition(".")
+    path, name = parse_root(record)
+    block = specs.read_module(path).named[name].blocks[0]
+    found = re.search(rf"^  pub {field} : (.*(?:\n(?!  pub |  --).*)*)", block, re.M)
+    if not found:
+        raise Failed(f"{record} has no field {field}")
+    return format_code(f"{field} : {' '.join(found[1].split())}")
+
+
+def format_contract(file, name):
+    """The clauses of the contract of a public function."""
+    text = re.search(rf"^pub fn {name}<.*?^\{{", read_text(f"{TOP}/{file}"), re.M | re.S)[0]
+    clauses = re.findall(r"^    ((?:requires|ensures) .*?\})$", text, re.M | re.S)
+    return "\n".join(clauses)
+
+
+def make_page(specs, page, sections):
+    """The text of a page."""
+    taken = [pair for _, pairs in sections for pair in pairs]
+    declared = find_types(specs, taken)
+    by_module = {}
+    for path, definition in taken:
+        by_module.setdefault(path, []).append(definition)
+    names = Names(find_constructors(by_module, declared))
+    rows, texts, told = ["| Part | Definitions | Lines |", "|---|---|---|"], [], set()
+    for section, pairs in sections:
+        title, count = section.title, count_lines(definition for _, definition in pairs)
+        rows.append(f"| [{title}](#{make_anchor(title)}) | {len(pairs)} | {count} |")
+        lines = [f"## {title}", "", *([section.sentence, ""] if section.sentence else []), "```"]
+        for name, text in find_types(specs, pairs).items():
+            if name not in told:
+                lines.append(format_variants(text, names))
+                told.add(name)
+        for path, definition in pairs:
+            lines += format_definition(definition, names, names.find_types(specs, specs.read_module(path)))
+        texts.append("\n".join([*lines, "```", "", *format_steps(title), *format_corners(title)]))
+    total = count_lines(definition for _, definition in taken)
+    rows.append(f"| All | {len(taken)} | {total} |")
+    library = format_library(find_library_names(specs, taken))
+    words = page.words.replace("PARTS", "\n".join(rows)).replace("LIBRARY", library)
+    words = words.replace("CONTRACT", format_contract(*CONTRACTS[0]))
+    words = re.sub(r"FIELD\((.*?)\)", lambda found: format_field(specs, found[1]), words)
+    return "\n".join([words, *texts])
+
+
+def make_pages():
+    """The text of each page, by its file."""
     specs = Specs()
-    needed, types = specs.find_needed(SHOWN)
-    total = sum(count_lines(definitions) for definitions in needed.values())
-    count = sum(map(len, needed.values()))
-    rows, texts, told = ["| Part | Its lines | It rests on |", "|---|---|---|"], [], set()
-    for title, sentence, begins, modules, roots in SECTIONS:
-        paths = [f"Rattle.{module.replace('.', '.specs.', 1)}" for module in modules]
-        used = {target for path in paths for definition in needed.get(path, [])
-                for _, (target, _) in specs.find_uses(path, definition) if is_of_code(target)}
-        declared = {name: text for name, text in find_declared_types(specs, used).items() if name not in told}
-        told |= set(declared)
-        own = sum(count_lines(needed.get(path, [])) for path in paths)
-        rows.append(f"| [{title}](#{make_anchor(title)}) | {own} | {count_below(specs, roots) if roots else ''} |")
-        texts.append(format_section(specs, needed, declared, title, sentence, begins, modules))
-    if needed:
-        raise Failed(f"no section of tools/promise.py has {', '.join(needed)}")
-    rows.append(f"| All {count} definitions | {total} | |")
-    return "\n".join([INTRODUCTION, *rows, "", *texts])
+    pages = split_pages(specs)
+    return {page.path: make_page(specs, page, pages[page.path]) for page in (PROMISE, BEYOND)}
 
 
 def find_roots(specs, file, name):
@@ -205,7 +403,7 @@ def find_misplaced(specs):
             is_promised = any(definition is other for other in promise.get(path, []))
             if is_promised and "." in module.name:
                 found.append((module, definition, "is part of the promise, so it belongs in specs/ itself"))
-            elif not is_promised and "." not in module.name:
+            elif not is_promised and "." not in module.name and f"{module.crate}.{module.name}" not in OF_ENGINES:
                 found.append((module, definition, "is no part of the promise, so it belongs in a folder of specs/"))
     return [f"{relpath(module.path, TOP)}: {definition.names[0]} {why}" for module, definition, why in found]
 
@@ -215,7 +413,8 @@ def describe_size():
     specs = Specs()
     needed = find_promise(specs)
     modules = {path: specs.read_module(path).definitions for path in specs.list_modules()}
-    rows = []
+    rows = [f"{path}: {count_lines(definition for _, pairs in sections for _, definition in pairs)} lines"
+            for path, sections in split_pages(specs).items()]
     for crate in dict.fromkeys(path.split(".")[1] for path in modules):
         mine = [path for path in modules if path.split(".")[1] == crate]
         lines = [sum(count_lines(known.get(path, [])) for path in mine) for known in (needed, modules)]
@@ -238,12 +437,13 @@ def main():
         found = find_misplaced(Specs())
         if found:
             raise Failed("\n".join(found))
-        if read_text(PAGE) != make_page():
-            raise Failed("docs/PROMISE.md is stale: run make docs")
+        for path, text in make_pages().items():
+            if read_text(f"{TOP}/{path}") != text:
+                raise Failed(f"{path} is stale: run make docs")
         return 0
-    page = make_page()
-    with open(PAGE, "w", encoding="utf-8") as file:
-        file.write(page)
+    for path, text in make_pages().items():
+        with open(f"{TOP}/{path}", "w", encoding="utf-8") as file:
+            file.write(text)
     return 0
 
 

@@ -23,6 +23,7 @@ from crate import check, write_crate
 from lemmas import Others, describe_failures, make_lemmas
 from project import Failed, run_script
 from specs import Specs, parse_root
+from steps import STEP_ROOTS
 from terms import ROOTS
 
 MOST_SHOWN = 10
@@ -37,13 +38,13 @@ def report(lemmas, others, differences, proved, said):
         print(said[-3000:], "the definitions themselves are refused", sep="\n")
         return 1
     compared = "".join(f"; {count} compared with {name}" for name, count in others.counts.items())
-    print(f"{len(lemmas.texts) - len(wrong)} of {len(lemmas.texts)} lemmas as the definitions compute them{compared}")
+    print(f"{len(lemmas.subjects) - len(wrong)} of {len(lemmas.subjects)} lemmas as the definitions compute them{compared}")
     return 1 if wrong or differences else 0
 
 
 def evaluate(given, room):
     """Writes the crate and its lemmas into a folder, checks them, and returns the exit status."""
-    crate = write_crate(Specs(), [parse_root(root) for root in ROOTS], room)
+    crate = write_crate(Specs(), [parse_root(root) for root in ROOTS + STEP_ROOTS], room)
     others = Others(given.program and os.path.abspath(given.program), room)
     partial = given.count // 4 if given.partial is None else given.partial
     lemmas, differences = make_lemmas(given.seed, given.count, partial, others)

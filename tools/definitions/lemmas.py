@@ -15,7 +15,9 @@ from model import compute_answer
 from partial import make_partly_read
 from points import find_open_points
 from reading import Refused, read_command, read_words
+from promise_texts import LIBRARY
 from running import SIDES, run, run_side
+from steps import add_steps, find_library, make_head, make_jobs
 from terms import HARNESS, HEAD, format_decided_lemma, format_outcome_lemma, format_stretches_lemma
 
 LEMMAS_PER_FILE = 100
@@ -25,11 +27,16 @@ class Lemmas:
     """Lemmas by their names, each with what it is about."""
 
     def __init__(self):
-        self.texts, self.subjects = [], {}
+        self.texts, self.subjects, self.steps = [], {}, []
 
     def add(self, kind, subject, write_lemma, *given):
         name = f"{kind}_{len(self.texts)}"
         self.texts.append(write_lemma(name, *given))
+        self.subjects[name] = subject
+
+    def add_step(self, subject, write_lemma, *given):
+        name = f"step_{len(self.steps)}"
+        self.steps.append(write_lemma(name, *given))
         self.subjects[name] = subject
 
     def write(self, crate):
@@ -40,8 +47,9 @@ class Lemmas:
             texts = self.texts[start : start + LEMMAS_PER_FILE]
             write_file(f"{crate}/proofs/Lemmas{start // LEMMAS_PER_FILE}.antt", HEAD + "".join(texts))
         write_file(f"{crate}/proofs/Harness.antt", HARNESS)
+        write_file(f"{crate}/proofs/Steps.antt", make_head(find_library()) + make_jobs() + "".join(self.steps))
         files = "".join(f"pub mod Lemmas{start // LEMMAS_PER_FILE}\n" for start in starts)
-        write_file(f"{crate}/proofs/Lib.antt", "pub mod Harness\n" + files)
+        write_file(f"{crate}/proofs/Lib.antt", "pub mod Harness\npub mod Steps\n" + files)
 
 
 def remove_mark(case, out):
@@ -155,6 +163,7 @@ def describe_failures(lemmas, said):
 def make_lemmas(seed, count, partial, others):
     """The lemmas of all examples and of random commands, and how the other programs differ on these."""
     lemmas = Lemmas()
+    add_steps(lemmas, [example for _, _, example in LIBRARY if isinstance(example, tuple)])
     differences = add_examples(lemmas, others)
     differences += add_commands(lemmas, make_commands(seed, count), others)
     add_partly_read(lemmas, make_partly_read(seed, partial))

@@ -21,6 +21,7 @@ sys.path[1:1] = [f"{TOP}/tools/compare", f"{TOP}/tools"]
 from crate import check, write_crate
 from lemmas import Others, find_failed_lemmas, make_lemmas
 from specs import LIBRARIES, Specs, parse_root
+from steps import STEP_ROOTS
 from terms import ROOTS
 
 
@@ -51,7 +52,7 @@ def replace_text(path, old, new):
 
 def find_refusals(crates, lemmas, room):
     """The lemmas that do not hold over the definitions below `crates`, and whether all the rest is proved."""
-    crate = write_crate(Specs(crates), [parse_root(root) for root in ROOTS], room)
+    crate = write_crate(Specs(crates), [parse_root(root) for root in ROOTS + STEP_ROOTS], room)
     lemmas.write(crate)
     proved, said = check(crate)
     found = find_failed_lemmas(said)

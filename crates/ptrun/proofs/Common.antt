@@ -33,10 +33,12 @@ pub use specs.MessageWrites.{HasSaid, line_of}
 pub use specs.Calls.MessageWrites.{SayPost, texts}
 pub use specs.Messages.{name_of, unopened_message, usage_message}
 pub use specs.Private.Messages.{usage_status}
-pub use specs.Operands.{decided_in_order, position, positions, up_to_unended}
+pub use specs.Decided.{up_to_unended}
+pub use specs.Operands.{position, positions}
+pub use specs.Private.Sequential.{decided_in_order}
 pub use specs.Runs.{HasCause, IsRun, outcome, sinks}
+pub use specs.Private.Tools.{spec_of_tool, tool_spec}
 pub use specs.SpecOfArgs.{command_spec, spec_of_parsed}
-pub use specs.Tools.{spec_of_tool}
 pub use specs.declared.driver.Completion.{Completion}
 pub use specs.declared.driver.Completion.TheVariants.{AllWritten, Disordered, Unopened}
 pub use specs.declared.tool.Disorder.{Disorder}

@@ -33,13 +33,13 @@ use Rattle.ptmerge.specs.declared.faults.MergeFault.{MergeFault}
 use Rattle.ptmerge.specs.declared.key_order.Side.{Side}
 use specs.Private.Driver.{JointPost, JointPre, ReportUnopenedPost, fault_at, joint_completion, merge_found}
 use specs.Private.Driver.{result_of_end, result_status, run_state}
-use specs.Engines.{at_positions, line_at}
+use specs.Private.Engines.{at_positions, line_at}
 use specs.Private.Engines.{end_at, in_run}
 use specs.Files.{IsNew, IsNewOrUnopened, at}
 use Rattle.std.proofs.Math.Seq.{take-length}
 use Rattle.std.proofs.lemmas.List.{get_or-set_other, get_or-set_same, set-append_left, set-append_right}
-use specs.Joint.{JointTool, bytes_of, has_unopened, joint_spec, one_input_tool, operand, paste_rows_tool, received_in}
-use specs.Joint.{two_input_tool}
+use specs.Decided.{bytes_of, has_unopened, operand, received_in}
+use specs.Private.Joint.{JointTool, joint_spec, one_input_tool, paste_rows_tool, two_input_tool}
 use Rattle.ptmerge.specs.declared.key_order.Side.TheVariants.{First, Second}
 use Rattle.ptmerge.specs.Calls.MergeSpec.{MergeTool}
 

@@ -19,7 +19,7 @@ use Rattle.ptlines.proofs.KnownBytes.{append_known-append}
 use Rattle.ptlines.proofs.Lag.{bounded_lag_now, known_length}
 use specs.Files.{HasReceivedAt, IsConsistentAt, IsNewOrUnopened, at, input_of_operand, inputs_of_operands}
 use specs.Files.{opened_inputs, opened_values}
-use specs.Operands.{maximum}
+use specs.Bounds.{maximum}
 use Rattle.std.proofs.Math.ListN.{get_or-map as get_or-map_any}
 use specs.Lag.{BoundedLagAs, HasBoundedLag, IsWrittenUpToBlock, LagOfAny, LagOfLast}
 use Rattle.ptlines.specs.declared.sizes.TheConstants.{BLOCK}
@@ -279,11 +279,11 @@ last_same : (xs ys : List Received) (x y : Received) → xs ++ x ∷ [] ≡ ys +
 last_same xs ys x y is = grind usual
 
 pub all_earlier : (t : ToolSpec) (came : List Received) (P : List ℕ → Type 0) → P (decided_in_order t came)
-    → LagOfLast t came P
+    → LagOfLast t.decided came P
 all_earlier t came P holds done last is = (same_before last, grind arith)
 
 pub last_earlier : (t : ToolSpec) (came : List Received) (g : Received) (b : LaggedInput g) (P : List ℕ → Type 0)
-    → P (decided_in_order t (came ++ b.earlier ∷ [])) → LagOfLast t (came ++ g ∷ []) P
+    → P (decided_in_order t (came ++ b.earlier ∷ [])) → LagOfLast t.decided (came ++ g ∷ []) P
 last_earlier t came g b P holds done last is = let (before, same) = last_same _ _ g _ is in
     rw (sym before, sym same) (b, holds)
 
@@ -323,7 +323,7 @@ pub earlier_map : (m : CommandSpec) (r : ReceivedInputs) (n : ℕ) (P Q : List �
     → ((bytes : List ℕ) → P bytes → Q bytes) → HasBoundedLag m r n P → HasBoundedLag m r n Q
 earlier_map m r n P Q follows = by_kind m.sequential
   where
-    by_kind : (kind : Option ToolSpec) → BoundedLagAs m r n P kind → BoundedLagAs m r n Q kind
+    by_kind : (kind : Option (Received → List ℕ)) → BoundedLagAs m r n P kind → BoundedLagAs m r n Q kind
     by_kind None k = λ position came named is. let (lagged, holds) = k position came named is in
         (lagged, grind arith)
     by_kind (Some t) k = λ done last is. let (lagged, holds) = k done last is in

@@ -8,7 +8,7 @@ use proofs.Common.{All, All-map, AreInputsConsistent, AreReadToEnd, Bool, Comman
 use proofs.Common.{FlowFault, HasCause, HasSaid, Input, InputBytes, InputsPre, IsPrefix, IsRun, IsTooLong, List, Memory}
 use proofs.Common.{None, Ok, Option, Output, PushEffect, Read, Reader, Received, ReceivedInputs, Result, RunInputsEnd}
 use proofs.Common.{RunInputsPost, SinkState, Slots, Some, Write, [], ap, append-nil, append_known, arith, cases_Bool}
-use proofs.Common.{usual, command_spec, cond, ended_operands, false, false≢true, fault_view, is_reader_unopened}
+use proofs.Common.{usual, tool_spec, cond, ended_operands, false, false≢true, fault_view, is_reader_unopened}
 use proofs.Common.{is_unopened, length, length-append, map, messages, position, positions, push_trans, reader_at, refl}
 use proofs.Common.{rules, sinks, spec_of_parsed, spec_of_tool, subst, sym, true, usage_message, usage_status, ℕ, ⊎_elim, ◌++◌}
 use proofs.Common.{◌<◌, ◌==◌, ◌∙◌, ◌≡◌, ◌≤◌}
@@ -24,7 +24,8 @@ use specs.Files.{AreNewInputs, HasBytesAt, HasReceivedAt, IsConsistentAt, IsNewO
 use specs.Runs.{IsExact, IsExactUnlessFailed, IsUnchangedIfUnread, Outcome, RunEnd, Sinks}
 use Rattle.std.proofs.lemmas.List.{append_cancel_left, nil_from_length}
 use Rattle.ptopts.specs.declared.command.Command as code
-use specs.SpecOfArgs.{is_memory_fault, message_only, spec_of_args, tool_name, tool_of_job, word_of_job}
+use specs.Private.Tools.{tool_of_job}
+use specs.SpecOfArgs.{is_memory_fault, message_only, spec_of_args, tool_name, word_of_job}
 use Rattle.ptopts.specs.Commands.{Command, Job, RunComm, RunCut, RunJoin, RunPaste, RunTr, RunUniq, command_of_args}
 
 -- ---- the bytes that reached the sink
@@ -303,7 +304,7 @@ accepts_operands (RunJoin u) word names order two = grind arith
 accepts_operands (RunTr u) word names order any = grind arith
 
 pub inputs_pre_of_spelled : (words : List (List ℕ)) (c : Command) (readers : List Reader) → SpellsCommand words c
-    → AreNewInputs (Some (length c.names)) readers → InputsPre (command_spec c) readers
+    → AreNewInputs (Some (length c.names)) readers → InputsPre (tool_spec c) readers
 inputs_pre_of_spelled words c readers (Spelled name rest tool os operands named s allowed) fresh =
     let is = accepts_operands c.job (word_of_job c.job) c.names c.order
     (grind (arith, are_inputs)) in record {

@@ -22,7 +22,7 @@ use proofs.OperandInputs.{nothing_read, nth_here, opened_inputs_none, opened_inp
 use proofs.OperandInputs.{received_of, said_more, sends_after, sends_now}
 use specs.Private.Driver.{fault_at}
 use specs.Files.{IsNewOrUnopened, at, input_of_operand, inputs_of_operands, opened_inputs, opened_values}
-use specs.Operands.{sequential_bound, sequential_decided, sequential_output, sequential_slots, sequential_spec}
+use specs.Private.Sequential.{sequential_bound, sequential_decided, sequential_output, sequential_slots, sequential_spec}
 use Rattle.std.proofs.Math.Seq.{take-append-add, take-append_seam, take-length}
 
 pub record OperandsDone (word : List ℕ) (t : ToolSpec) (names : List (List ℕ)) (old now : List Reader) (was is : Output)

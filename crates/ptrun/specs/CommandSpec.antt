@@ -3,8 +3,8 @@
 -- their ends, and when something was left to do.
 use Rattle.std.specs.Prelude.{◌≡◌, ◌≢◌, ◌⊎◌, ℕ, ◌==◌, Option, List, [], ◌++◌, Bool, true, flat_map, is_none, length}
 use Rattle.std.specs.Prelude.{take, if◌then◌else◌}
-use Rattle.ptflow.specs.ToolSpec.{ToolSpec}
 use Rattle.ptlines.specs.Readers.{Reader}
+use Rattle.ptlines.specs.Received.{Received}
 use Rattle.ptrun.specs.Files.{InputBytes, ReceivedInputs, is_unopened, AreInputsConsistent, IsOneUnended}
 use Rattle.ptrun.specs.Messages.{unopened_message, name_of}
 
@@ -20,8 +20,9 @@ pub record CommandSpec : Type 0 where
   pub keeps_groups : Bool
   -- the output that is decided by what was received, regardless of the bytes that follow
   pub decided : ReceivedInputs → List ℕ
-  -- the tool, if it reads its operands one after another, and `None` if it reads them together
-  pub sequential : Option ToolSpec
+  -- what of its output is decided by one operand, if the tool reads them one after another; `None` if it reads them
+  -- together
+  pub sequential : Option (Received → List ℕ)
   -- the message after those about unopened files: that about a line out of order, or empty
   pub final_message : InputBytes → List ℕ
   -- whether the tool reads and writes nothing, given which of the inputs could not be opened

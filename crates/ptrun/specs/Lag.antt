@@ -1,14 +1,13 @@
 -- A bound on the lag of the output: however a run ends, the output that was decided two blocks of input ago is written,
 -- except for at most one block after a failed write.
 use Rattle.std.specs.Prelude.{◌≡◌, ◌≤◌, ℕ, ◌+◌, Bool, true, false, List, [], ◌∷◌, ◌++◌, Option, Some, None, length}
-use Rattle.std.specs.Prelude.{take, set}
-use Rattle.ptflow.specs.ToolSpec.{ToolSpec}
+use Rattle.std.specs.Prelude.{flat_map, take, set}
 use Rattle.ptlines.specs.Engines.{is_in}
 use Rattle.ptlines.specs.Lag.{LaggedInput}
 use Rattle.ptlines.specs.Received.{IsPrefix, Received, empty_input}
 use Rattle.ptrun.specs.CommandSpec.{CommandSpec}
 use Rattle.ptrun.specs.Files.{ReceivedInputs, at, opened_inputs}
-use Rattle.ptrun.specs.Operands.{decided_in_order}
+use Rattle.ptrun.specs.Decided.{up_to_unended}
 use Rattle.ptlines.specs.declared.sizes.TheConstants.{BLOCK}
 
 -- `bytes` were written: all of them, or after a failed write all except at most one block (8,192 bytes).
@@ -26,9 +25,9 @@ received_so_far r positions n = opened_inputs empty_input r (take (n + 1) positi
 
 -- `P` holds of the output that was decided when at most two blocks fewer of the last input were received. The inputs
 -- before it count whole.
-abbrev pub LagOfLast : ToolSpec → List Received → (List ℕ → Type 0) → Type 0
-LagOfLast t came P = (done : List Received) (last : Received) → came ≡ done ++ last ∷ []
-    → (before : LaggedInput last) × P (decided_in_order t (done ++ before.earlier ∷ []))
+abbrev pub LagOfLast : (Received → List ℕ) → List Received → (List ℕ → Type 0) → Type 0
+LagOfLast decided_of_one came P = (done : List Received) (last : Received) → came ≡ done ++ last ∷ []
+    → (before : LaggedInput last) × P (flat_map decided_of_one (up_to_unended (done ++ before.earlier ∷ [])))
 
 -- `P` holds of the output that was decided when at most two blocks fewer of the input at any one of these positions
 -- were received, regardless of what was received from the others.
@@ -39,8 +38,9 @@ LagOfAny positions decided r P = (position : ℕ) (came : Received) → is_in po
 
 -- One of the two: the former for a tool that reads its operands one after another, the latter for one that reads them
 -- together.
-abbrev pub BoundedLagAs : CommandSpec → ReceivedInputs → ℕ → (List ℕ → Type 0) → Option ToolSpec → Type 0
-BoundedLagAs m r n P (Some t) = LagOfLast t (received_so_far r m.positions n) P
+abbrev pub BoundedLagAs : CommandSpec → ReceivedInputs → ℕ → (List ℕ → Type 0) → Option (Received → List ℕ)
+    → Type 0
+BoundedLagAs m r n P (Some decided_of_one) = LagOfLast decided_of_one (received_so_far r m.positions n) P
 BoundedLagAs m r n P None = LagOfAny m.positions m.decided r P
 
 -- `P` holds of the output that the command had decided at most two blocks of input earlier; `n` operands are done.

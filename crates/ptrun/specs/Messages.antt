@@ -88,6 +88,16 @@ disorder_message tool names position line =
     line_of (tool ∷ codes ": " ∷ name_of names position ∷ codes ": line " ∷ decimal line ∷ codes " is out of order"
     ∷ [])
 
+-- The message about a line out of order, if there is one.
+abbrev pub disorder_text : List ℕ → List (List ℕ) → Option (ℕ × ℕ) → List ℕ
+disorder_text word names None = []
+disorder_text word names (Some found) = disorder_message word names found.0 found.1
+
+-- The exit status: 1 if a line is out of order.
+abbrev pub disorder_status : Option (ℕ × ℕ) → ℕ
+disorder_status None = 0
+disorder_status (Some found) = 1
+
 -- The message about a failed call. A failed read names the input at its position.
 abbrev pub fault_message : List ℕ → List (List ℕ) → FlowFault → List ℕ
 fault_message tool names (Read position) =

@@ -1,21 +1,17 @@
 -- From the arguments of a command to its specification.
 use Rattle.std.specs.Prelude.{ℕ, List, [], Bool, true, false, Option, Some, None, Result, Ok, Err, codes, length}
 use Rattle.std.specs.Prelude.{slice_index_or, is_none, if◌then◌else◌}
-use Rattle.ptflow.specs.Cuts.{cut_tool}
-use Rattle.ptflow.specs.TrOutput.{tr_tool}
-use Rattle.ptflow.specs.Uniqs.{uniq_tool}
-use Rattle.ptmerge.specs.Comm.{comm_engine}
-use Rattle.ptmerge.specs.Join.{join_engine}
 use Rattle.ptopts.specs.Commands.{Command, Job, RunComm, RunCut, RunJoin, RunPaste, RunTr, RunUniq, command_of_args}
 use Rattle.ptopts.specs.Commands.{command_view}
 use Rattle.ptopts.specs.Faults.{Fault}
 use Rattle.ptopts.specs.View.{fault_view}
 use Rattle.ptopts.specs.declared.fault.UseFault.{UseFault}
 use Rattle.ptrun.specs.CommandSpec.{CommandSpec}
-use Rattle.ptrun.specs.Joint.{one_input_tool, two_input_tool}
-use Rattle.ptrun.specs.Messages.{usage_message}
+use Rattle.ptrun.specs.Bounds.{bound, disorder}
+use Rattle.ptrun.specs.Decided.{bytes_of, decided, decided_of_one, has_unopened, output, reads_in_turn}
+use Rattle.ptrun.specs.Messages.{disorder_status, disorder_text, usage_message}
 use Rattle.ptrun.specs.Operands.{positions}
-use Rattle.ptrun.specs.Tools.{OneByOne, Together, ToolInRun, paste_in_run, spec_of_tool}
+use Rattle.ptrun.specs.Slots.{accepts, keeps_groups, may_touch, reads_nothing, slot_bound}
 use Rattle.ptopts.specs.declared.command.Command as code
 
 -- Nothing is read, nothing is written to the output, and `text` is the only message.
@@ -37,15 +33,6 @@ message_only text status = record {
   names = [];
 }
 
--- The tool that a job asks for.
-abbrev pub tool_of_job : Job → ToolInRun
-tool_of_job (RunCut job) = OneByOne (cut_tool job)
-tool_of_job (RunPaste job) = paste_in_run job
-tool_of_job (RunUniq job) = Together (one_input_tool (uniq_tool job))
-tool_of_job (RunComm job) = Together (two_input_tool (comm_engine job))
-tool_of_job (RunJoin job) = Together (two_input_tool (join_engine job))
-tool_of_job (RunTr m) = OneByOne (tr_tool m)
-
 -- The name of this tool.
 abbrev pub word_of_job : Job → List ℕ
 word_of_job (RunCut job) = codes "cut"
@@ -55,9 +42,29 @@ word_of_job (RunComm job) = codes "comm"
 word_of_job (RunJoin job) = codes "join"
 word_of_job (RunTr m) = codes "tr"
 
+-- The specification of a job, with operands at these positions and files of these names.
+abbrev pub spec_of_job : Job → List (List ℕ) → List ℕ → CommandSpec
+spec_of_job job names operands = record {
+  out = output job operands;
+  status = λ w. if has_unopened operands w then 1 else disorder_status (disorder job operands (bytes_of w));
+  memory_bound = bound job operands;
+  slot_bound = slot_bound job operands;
+  keeps_groups = keeps_groups job;
+  decided = decided job operands;
+  sequential = if reads_in_turn job then Some (decided_of_one job) else None;
+  final_message = λ w. if has_unopened operands w then [] else disorder_text (word_of_job job) names
+      (disorder job operands (bytes_of w));
+  reads_nothing = reads_nothing job operands;
+  accepts = accepts job operands;
+  positions = operands;
+  may_touch = may_touch job operands;
+  tool = word_of_job job;
+  names = names;
+}
+
 -- The specification of a parsed command.
 abbrev pub command_spec : Command → CommandSpec
-command_spec c = spec_of_tool (word_of_job c.job) (tool_of_job c.job) c.names (positions c.order)
+command_spec c = spec_of_job c.job c.names (positions c.order)
 
 -- The name of the tool: the first argument, or empty if there is none.
 abbrev pub tool_name : List (List ℕ) → List ℕ

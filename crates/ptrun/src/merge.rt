@@ -17,7 +17,7 @@ impl<A: Allocator + Copy> Joint<A> for CommJob {
     ghost use Rattle.std.specs.Prelude.{codes};
     ghost use Rattle.ptlangs.specs.Jobs.{comm_job};
     ghost use Rattle.ptmerge.specs.Comm.{comm_engine};
-    ghost use Rattle.ptrun.specs.Joint.{two_input_tool};
+    ghost use Rattle.ptrun.specs.Private.Joint.{two_input_tool};
 
     ghost tool = { λ job. two_input_tool (comm_engine (comm_job job)) };
 
@@ -45,7 +45,7 @@ impl<A: Allocator + Copy, B: Allocator + Copy> Joint<A> for JoinJob<B> {
     ghost use Rattle.std.specs.Prelude.{codes};
     ghost use Rattle.ptlangs.specs.Jobs.{join_job};
     ghost use Rattle.ptmerge.specs.Join.{join_engine};
-    ghost use Rattle.ptrun.specs.Joint.{two_input_tool};
+    ghost use Rattle.ptrun.specs.Private.Joint.{two_input_tool};
 
     ghost tool = { λ job. two_input_tool (join_engine (join_job job)) };
 

@@ -5,7 +5,7 @@
 ghost use Rattle.std.specs.Prelude.{◌≡◌, ℕ, List};
 ghost use Rattle.ptflow.specs.Calls.Passes.{PassPre, PassPost};
 ghost use Rattle.ptflow.specs.ToolSpec.{ToolSpec};
-ghost use Rattle.ptrun.specs.Joint.{JointTool};
+ghost use Rattle.ptrun.specs.Private.Joint.{JointTool};
 ghost use Rattle.ptrun.specs.Private.Driver.{DecidesAll, JointPre, JointPost};
 
 use ptflow::FlowFault;

@@ -5,7 +5,7 @@ ghost use Rattle.ptopts.specs.Commands.{command_view};
 ghost use Rattle.ptrun.specs.Private.Driver.{InputsPre, RunWithStorePost};
 ghost use Rattle.ptrun.specs.Calls.Runs.{RunPre};
 ghost use Rattle.ptrun.specs.Runs.{sinks, outcome};
-ghost use Rattle.ptrun.specs.SpecOfArgs.{command_spec};
+ghost use Rattle.ptrun.specs.Private.Tools.{tool_spec};
 
 use crate::driver::{run_in_turn, run_together};
 use crate::messages::Messages;
@@ -34,9 +34,9 @@ pub(crate) fn run_command<
     out: W,
     messages: Messages<E>,
 ) -> Report<W, E>
-    requires given { InputsPre (command_spec (command_view command.now)) inputs.old }
+    requires given { InputsPre (tool_spec (command_view command.now)) inputs.old }
     requires unused { RunPre store.old (sinks (W.state out) messages) }
-    ensures { RunWithStorePost (command_spec (command_view command.now)) inputs.old inputs.new
+    ensures { RunWithStorePost (tool_spec (command_view command.now)) inputs.old inputs.new
         (sinks (W.state out) messages) (outcome W.state E.state result) store.old store.new }
 {
     match command {
@@ -134,7 +134,7 @@ impl<A: Allocator + Copy, B: Allocator + Copy> Sequential<A> for PasteJob<B> {
 impl<A: Allocator + Copy, B: Allocator + Copy> Joint<A> for PasteJob<B> {
     ghost use Rattle.std.specs.Prelude.{codes};
     ghost use Rattle.ptlangs.specs.Jobs.{paste_job};
-    ghost use Rattle.ptrun.specs.Joint.{paste_rows_tool};
+    ghost use Rattle.ptrun.specs.Private.Joint.{paste_rows_tool};
 
     ghost tool = { λ job. paste_rows_tool (paste_job job) };
 
@@ -162,7 +162,7 @@ impl<A: Allocator + Copy> Joint<A> for UniqJob {
     ghost use Rattle.std.specs.Prelude.{codes};
     ghost use Rattle.ptlangs.specs.Jobs.{uniq_job};
     ghost use Rattle.ptflow.specs.Uniqs.{uniq_tool};
-    ghost use Rattle.ptrun.specs.Joint.{one_input_tool};
+    ghost use Rattle.ptrun.specs.Private.Joint.{one_input_tool};
 
     ghost tool = { λ job. one_input_tool (uniq_tool (uniq_job job)) };
 

@@ -8,9 +8,9 @@ use Rattle.ptlines.specs.Received.{Received}
 use Rattle.ptflow.specs.ToolSpec.{ToolSpec}
 use Rattle.ptfakes.proofs.SplitWords.{words}
 use Rattle.ptrun.specs.Files.{ReceivedInputs}
-use Rattle.ptrun.specs.Operands.{up_to_unended}
+use Rattle.ptrun.specs.Decided.{up_to_unended}
 use Rattle.ptrun.specs.Lag.{IsWrittenUpToBlock, LagOfLast, HasBoundedLag}
-use Rattle.ptrun.specs.Joint.{one_input_tool, joint_spec}
+use Rattle.ptrun.specs.Private.Joint.{one_input_tool, joint_spec}
 use Rattle.ptrun.specs.SpecOfArgs.{spec_of_args}
 use Rattle.ptlines.specs.declared.sizes.TheConstants.{BLOCK}
 
@@ -35,39 +35,29 @@ first_written first later written failed k =
     omega (arith, ap length k.begins.is, length-append k.front k.begins.rest) in
     (omega (arith, all, begun, k.few), λ fine. omega (arith, all, begun, ap length (k.none fine)))
 
-written_of_the_first : (t : ToolSpec) (bytes written : List ℕ) (failed : Bool)
-    → LagOfLast t (complete bytes ∷ nothing ∷ []) (λ decided. IsWrittenUpToBlock decided written failed)
-    → (length (t.decided (complete bytes)) ≤ length written + BLOCK)
-    × (failed ≡ false → length (t.decided (complete bytes)) ≤ length written)
-written_of_the_first t bytes written failed k =
+written_of_the_first : (one : Received → List ℕ) (bytes written : List ℕ) (failed : Bool)
+    → LagOfLast one (complete bytes ∷ nothing ∷ []) (λ decided. IsWrittenUpToBlock decided written failed)
+    → (length (one (complete bytes)) ≤ length written + BLOCK)
+    × (failed ≡ false → length (one (complete bytes)) ≤ length written)
+written_of_the_first one bytes written failed k =
     let kept = k (complete bytes ∷ []) nothing refl in
-    first_written (t.decided (complete bytes)) (flat_map t.decided (up_to_unended (kept.0.earlier ∷ []))) written
+    first_written (one (complete bytes)) (flat_map one (up_to_unended (kept.0.earlier ∷ []))) written
     failed kept.1
-
-abbrev no_tool : ToolSpec
-no_tool = record {
-  text = λ text. [];
-  decided = λ given. [];
-  size = λ text. 0;
-  slots = 0;
-  end = 10;
-  keeps_end = true;
-}
 
 -- Nothing was written for a file of 3 bytes, and no write failed.
 nothing_of_a_small_file : HasBoundedLag (spec_of_args (words "cut -c 1 f g")) (first_complete (codes "ab\n")) 1
     (λ decided. IsWrittenUpToBlock decided [] false) → ⊥
 nothing_of_a_small_file k =
-    let cut = unwrap_or (spec_of_args (words "cut -c 1 f g")).sequential no_tool in
-    let two : length (cut.decided (complete (codes "ab\n"))) ≡ 2 = refl in
+    let cut = unwrap_or (spec_of_args (words "cut -c 1 f g")).sequential (λ given. []) in
+    let two : length (cut (complete (codes "ab\n"))) ≡ 2 = refl in
     omega (arith, two, (written_of_the_first cut (codes "ab\n") [] false k).1 refl)
 
 -- A write failed, and more than a block is missing of the output that the first file decided.
-more_than_a_block_is_lost : (t : ToolSpec) (bytes written : List ℕ)
-    → length written + BLOCK < length (t.decided (complete bytes))
-    → LagOfLast t (complete bytes ∷ nothing ∷ []) (λ decided. IsWrittenUpToBlock decided written true) → ⊥
-more_than_a_block_is_lost t bytes written too_much k =
-    omega (arith, (written_of_the_first t bytes written true k).0, too_much)
+more_than_a_block_is_lost : (one : Received → List ℕ) (bytes written : List ℕ)
+    → length written + BLOCK < length (one (complete bytes))
+    → LagOfLast one (complete bytes ∷ nothing ∷ []) (λ decided. IsWrittenUpToBlock decided written true) → ⊥
+more_than_a_block_is_lost one bytes written too_much k =
+    omega (arith, (written_of_the_first one bytes written true k).0, too_much)
 
 abbrev copier : ToolSpec
 copier = record {

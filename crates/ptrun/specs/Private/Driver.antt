@@ -23,13 +23,14 @@ use Rattle.ptopts.specs.declared.inputs.Inputs.{Inputs}
 use Rattle.ptrun.specs.CommandSpec.{CommandSpec, IsUnfinished, ended_operands, operand_messages, unopened_messages}
 use Rattle.ptrun.specs.Files.{AreInputsConsistent, AreReadToEnd, HasReadFailed, HaveReceived, InputBytes}
 use Rattle.ptrun.specs.Files.{IsNewOrUnopened, ReceivedInputs, is_reader_unopened}
-use Rattle.ptrun.specs.Joint.{JointTool, joint_spec}
 use Rattle.ptrun.specs.Lag.{HasBoundedLag}
 use Rattle.ptrun.specs.MessageWrites.{HasSaid}
 use Rattle.ptrun.specs.Messages.{disorder_message, fault_message}
-use Rattle.ptrun.specs.Operands.{positions, sequential_spec}
+use Rattle.ptrun.specs.Operands.{positions}
 use Rattle.ptrun.specs.Private.Engines.{end_at, in_run}
+use Rattle.ptrun.specs.Private.Joint.{JointTool, joint_spec}
 use Rattle.ptrun.specs.Private.Lag.{IsPushedUpToBlock}
+use Rattle.ptrun.specs.Private.Sequential.{sequential_spec}
 use Rattle.ptrun.specs.Runs.{HasCause, IsComplete, IsRunInStore, IsStoreUnchangedIfUnread, IsUnchangedIfUnread}
 use Rattle.ptrun.specs.Runs.{Outcome, Sinks}
 use Rattle.ptrun.specs.declared.driver.Completion.{Completion}

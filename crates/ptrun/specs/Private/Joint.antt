@@ -1,20 +1,19 @@
 -- Tools that read all their operands together: `paste`, `uniq`, `comm` and `join`. If an operand could not be opened,
 -- every such file is reported and nothing else is done.
-use Rattle.std.specs.Prelude.{ℕ, ◌==◌, ◌&&◌, Bool, List, [], Option, Some, None, length, nat_le, unwrap_or}
-use Rattle.std.specs.Prelude.{slice_index_or, not, if◌then◌else◌}
+use Rattle.std.specs.Prelude.{ℕ, ◌==◌, ◌&&◌, Bool, List, [], None, length, nat_le, slice_index_or, not}
+use Rattle.std.specs.Prelude.{if◌then◌else◌}
 use Rattle.std.specs.List.{list_any}
 use Rattle.ptlines.specs.Engines.{EngineSpec}
-use Rattle.ptlines.specs.Received.{Received, empty_input}
 use Rattle.ptlangs.specs.Jobs.{Paste}
 use Rattle.ptflow.specs.Passes.{pass_engine}
 use Rattle.ptflow.specs.PasteCall.{paste_engine}
 use Rattle.ptflow.specs.ToolSpec.{ToolSpec}
 use Rattle.ptmerge.specs.declared.key_order.Side.{Side}
 use Rattle.ptmerge.specs.declared.key_order.Side.TheVariants.{First, Second}
-use Rattle.ptrun.specs.Files.{InputBytes, ReceivedInputs, at, is_unopened}
 use Rattle.ptrun.specs.CommandSpec.{CommandSpec}
-use Rattle.ptrun.specs.Engines.{at_positions}
-use Rattle.ptrun.specs.Messages.{disorder_message}
+use Rattle.ptrun.specs.Decided.{bytes_of, has_unopened, operand, received_in}
+use Rattle.ptrun.specs.Messages.{disorder_status, disorder_text}
+use Rattle.ptrun.specs.Private.Engines.{at_positions}
 
 -- A tool that reads its inputs together. The operands are given as positions.
 pub record JointTool : Type 0 where
@@ -41,39 +40,12 @@ paste_rows_tool job = record {
   accepts = λ positions. nat_le (length positions) 512;
 }
 
--- The position of the first or of the second operand.
-abbrev pub operand : List ℕ → Side → ℕ
-operand positions First = slice_index_or positions 0 0
-operand positions Second = slice_index_or positions 1 0
-
 -- A tool with two inputs, which must be different ones.
 abbrev pub two_input_tool : EngineSpec Side → JointTool
 two_input_tool engine = record {
   engine = λ positions. at_positions engine (operand positions);
   accepts = λ positions. (length positions == 2) && not (operand positions First == operand positions Second);
 }
-
--- The bytes of the input at a position.
-abbrev pub bytes_of : InputBytes → ℕ → List ℕ
-bytes_of w position = unwrap_or (at w position) []
-
--- The received part of the input at a position.
-abbrev pub received_in : ReceivedInputs → ℕ → Received
-received_in r position = unwrap_or (at r position) empty_input
-
--- The message about a line out of order, if there is one.
-abbrev pub disorder_text : List ℕ → List (List ℕ) → Option (ℕ × ℕ) → List ℕ
-disorder_text word names None = []
-disorder_text word names (Some found) = disorder_message word names found.0 found.1
-
--- The exit status: 1 if a line is out of order.
-abbrev pub disorder_status : Option (ℕ × ℕ) → ℕ
-disorder_status None = 0
-disorder_status (Some found) = 1
-
--- An operand could not be opened.
-abbrev pub has_unopened : {X : Type 0} → List ℕ → List (Option X) → Bool
-has_unopened positions xs = list_any (is_unopened xs) positions
 
 -- The specification of the tool named `word` with operands at these positions and files of these names.
 abbrev pub joint_spec : List ℕ → JointTool → List (List ℕ) → List ℕ → CommandSpec
