@@ -1,12 +1,16 @@
--- Words specify a command exactly if the grammar gives them options and operands that the tool allows: each of the five
--- faults is a condition that is not met.
+-- Words are read as the grammar spells them (`read_as_spelled`), and specify a command exactly if it gives them options
+-- and operands that the tool allows: each fault is a condition that is not met.
 use Rattle.ptopts.proofs
-use proofs.Common.{Command, IsTrue, List, None, Ok, Option, ParsedOption, Some, Tool, Valid, [], ap, append-nil}
-use proofs.Common.{append_assoc, arith, command_of_args, command_of_tool, false, first_some, is_repeated, is_some, map}
-use proofs.Common.{ok_unless, options, parse_fault, parsed_args, refl, sym, tool_of_name, ℕ, ◌++◌, ◌∷◌, ◌≡◌}
+use proofs.Common.{Command, Err, Fault, IsTrue, List, None, Ok, Option, ParsedOption, ReadingMatchesGrammar, Result, Some}
+use proofs.Common.{Spells, Tool, Valid, [], ap, append-nil, append_assoc, arith, command_of_args, command_of_tool, false}
+use proofs.Common.{first_some, is_repeated, is_some, map, ok_unless, options, parse_fault, parsed_args, refl, subst, sym}
+use proofs.Common.{tool_of_name, ℕ, ◌++◌, ◌∙◌, ◌∷◌, ◌≡◌}
 use proofs.ParsedIsSpelled.{options-map, spelled_if_fine}
+use proofs.ReadWords.{read_is_told}
 use proofs.SpelledIsParsed.{spelled}
-use Rattle.ptopts.specs.Laws.Theorems.{CommandsMatchGrammar, Spelled, SpellsCommand}
+use Rattle.ptlangs.specs.Numbers.{and_then}
+use Rattle.ptopts.specs.Commands.{checked_command, read_words}
+use Rattle.ptopts.specs.Laws.Theorems.{AreGivenOnce, CommandsMatchGrammar, Spelled, SpellsCommand}
 
 -- like `AreGivenOnce`, for options after others
 abbrev AreGivenOnceAfter : Tool → List ParsedOption → List ParsedOption → Type 0
@@ -35,33 +39,64 @@ once_to tool first (x ∷ os) once =
     (once (x ∷ before) after o (ap (λ ys. x ∷ ys) is) some)) in
     grind (arith, append-nil, once [] os x refl, later)
 
-none_of : {A : Type 0} (a b c d e : Option A) → first_some (a ∷ b ∷ c ∷ d ∷ e ∷ []) ≡ None
-    → (a ≡ None) × (b ≡ None) × (c ≡ None) × (d ≡ None) × (e ≡ None)
-none_of = grind arith
-
 unless_ok : {A E : Type 0} (e : Option E) (x y : A) → ok_unless e x ≡ Ok y → (e ≡ None) × (x ≡ y)
 unless_ok = grind arith
 
-spelled_if_meant : (name : List ℕ) (words : List (List ℕ)) (tool : Tool) (c : Command) → tool_of_name name ≡ Some tool
-    → command_of_tool (Some tool) words ≡ Ok c → SpellsCommand (name ∷ words) c
-spelled_if_meant name words tool c named is =
+read_from : (tool : Tool) (words : List (List ℕ)) (os : List ParsedOption) (operands : List (List ℕ))
+    → Spells tool words os operands × AreGivenOnce tool os → read_words tool [] None words ≡ Ok (os, operands)
+read_from tool words os operands (s, once) =
+    grind (arith, read_is_told, spelled, options-map, once_to tool [] os once)
+
+read_to : (tool : Tool) (words : List (List ℕ)) (os : List ParsedOption) (operands : List (List ℕ))
+    → read_words tool [] None words ≡ Ok (os, operands) → Spells tool words os operands × AreGivenOnce tool os
+read_to tool words os operands is =
     let r = parsed_args tool words in
-    let (faultless, same) = unless_ok _ _ c is in
-    let (parses, together, values, inputs, strings) = none_of _ _ _ _ _ faultless in
-    let s = spelled_if_fine tool words parses in
-    rw (sym same) (Spelled name words tool (options r) r.operands named s (record {
-      once = λ before after o is. once_in tool [] before after o (rw is at (rw (spelled _ s) at parses));
+    let (faultless, same) = unless_ok (parse_fault tool [] r.tokens) (options r, r.operands) (os, operands)
+    (sym (read_is_told tool words) ∙ is) in
+    let s = spelled_if_fine tool words faultless in
+    let all : (Spells tool words (options r) r.operands × AreGivenOnce tool (options r)) =
+    (s, λ before after o is. once_in tool [] before after o (rw is at (rw (spelled _ s) at faultless))) in
+    subst (λ (p : List ParsedOption × List (List ℕ)). Spells tool words p.0 p.1 × AreGivenOnce tool p.0) same all
+
+pub read_as_spelled : ReadingMatchesGrammar
+read_as_spelled tool words os operands = (read_from tool words os operands, read_to tool words os operands)
+
+none_of : {A : Type 0} (a b c d : Option A) → first_some (a ∷ b ∷ c ∷ d ∷ []) ≡ None
+    → (a ≡ None) × (b ≡ None) × (c ≡ None) × (d ≡ None)
+none_of = grind arith
+
+checked_ok : (name : List ℕ) (words : List (List ℕ)) (tool : Tool) (os : List ParsedOption) (operands : List (List ℕ))
+    (c : Command) → tool_of_name name ≡ Some tool → Spells tool words os operands × AreGivenOnce tool os
+    → checked_command tool (os, operands) ≡ Ok c → SpellsCommand (name ∷ words) c
+checked_ok name words tool os operands c named (s, once) is =
+    let (none, same) = unless_ok _ _ c is in
+    let (together, values, inputs, strings) = none_of _ _ _ _ none in
+    rw (sym same) (Spelled name words tool os operands named s (record {
+      once = once;
       together = together;
       values = values;
       inputs = inputs;
       strings = strings;
     }))
 
+spelled_if_meant : (name : List ℕ) (words : List (List ℕ)) (tool : Tool) (c : Command)
+    (r : Result (List ParsedOption × List (List ℕ)) Fault) → tool_of_name name ≡ Some tool
+    → read_words tool [] None words ≡ r → and_then r (checked_command tool) ≡ Ok c → SpellsCommand (name ∷ words) c
+spelled_if_meant name words tool c (Err e) named read is = cc
+spelled_if_meant name words tool c (Ok (os, operands)) named read is =
+    checked_ok name words tool os operands c named (read_to tool words os operands read) is
+
 meant_from : (words : List (List ℕ)) (c : Command) → SpellsCommand words c → command_of_args words ≡ Ok c
-meant_from _ c (Spelled name rest tool os operands named s a) = grind (arith, spelled, options-map, once_to)
+meant_from _ c (Spelled name rest tool os operands named s a) = grind (arith, read_from)
+
+from_name : (name : List ℕ) (words : List (List ℕ)) (c : Command) (found : Option Tool) → tool_of_name name ≡ found
+    → command_of_tool found words ≡ Ok c → SpellsCommand (name ∷ words) c
+from_name name words c None named is = cc
+from_name name words c (Some tool) named is = spelled_if_meant name words tool c _ named refl is
 
 spelled_from : (words : List (List ℕ)) (c : Command) → command_of_args words ≡ Ok c → SpellsCommand words c
-spelled_from = grind (arith, spelled_if_meant)
+spelled_from [] c is = cc
+spelled_from (name ∷ words) c is = from_name name words c (tool_of_name name) refl is
 
 pub meant_as_spelled : CommandsMatchGrammar
 meant_as_spelled words c = (meant_from _ c, spelled_from _ c)

@@ -8,5 +8,6 @@ pub mod CutOptions
 pub mod ParsedIsSpelled
 pub mod ArgsInvariant
 pub mod OptionViews
+pub mod ReadWords
 pub mod InputCounts
 pub mod SpelledIsParsed

@@ -1,10 +1,10 @@
 -- A parse without a faulty token is one of the grammar: each word of options is flags, perhaps with an option that
--- takes the rest of the word or the next word as its value. So the parse and the grammar agree (`read_as_spelled`),
--- and the grammar accepts words whose parse has no fault (`spelled_if_fine`).
+-- takes the rest of the word or the next word as its value. So the grammar
+-- accepts words whose parse has no fault (`spelled_if_fine`).
 use Rattle.ptopts.proofs
 use Rattle.std.proofs.lemmas
-use proofs.Common.{AreFlags, Bool, EndOfOptions, FaultlessIsSpelled, Flags, List, None, OperandsAlone}
-use proofs.Common.{ParseMatchesGrammar, ParsedOption, Spells, Token, Tool, Valid, ValueAttached, ValueNext, []}
+use proofs.Common.{AreFlags, Bool, EndOfOptions, Flags, List, None, OperandsAlone, ParsedOption, parsed_args}
+use proofs.Common.{Spells, Token, Tool, Valid, ValueAttached, ValueNext, []}
 use proofs.Common.{ap, append_assoc, arith, codes, false, filter_map, flag}
 use proofs.Common.{is_end_of_options, is_flag, is_option_arg, is_some, list_all, map, option_of_token}
 use proofs.Common.{options, parse_fault, parsed_args_from, refl, rules, slice_get, subst, sym, takes_next, takes_value}
@@ -13,7 +13,7 @@ use proofs.SpelledIsParsed.{spelled, takes_next-all_flags, takes_next-flags, tok
 use lemmas.Slice.Eq.{bytes_eq-Decides}
 use lemmas.Bool.{and_from, cases_Bool, not_from_false}
 use Rattle.ptlangs.specs.Numbers.{is_empty}
-use Rattle.ptopts.specs.Faults.{with_token}
+use Rattle.ptopts.specs.Private.Tokens.{with_token}
 
 abbrev all_given : List Token → Bool
 all_given tokens = list_all (λ e. is_some (option_of_token e)) tokens
@@ -110,14 +110,12 @@ built tool (word ∷ ws) false =
     rw ends (λ given. subst (λ (w : List ℕ). Spells tool (w ∷ ws) [] ws) (sym (same ends)) (EndOfOptions ws)))
     (λ ends. word_spelled _ _ ws ends (built _ ws)) (cases_Bool _)
 
-pub read_as_spelled : ParseMatchesGrammar
-read_as_spelled = grind (arith, spelled, built, all_given-map, options-map)
-
 all_given_unless_faulty : (tool : Tool) (before : List ParsedOption) (tokens : List Token)
     → parse_fault tool before tokens ≡ None → all_given tokens ≡ true
 all_given_unless_faulty _ _ [] none = refl
 all_given_unless_faulty tool before (token ∷ tokens) none =
     grind (arith, all_given_unless_faulty tool (with_token before token) tokens)
 
-pub spelled_if_fine : FaultlessIsSpelled
+pub spelled_if_fine : (tool : Tool) (words : List (List ℕ)) → parse_fault tool [] (parsed_args tool words).tokens ≡ None
+    → Spells tool words (options (parsed_args tool words)) (parsed_args tool words).operands
 spelled_if_fine tool words none = search (rules, built, all_given_unless_faulty)

@@ -1,26 +1,27 @@
 -- The command that the words of a command line specify, or the first fault: the job that the options of each tool
 -- give, its inputs and its output. Also the words and the commands of the code, as values of these definitions.
-use Rattle.std.specs.Prelude.{ℕ, ◌||◌, ◌+◌, List, [], ◌∷◌, Bool, false, not, Option, Some, None, Result, Ok, Err}
+use Rattle.std.specs.Prelude.{ℕ, ◌||◌, ◌+◌, List, [], ◌∷◌, ◌++◌, Bool, false, not, Option, Some, None, Result, Ok, Err}
 use Rattle.std.specs.Prelude.{if◌then◌else◌, option_and_then, slice_get, unwrap_or, option_map, codes, bytes_eq, filter}
-use Rattle.std.specs.Prelude.{take, map}
+use Rattle.std.specs.Prelude.{drop, take, map}
 use Rattle.std.specs.Borrow.{Bor}
 use Rattle.std.specs.List.{list_any}
 use Rattle.std.specs.Result.{result_unwrap_or}
 use Rattle.std.specs.Str.{byte}
 use Rattle.ptlangs.specs.CutLists.{selection}
 use Rattle.ptlangs.specs.DelimLists.{delim_list}
-use Rattle.ptlangs.specs.Numbers.{number}
+use Rattle.ptlangs.specs.Numbers.{and_then, is_empty, number}
 use Rattle.ptlangs.specs.OutLists.{out_list}
 use Rattle.ptlangs.specs.TrPlan.{ByteMap, Plan, byte_map}
 use Rattle.ptlangs.specs.TrTables.{byte_map_of}
 use Rattle.ptlangs.specs.declared.jobs.Show.{Show}
 use Rattle.ptlangs.specs.declared.jobs.Show.TheVariants.{All, Counts, Repeated, Single}
 use Rattle.ptlangs.specs.declared.outlist.OutField.{OutField}
-use Rattle.ptopts.specs.Args.{ParsedArgs, ParsedOption, has_option, options, parsed_args, tool_of_name, value_of}
-use Rattle.ptopts.specs.Args.{values_of}
-use Rattle.ptopts.specs.Faults.{Fault, NoTool, constraints_fault, cut_list_value, each_value_fault, first_some}
+use Rattle.ptopts.specs.Args.{ParsedOption, flag, has_option, is_end_of_options, is_flag, is_option_arg, takes_value}
+use Rattle.ptopts.specs.Args.{tool_of_name, value_of, values_of, with_value}
+use Rattle.ptopts.specs.Faults.{Fault, NeedsValue, NoTool, Twice, Unknown, constraints_fault, cut_list_value}
+use Rattle.ptopts.specs.Faults.{each_value_fault, first_some}
 use Rattle.ptopts.specs.Faults.{is_count, is_cut_list, is_delimiter_list, is_delimiter_value, is_field_number}
-use Rattle.ptopts.specs.Faults.{is_file_number, is_output_list, is_standard, operands_fault, parse_fault}
+use Rattle.ptopts.specs.Faults.{is_file_number, is_output_list, is_repeated, is_standard, operands_fault}
 use Rattle.ptopts.specs.Faults.{plan_of_operands, strings_fault, terminator_of_options, value_fault}
 use Rattle.ptopts.specs.declared.inputs.Input.{Input}
 use Rattle.ptopts.specs.declared.inputs.Input.TheVariants.{File, Standard}
@@ -234,6 +235,33 @@ command_view (parsed.Comm job inputs) = with_inputs (RunComm (jobs.comm_job job)
 command_view (parsed.Join job inputs) = with_inputs (RunJoin (jobs.join_job job)) inputs
 command_view (parsed.Tr plan inputs) = with_inputs (RunTr (byte_map_of plan)) inputs
 
+-- ---- words, from left to right, up to the first fault
+
+-- The options of a word, after those before: the letters after its dash are read in turn. A letter with a value takes the
+-- rest of the word. If that is empty, it takes the next word: then it is the second part of the result.
+abbrev pub read_letters : Tool → List ℕ → List ParsedOption → List ℕ
+    → Result (List ParsedOption × Option ℕ) Fault
+read_letters tool word before [] = Ok (before, None)
+read_letters tool word before (letter ∷ rest) =
+    if is_flag tool letter then read_letters tool word (before ++ flag letter ∷ []) rest
+    else (if not (takes_value tool letter) then Err (Unknown word)
+    else (if is_repeated tool before letter then Err (Twice letter)
+    else (if is_empty rest then Ok (before, Some letter) else Ok (before ++ with_value letter rest ∷ [], None))))
+
+-- The options, after those before, and the operands of these words. If a letter is given, the first word is its value,
+-- whatever it is.
+abbrev pub read_words : Tool → List ParsedOption → Option ℕ → List (List ℕ)
+    → Result (List ParsedOption × List (List ℕ)) Fault
+read_words tool before None [] = Ok (before, [])
+read_words tool before (Some letter) [] = Err (NeedsValue letter)
+read_words tool before (Some letter) (value ∷ words) =
+    read_words tool (before ++ with_value letter value ∷ []) None words
+read_words tool before None (word ∷ words) =
+    if is_end_of_options word then Ok (before, words)
+    else (if not (is_option_arg word) then Ok (before, word ∷ words)
+    else and_then (read_letters tool word before (drop 1 word))
+    (λ (read : List ParsedOption × Option ℕ). read_words tool read.0 read.1 words))
+
 -- ---- commands
 
 -- the command of options and operands that have no fault
@@ -245,19 +273,17 @@ abbrev pub ok_unless : {A E : Type 0} → Option E → A → Result A E
 ok_unless None x = Ok x
 ok_unless (Some e) x = Err e
 
--- the first fault: first that of parsing, then of the constraints, the values, the operands, and last the strings
-abbrev pub first_fault : Tool → ParsedArgs → Option Fault
-first_fault tool r =
-    let os = options r in
-    first_some (
-    parse_fault tool [] r.tokens ∷ constraints_fault tool os ∷ values_fault tool os
-    ∷ operands_fault tool os r.operands ∷ strings_fault tool os r.operands ∷ [])
+-- The command of options and operands, or their first fault: first that of the constraints, then of the values, the
+-- operands, and last the strings.
+abbrev pub checked_command : Tool → List ParsedOption × List (List ℕ) → Result Command Fault
+checked_command tool (os, operands) = ok_unless (first_some (
+    constraints_fault tool os ∷ values_fault tool os
+    ∷ operands_fault tool os operands ∷ strings_fault tool os operands ∷ [])) (command tool os operands)
 
 -- the command of the words after the name of a tool
 abbrev pub command_of_tool : Option Tool → List (List ℕ) → Result Command Fault
 command_of_tool None words = Err NoTool
-command_of_tool (Some tool) words =
-    let r = parsed_args tool words in ok_unless (first_fault tool r) (command tool (options r) r.operands)
+command_of_tool (Some tool) words = and_then (read_words tool [] None words) (checked_command tool)
 
 -- the command of the words, the name of the tool first, or the first fault
 abbrev pub command_of_args : List (List ℕ) → Result Command Fault

@@ -1,5 +1,5 @@
 -- The faults of a command line, and which of several faults is the first.
-use Rattle.std.specs.Prelude.{ℕ, ◌==◌, ◌&&◌, ◌||◌, List, [], ◌∷◌, ◌++◌, Bool, true, false, not, Option, Some, None}
+use Rattle.std.specs.Prelude.{ℕ, ◌==◌, ◌&&◌, ◌||◌, List, [], ◌∷◌, Bool, true, false, not, Option, Some, None}
 use Rattle.std.specs.Prelude.{Result, if◌then◌else◌, map, find, length, nat_le, codes, bytes_eq, is_some, is_ok}
 use Rattle.std.specs.Prelude.{option_map, option_and_then, slice_get, slice_index_or}
 use Rattle.std.specs.List.{list_all}
@@ -21,9 +21,7 @@ use Rattle.ptopts.specs.declared.tool.Tool.TheVariants.{Tr}
 use Rattle.ptopts.specs.declared.tool.Constraint.{Constraint}
 use Rattle.ptopts.specs.declared.tool.Constraint.TheVariants.{Conflict, Required}
 use Rattle.ptopts.specs.Syntax.{syntax}
-use Rattle.ptopts.specs.Args.{ParsedOption, Token, Valid, MissingValue, UnknownLetter, has_option, has_letter}
-use Rattle.ptopts.specs.Args.{value_of}
-use Rattle.ptopts.specs.Args.{values_of}
+use Rattle.ptopts.specs.Args.{ParsedOption, has_option, has_letter, value_of, values_of}
 
 -- a fault; the letters are those of the options at fault
 pub data Fault : Type 0 where
@@ -44,31 +42,9 @@ abbrev pub first_some : {A : Type 0} → List (Option A) → Option A
 first_some [] = None
 first_some (o ∷ os) = option_or o (first_some os)
 
--- ---- faults of parsing
-
 -- the option is among those before, and is not one that may be repeated
 abbrev pub is_repeated : Tool → List ParsedOption → ℕ → Bool
 is_repeated tool before letter = has_option letter before && not (has_letter letter (syntax tool).repeatable)
-
--- the fault of a token, after these options
-abbrev pub token_fault : Tool → List ParsedOption → Token → Option Fault
-token_fault tool before (Valid o) =
-    if is_some o.value && is_repeated tool before o.letter then Some (Twice o.letter) else None
-token_fault tool before (MissingValue letter) =
-    if is_repeated tool before letter then Some (Twice letter) else Some (NeedsValue letter)
-token_fault tool before (UnknownLetter word) = Some (Unknown word)
-
--- the options after one more token
-abbrev pub with_token : List ParsedOption → Token → List ParsedOption
-with_token before (Valid o) = before ++ o ∷ []
-with_token before (MissingValue letter) = before
-with_token before (UnknownLetter word) = before
-
--- the leftmost fault of the tokens, after these options
-abbrev pub parse_fault : Tool → List ParsedOption → List Token → Option Fault
-parse_fault tool before [] = None
-parse_fault tool before (token ∷ tokens) =
-    option_or (token_fault tool before token) (parse_fault tool (with_token before token) tokens)
 
 -- ---- constraints
 

@@ -2,3 +2,4 @@
 pub mod Commands
 pub mod ParseSteps
 pub mod Syntax
+pub mod Tokens

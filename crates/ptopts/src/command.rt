@@ -3,7 +3,7 @@
 
 ghost use Rattle.std.specs.Prelude.{◌≡◌, IfOk, None, option_map};
 ghost use Rattle.ptopts.specs.Faults.{constraints_fault, operands_fault};
-ghost use Rattle.ptopts.specs.Private.Commands.{checked_command};
+ghost use Rattle.ptopts.specs.Private.Commands.{allowed_command};
 ghost use Rattle.ptopts.specs.Commands.{command_of_args, input_operands, output};
 ghost use Rattle.ptopts.specs.Commands.{words_view, command_view};
 ghost use Rattle.ptopts.specs.View.{CommandPost, HasToolName};
@@ -103,7 +103,7 @@ impl<'a, A: Allocator + Copy> ParsedArgs<'a, A> {
     /// Makes the command of a tool. Its values are checked first, then its operands, then the strings of `tr`.
     fn read_command(&self, alloc: A, tool: Tool) -> Result<Command<'a, A>, UseFault<'a>>
         requires { constraints_fault tool (options_of self.now) ≡ None }
-        ensures { CommandPost result (checked_command tool (options_of self.now) (operands_of self.now)) }
+        ensures { CommandPost result (allowed_command tool (options_of self.now) (operands_of self.now)) }
     {
         Ok(match tool {
             Tool::Cut => Command::Cut(self.cut_job(alloc)?, self.read_inputs(alloc, tool)?),

@@ -2,8 +2,9 @@
 //! calls `read_words`. The modules that check options and operands have methods of its result, `ParsedArgs`.
 
 ghost use Rattle.std.specs.Prelude.{◌≡◌, ◌<◌, length, IfOk, IfErr};
-ghost use Rattle.ptopts.specs.Args.{is_option_arg, has_option, is_flag, Valid};
-ghost use Rattle.ptopts.specs.Faults.{is_repeated, token_fault};
+ghost use Rattle.ptopts.specs.Args.{is_option_arg, has_option, is_flag};
+ghost use Rattle.ptopts.specs.Faults.{is_repeated};
+ghost use Rattle.ptopts.specs.Private.Tokens.{Valid, token_fault};
 ghost use Rattle.ptopts.specs.Commands.{words_view};
 ghost use Rattle.ptopts.specs.Private.ParseSteps.{CheckPost, option_view, options_view, next_view, token_at};
 ghost use Rattle.ptopts.specs.Private.ParseSteps.{words_after_value};

@@ -5,12 +5,14 @@ use Rattle.std.specs.Prelude.{⊤}
 use Rattle.std.proofs.lemmas.Bool.{true≢false}
 use Rattle.std.specs.List.{list_any}
 use Rattle.ptlines.specs.Sources.{SourceState}
-use Rattle.ptopts.specs.Args.{parsed_args}
-use Rattle.ptopts.specs.Commands.{Command, command_of_args, command_of_tool, file_names, ok_unless, or_stdin, order_from}
-use Rattle.ptopts.specs.Commands.{output}
+use Rattle.ptlangs.specs.Numbers.{and_then}
+use Rattle.ptopts.specs.Args.{ParsedOption}
+use Rattle.ptopts.specs.Commands.{Command, checked_command, command, command_of_args, command_of_tool, file_names}
+use Rattle.ptopts.specs.Commands.{ok_unless, or_stdin, order_from, output}
 use Rattle.ptopts.specs.Faults.{Fault, is_standard}
 use Rattle.ptopts.specs.declared.inputs.Input.TheVariants.{File, Standard}
 use Rattle.ptopts.specs.Syntax.{tools}
+use Rattle.ptopts.specs.declared.tool.Tool.{Tool}
 use Rattle.ptrun.specs.Files.{InputBytes, is_reader_unopened}
 use Rattle.ptrun.specs.Joint.{disorder_status}
 use Rattle.ptrun.specs.Operands.{positions}
@@ -103,23 +105,29 @@ module _ (standard : SourceState) (content : ℕ → List ℕ → Option Content
     of_fault command None unread = unread
     of_fault command (Some fault) unread = λ are some none. refl
 
+    of_read : (tool : Tool) (read : Result (List ParsedOption × List (List ℕ)) Fault)
+        → ((os : List ParsedOption) (operands : List (List ℕ)) → IsUnread (Ok (command tool os operands)))
+        → IsUnread (and_then read (checked_command tool))
+    of_read tool (Ok (os, operands)) unread = of_fault _ _ (unread os operands)
+    of_read tool (Err fault) unread = λ are some none. refl
+
     -- Each tool but `uniq` writes to standard output.
     of_args : (words : List (List ℕ)) → IsUnread (command_of_args words)
     of_args [] = λ are some none. refl
     of_args (name ∷ words) = of_each (λ tool. IsUnread (command_of_tool tool words)) (λ t. bytes_eq name t.0) tools
         (λ are some none. refl) (
-          of_fault _ _ (λ are some none. absurd (true≢false some)),
+          of_read _ _ (λ os operands are some none. absurd (true≢false some)),
           (
-            of_fault _ _ (λ are some none. absurd (true≢false some)),
+            of_read _ _ (λ os operands are some none. absurd (true≢false some)),
             (
-              of_fault _ _ (λ are some none. absurd (true≢false some)),
+              of_read _ _ (λ os operands are some none. absurd (true≢false some)),
               (
-                of_fault _ _ (λ are some none. absurd (true≢false some)),
+                of_read _ _ (λ os operands are some none. absurd (true≢false some)),
                 (
-                  of_fault _ _ (of_fifth (λ tool. IsUniq (output tool) (parsed_args tool words).operands)
-                      (λ tool. of_uniq (output tool) (parsed_args tool words).operands) tools refl (λ input. refl)
+                  of_read _ _ (λ os operands. of_fifth (λ tool. IsUniq (output tool) operands)
+                      (λ tool. of_uniq (output tool) operands) tools refl (λ input. refl)
                       (λ input written more. refl)),
-                  (of_fault _ _ (λ are some none. absurd (true≢false some)), tt),
+                  (of_read _ _ (λ os operands are some none. absurd (true≢false some)), tt),
                 ),
               ),
             ),

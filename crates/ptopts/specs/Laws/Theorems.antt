@@ -1,32 +1,26 @@
--- Theorems on the grammar of words, their parse from left to right, and the commands that they specify.
-use Rattle.std.specs.Prelude.{◌≡◌, ◌↔◌, ℕ, List, [], ◌∷◌, ◌++◌, map, false, Some, None, Ok, IsTrue, is_some}
-use Rattle.ptopts.specs.Args.{ParsedOption, Valid, options, parsed_args, tool_of_name}
-use Rattle.ptopts.specs.Commands.{Command, command, command_of_args, values_fault}
-use Rattle.ptopts.specs.Faults.{constraints_fault, is_repeated, operands_fault, parse_fault, strings_fault}
+-- Theorems on the grammar of words, their reading from left to right, and the commands that they specify.
+use Rattle.std.specs.Prelude.{◌≡◌, ◌↔◌, ℕ, List, [], ◌∷◌, ◌++◌, false, Some, None, Ok, IsTrue, is_some}
+use Rattle.ptopts.specs.Args.{ParsedOption, tool_of_name}
+use Rattle.ptopts.specs.Commands.{Command, command, command_of_args, read_words, values_fault}
+use Rattle.ptopts.specs.Faults.{constraints_fault, is_repeated, operands_fault, strings_fault}
 use Rattle.ptopts.specs.Laws.Args.{Spells}
 use Rattle.ptopts.specs.declared.tool.Tool.{Tool}
 
--- the grammar gives options and operands to words if and only if the parse gives the same and no faulty token
-abbrev pub ParseMatchesGrammar : Type 0
-ParseMatchesGrammar = (tool : Tool) (words : List (List ℕ)) (os : List ParsedOption) (operands : List (List ℕ))
-    → Spells tool words os operands ↔ (parsed_args tool words ≡ record { tokens = map Valid os; operands = operands })
+-- no option with a value is present twice, except those that may be repeated
+abbrev pub AreGivenOnce : Tool → List ParsedOption → Type 0
+AreGivenOnce tool os = (before after : List ParsedOption) (o : ParsedOption)
+    → os ≡ before ++ o ∷ after → IsTrue (is_some o.value) → is_repeated tool before o.letter ≡ false
+
+-- words are read as options and operands if and only if the grammar gives them these, and no option twice
+abbrev pub ReadingMatchesGrammar : Type 0
+ReadingMatchesGrammar = (tool : Tool) (words : List (List ℕ)) (os : List ParsedOption) (operands : List (List ℕ))
+    → (Spells tool words os operands × AreGivenOnce tool os) ↔ (read_words tool [] None words ≡ Ok (os, operands))
 
 -- the grammar gives at most one list of options and one list of operands to words
 abbrev pub GrammarIsUnambiguous : Type 0
 GrammarIsUnambiguous = (tool : Tool) (words : List (List ℕ)) (os os' : List ParsedOption)
     (operands operands' : List (List ℕ))
     → Spells tool words os operands → Spells tool words os' operands' → (os ≡ os') × (operands ≡ operands')
-
--- if the parse has no fault, the grammar gives the same options and operands
-abbrev pub FaultlessIsSpelled : Type 0
-FaultlessIsSpelled = (tool : Tool) (words : List (List ℕ))
-    → parse_fault tool [] (parsed_args tool words).tokens ≡ None
-    → Spells tool words (options (parsed_args tool words)) (parsed_args tool words).operands
-
--- no option with a value is present twice, except those that may be repeated
-abbrev pub AreGivenOnce : Tool → List ParsedOption → Type 0
-AreGivenOnce tool os = (before after : List ParsedOption) (o : ParsedOption)
-    → os ≡ before ++ o ∷ after → IsTrue (is_some o.value) → is_repeated tool before o.letter ≡ false
 
 -- the options meet the constraints, and there is no fault in their values, the operands and the strings
 pub record AreAllowed (tool : Tool) (os : List ParsedOption) (operands : List (List ℕ)) : Type 0 where

@@ -7,7 +7,7 @@ use Rattle.ptopts.specs.declared.tool.Tool.{Tool}
 
 -- the command of options that meet the constraints of the tool, or the first fault of the values, the operands and the
 -- strings
-abbrev pub checked_command : Tool → List ParsedOption → List (List ℕ) → Result Command Fault
-checked_command tool os operands = ok_unless
+abbrev pub allowed_command : Tool → List ParsedOption → List (List ℕ) → Result Command Fault
+allowed_command tool os operands = ok_unless
     (first_some (values_fault tool os ∷ operands_fault tool os operands ∷ strings_fault tool os operands ∷ []))
     (command tool os operands)

@@ -3,10 +3,11 @@
 use Rattle.std.specs.Prelude.{◌≡◌, ℕ, List, [], ◌∷◌, ◌++◌, Bool, true, false, Option, None, Result, Ok, Err, IsSome}
 use Rattle.std.specs.Prelude.{OnSome, option_map, map, filter_map, drop, slice_index, ◌+◌}
 use Rattle.std.specs.Borrow.{Bor}
-use Rattle.ptopts.specs.Args.{ParsedOption, Token, option_of_token, options, parsed_args, takes_next, tokens_of}
-use Rattle.ptopts.specs.Args.{value_token}
-use Rattle.ptopts.specs.Commands.{Job, command_over, with_inputs, words_view}
-use Rattle.ptopts.specs.Faults.{Fault, parse_fault}
+use Rattle.ptopts.specs.Args.{ParsedOption}
+use Rattle.ptopts.specs.Commands.{Job, command_over, read_words, with_inputs, words_view}
+use Rattle.ptopts.specs.Faults.{Fault}
+use Rattle.ptopts.specs.Private.Tokens.{Token, option_of_token, parse_fault, takes_next, tokens_of, value_token}
+use Rattle.ptlangs.specs.Results.{IsFault}
 use Rattle.ptopts.specs.View.{fault_view}
 use Rattle.ptopts.specs.declared.fault.UseFault.{UseFault}
 use Rattle.ptopts.specs.declared.inputs.Inputs.{Inputs}
@@ -73,15 +74,12 @@ GroupFaultPost tool word next before e =
     → parse_fault tool before (tokens_of tool word next ++ tokens) ≡ fault_view e)
 
 -- the words were parsed without a fault, into these options and operands
-pub record ArgsPost (tool : Tool) (words : List (List ℕ)) (os : List ParsedOption)
-    (operands : List (List ℕ)) : Type 0 where
-  pub options : os ≡ options (parsed_args tool words)
-  pub rest : operands ≡ (parsed_args tool words).operands
-  pub faultless : parse_fault tool [] (parsed_args tool words).tokens ≡ None
+abbrev pub ArgsPost : Tool → List (List ℕ) → List ParsedOption → List (List ℕ) → Type 0
+ArgsPost tool words os operands = read_words tool [] None words ≡ Ok (os, operands)
 
 -- parsing the words failed with their first fault, or with an allocation failure
 abbrev pub ArgsFaultPost : Tool → List (List ℕ) → UseFault → Type 0
-ArgsFaultPost tool words e = OnSome (fault_view e) (parse_fault tool [] (parsed_args tool words).tokens ≡ fault_view e)
+ArgsFaultPost tool words e = IsFault (fault_view e) (read_words tool [] None words)
 
 -- the words after a word of options, without the next word if that is a value
 abbrev pub words_after_value : Bool → List (List ℕ) → List (List ℕ)

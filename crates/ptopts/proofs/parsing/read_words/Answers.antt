@@ -1,9 +1,17 @@
 -- Each iteration reads one word of options, and its value if that is the next word.
 use Rattle.ptopts.proofs
-use proofs.Common.{ArgsFaultPost, on_fault, sym, words_view, ◌∙◌}
+use proofs.Common.{ArgsFaultPost, [], ap, arith, on_fault, options_view, parsed_args, sym, words_view, ◌∙◌, ◌≡◌}
 use proofs.ArgsInvariant.{group_fails, group_read, left_smaller, next_first}
+use proofs.ReadWords.{read_is_told, told}
 use Rattle.std.specs.Result.{IfErr}
 use proofs.parsing.read_words.Goals as goal
+
+pub loop-word-init : goal.loop-word-init
+loop-word-init g c =
+    let tool = c.args.tool in
+    let words = words_view c.args.words.now in
+    let none : options_view c.new-options.result.items ≡ [] = grind arith in
+    record { is = read_is_told tool words ∙ ap (λ os. told tool os (parsed_args tool words)) (sym none) }
 
 pub loop-word-preserved : goal.loop-word-preserved
 loop-word-preserved g c =
