@@ -6,16 +6,18 @@ pub use specs.CutLists.{element_interval, is_dash}
 pub use specs.DelimLists.{delim_list}
 pub use specs.Numbers.{and_then, cons_ok, elements, is_list_separator, max_u64, value}
 pub use specs.OutLists.{element_field}
-pub use specs.TrChars.{SetChar, byte_of, chars, chars_after}
+pub use specs.Laws.TrReading.{SetChar, byte_of, chars, chars_after}
 pub use specs.Laws.TrChars.{SpellsChars}
 pub use specs.TrClasses.{all_bytes}
 pub use specs.Private.TrClasses.{range_bytes}
-pub use specs.TrElements.{set_elements}
+pub use specs.Laws.TrReading.{set_elements}
 pub use specs.Private.TrParsing.{HasPaired, PairPost, all_paired, bytes_left, contents_of, first_members, marked_array}
 pub use specs.Private.TrParsing.{member_bytes, member_results, most_left, plain_members}
 pub use specs.Calls.TrParsing.{ok_map}
-pub use specs.TrPlan.{array, complement_of, first_array, image_by, in_string, is_fill, plan, plan_of, segments}
-pub use specs.TrPlan.{segments_of, sequence, string_segments}
+pub use specs.TrPlan.{array, complement_of, first_array, image_by, in_string, plan, plan_of}
+pub use specs.Laws.TrReading.{is_fill, segments}
+pub use specs.Laws.TrReading.{segments_of, sequence, string_segments}
+pub use specs.TrElements.{read_string}
 pub use specs.Calls.TrShifts.{prepend_shift, shift_at, shift_of, stretches_from}
 pub use specs.Calls.TrTables.{tables}
 pub use specs.declared.faults.SetFault.{SetFault}

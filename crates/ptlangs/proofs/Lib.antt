@@ -7,3 +7,4 @@ pub mod TrGrammar
 pub mod TrArrays
 pub mod TrShifts
 pub mod TrPlans
+pub mod TrTexts

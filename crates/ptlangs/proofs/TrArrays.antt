@@ -10,13 +10,15 @@ use proofs.Common.{Segment, SetElement, SetFaultKind, SetRole, Some, [], all_pai
 use proofs.Common.{bytes_left, usual, complement_of, cond, contents_of, count_by, drop, drop_all, drop_more, eqb, false}
 use proofs.Common.{first_array, first_members, image_by, is_fill, length, map, map-append, marked_array, member_bytes}
 use proofs.Common.{member_results, ne_eqb, not, plain_members, refl, replicate, result_map_both, rules, segments_of}
-use proofs.Common.{sequence, slice_get, string_segments, subst, suc, sym, take, take_all, true, zero, ℕ, ◌++◌, ◌+◌, ◌-◌}
+use proofs.Common.{sequence, slice_get, read_string, subst, suc, sym, take, take_all, true, zero, ℕ, ◌++◌, ◌+◌, ◌-◌}
 use proofs.Common.{◌*◌, ◌<◌, ◌||◌, ◌∙◌, ◌∷◌, ◌≡◌, ◌≢◌, ◌≤◌}
 use proofs.ListElements.{append_ok as onto}
+use proofs.TrTexts.{read_in_steps}
 use specs.TrClasses.{all_bytes, class_bytes, span}
 use specs.Private.TrParsing.{class_of, classes_match, marked_members, members_from}
 use specs.TrPlan.{are_paired, class_offsets, has_byte, has_other_case_at, last_position, members, next_index_or}
-use specs.TrPlan.{image_of, is_deleted, is_squeezed, of_bytes, padded_to, segment}
+use specs.TrPlan.{image_of, is_deleted, is_squeezed, of_bytes, padded_to}
+use specs.Laws.TrReading.{segment}
 use specs.Laws.TrTables.{TablesHaveMap}
 use specs.declared.faults.SetFaultKind.TheVariants.{ClassPlace}
 use specs.declared.tr.images.Images.{Images}
@@ -152,17 +154,17 @@ segment-passed = grind (arith, slice_get_cases, drop_all)
 -- ---- the string of the segments
 
 pub string-fault : (role : SetRole) (text : List ℕ) (n : ℕ) (k : SetFaultKind) → false ≡ eqb (length text) 0
-    → sequence (member_results n (segments_of role text)) ≡ Err k → string_segments role text ≡ Err k
-string-fault = grind (arith, sequence-members)
+    → sequence (member_results n (segments_of role text)) ≡ Err k → read_string role text ≡ Err k
+string-fault = grind (arith, sequence-members, read_in_steps)
 
 pub string-read : (role : SetRole) (text : List ℕ) (n : ℕ) (ms : List Member) → false ≡ eqb (length text) 0
     → sequence (member_results n (segments_of role text)) ≡ Ok ms
-    → (ps : List Segment) × (string_segments role text ≡ Ok ps) × (marked_array n ps ≡ ms)
-string-read = grind (arith, sequence-members)
+    → (ps : List Segment) × (read_string role text ≡ Ok ps) × (marked_array n ps ≡ ms)
+string-read = grind (arith, sequence-members, read_in_steps)
 
-pub string-ok : (role : SetRole) (text : List ℕ) (n : ℕ) (ps : List Segment) → string_segments role text ≡ Ok ps
+pub string-ok : (role : SetRole) (text : List ℕ) (n : ℕ) (ps : List Segment) → read_string role text ≡ Ok ps
     → member_results n (segments_of role text) ≡ map Ok (marked_array n ps)
-string-ok = grind (arith, members-ok)
+string-ok = grind (arith, members-ok, read_in_steps)
 
 -- ---- a fault that is passed on
 

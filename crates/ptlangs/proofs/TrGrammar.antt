@@ -10,22 +10,24 @@ use proofs.Common.{digits_value, drop, drop_all, eqb, false, get_or, is_ascii_di
 use proofs.Common.{map, ne_eqb, refl, rules, segments, sequence, set_elements, subst, suc, sym, take, true}
 use proofs.Common.{cons_ok, zero, ℕ, ◌++◌, ◌+◌, ◌-◌, ◌<◌, ◌||◌, ◌∙◌, ◌∷◌, ◌≡◌, ◌≢◌, ◌≤◌}
 use specs.Laws.TrChars.{AChar, ALargeOctal, ALoneBackslash, APlainByte, AnEscape, AnOctal, IsOctalRun, OneDigit}
-use specs.TrChars.{Escaped}
+use specs.Laws.TrReading.{Escaped}
 use specs.Laws.TrChars.{ThreeDigits, TwoDigits, NoChar, SpellsChar}
-use specs.TrChars.{is_octal_digit, octal_run, Invalid, Plain}
-use specs.TrChars.{after_backslash, char_at, octal}
+use specs.TrChars.{is_octal_digit, octal_run}
+use specs.Laws.TrReading.{Invalid, Plain}
+use specs.Laws.TrReading.{after_backslash, char_at, octal}
 use specs.TrClasses.{class_named}
 use specs.Laws.TrElements.{AClass, ADescendingRange, ARange, ARepeat, Alone, AnEquivalence, AnInvalidChar}
 use specs.Laws.TrElements.{AnInvalidEnd}
 use specs.Laws.TrElements.{AreElements, ByEscape, ByItself, DenotesByte, HasBracketed, InBrackets, StartsBracketed}
 use specs.Laws.TrElements.{StartsElement, StartsInvalid}
-use specs.TrElements.{after_plain, after_run, after_two, bracketed_at, char_or_range, equivalence_with_byte}
-use specs.TrElements.{class_at, class_with_name, elements_after, equivalence_after_equals, equivalence_at}
-use specs.TrElements.{first_set_element, or_char, plain_run, range_to, repeat_after_byte, repeat_after_star, repeat_at}
-use specs.TrElements.{repeat_count, single_or_range, with_rest}
+use specs.Laws.TrReading.{after_plain, after_run, after_two, bracketed_at, char_or_range, equivalence_with_byte}
+use specs.Laws.TrReading.{class_at, class_with_name, elements_after, equivalence_after_equals, equivalence_at}
+use specs.Laws.TrReading.{first_set_element, or_char, plain_run, range_to, repeat_after_byte, repeat_after_star, repeat_at}
+use specs.TrElements.{repeat_count}
+use specs.Laws.TrReading.{single_or_range, with_rest}
 use specs.Private.TrParsing.{enclosed_at, first_byte}
 use specs.Laws.TrPlan.{FirstFault, LaterFault, NoElement, NoSegment}
-use specs.TrPlan.{segment}
+use specs.Laws.TrReading.{segment}
 use specs.declared.tr.elements.SetElement.TheVariants.{Class, Equivalence, Repeat, Single}
 use Rattle.std.proofs.Common.{All, inl, inr, nat_le, nat_lt}
 use lemmas.Bool.{cases_Bool, le-leb, le-ltb, lt-leb}
@@ -120,7 +122,7 @@ pub ruleset after_plain_steps = (chars-plain, after_plain-other)
 
 -- ---- a run of plain bytes
 
-plain_run-chars : (test : ℕ → Bool) → test 92 ≡ false → (bs : List ℕ)
+pub plain_run-chars : (test : ℕ → Bool) → test 92 ≡ false → (bs : List ℕ)
     → plain_run test (chars bs) ≡ take_while test bs
 plain_run-chars test n [] = refl
 plain_run-chars test n (b ∷ bs) = grind (arith, take_while-cons, chars-cons, chars-plain, plain_run-chars test n bs)
@@ -248,7 +250,7 @@ bracketed_at-unless = grind (arith, bracketed_starts)
 -- ---- the first element
 
 -- the characters start with this element, or with none because of this fault
-abbrev StartsAs : List SetChar → Result (SetElement × List SetChar) SetFaultKind → Type 0
+abbrev pub StartsAs : List SetChar → Result (SetElement × List SetChar) SetFaultKind → Type 0
 StartsAs us (Ok (p, rest)) = StartsElement us p rest
 StartsAs us (Err k) = StartsInvalid us k
 
@@ -264,7 +266,7 @@ char_starts : (u : SetChar) (us : List SetChar) → ¬ HasBracketed (u ∷ us)
     → StartsAs (u ∷ us) (char_or_range (byte_of u) us)
 char_starts = grind (arith, byte_starts, ByItself, ByEscape, AnInvalidChar)
 
-starts_as : (u : SetChar) (us : List SetChar) {r : Result (SetElement × List SetChar) SetFaultKind}
+pub starts_as : (u : SetChar) (us : List SetChar) {r : Result (SetElement × List SetChar) SetFaultKind}
     → first_set_element (u ∷ us) ≡ r → StartsAs (u ∷ us) r
 starts_as u us e = subst (StartsAs _) e (by_form _ refl)
   where
@@ -272,7 +274,7 @@ starts_as u us e = subst (StartsAs _) e (by_form _ refl)
     by_form None f = char_starts u us (bracketed_at-none _ f)
     by_form (Some (p, rest)) f = InBrackets _ p rest (subst (StartsFound _) f (bracketed_starts (u ∷ us)))
 
-first_set_element-found : (us : List SetChar) (p : SetElement) (rest : List SetChar) → bracketed_at us ≡ Some (p, rest)
+pub first_set_element-found : (us : List SetChar) (p : SetElement) (rest : List SetChar) → bracketed_at us ≡ Some (p, rest)
     → first_set_element us ≡ Ok (p, rest)
 first_set_element-found = grind arith
 
@@ -292,7 +294,7 @@ first_set_element-StartsElement us p rest (Alone u a more n d m) =
 -- ---- all elements
 
 -- an element takes at least one character
-abbrev IsProperSuffix : List SetChar → List SetChar → Type 0
+abbrev pub IsProperSuffix : List SetChar → List SetChar → Type 0
 IsProperSuffix us rest = (front : List SetChar) × (us ≡ front ++ rest) × (0 < length front)
 
 StartsBracketed-front : (us : List SetChar) (p : SetElement) (rest : List SetChar) → StartsBracketed us p rest
@@ -310,7 +312,7 @@ StartsBracketed-front us p rest (AClass c name more t) = (
 StartsBracketed-front us p rest (AnEquivalence u v more m) =
     (Plain 91 ∷ Plain 61 ∷ u ∷ Plain 61 ∷ Plain 93 ∷ [], refl, omega arith)
 
-StartsElement-front : (us : List SetChar) (p : SetElement) (rest : List SetChar) → StartsElement us p rest
+pub StartsElement-front : (us : List SetChar) (p : SetElement) (rest : List SetChar) → StartsElement us p rest
     → IsProperSuffix us rest
 StartsElement-front us p rest (InBrackets xs q more f) = StartsBracketed-front xs q more f
 StartsElement-front us p rest (ARange u v a b more n m w h) = (u ∷ Plain 45 ∷ v ∷ [], refl, omega arith)
@@ -326,7 +328,7 @@ drop_prefix : (u : SetChar) (us rest front : List SetChar) → u ∷ us ≡ fron
 drop_prefix u us rest [] e h = absurd (omega arith)
 drop_prefix u us rest (f ∷ front) e h = grind usual
 
-set_elements-first : (us : List SetChar) (p : SetElement) (rest : List SetChar)
+pub set_elements-first : (us : List SetChar) (p : SetElement) (rest : List SetChar)
     → first_set_element us ≡ Ok (p, rest) → set_elements us ≡ Ok p ∷ set_elements rest
 set_elements-first [] p rest e = absurd (cc)
 set_elements-first (u ∷ us) p rest e =

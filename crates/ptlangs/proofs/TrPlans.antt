@@ -6,13 +6,15 @@ use proofs.Common.{Segment, SetChar, SetElement, SetFault, SetFaultKind, SetRole
 use proofs.Common.{all_paired, and_then, ap, arith, array, byte_of, chars, chars_after, cond, cons_ok, contents_of}
 use proofs.Common.{false, first_array, first_members, image_by, in_string, length, map, marked_array, member_bytes}
 use proofs.Common.{member_results, ok_map, plan, plan_of, refl, replicate, result_map_both, segments}
-use proofs.Common.{segments_of, sequence, string_segments, suc, sym, tables, true, zero, ℕ, ◌-◌, ◌∙◌, ◌∷◌, ◌≡◌, ◌≢◌}
+use proofs.Common.{segments_of, sequence, read_string, subst, suc, sym, tables, true, zero, ℕ, ◌-◌, ◌∙◌, ◌∷◌, ◌≡◌, ◌≢◌}
 use proofs.TrArrays.{answer_of, class_offsets-are, member_bytes-array, none_contained, paired-plain, paired_from}
 use proofs.TrArrays.{string-ok}
-use specs.TrElements.{elements_after, elements_from, or_char}
+use proofs.TrTexts.{read_in_steps}
+use specs.Laws.TrReading.{elements_after, elements_from, or_char}
 use specs.Laws.TrPlan.{NoMemoryFault}
 use specs.TrPlan.{Plan, class_offsets, fill_count, has_valid_classes, image_of, is_deleted, is_squeezed}
-use specs.TrPlan.{plan_from, second_plan, second_role, segment}
+use specs.TrPlan.{plan_from, second_plan, second_role}
+use specs.Laws.TrReading.{segment}
 use specs.Calls.TrPlan.{takes_second}
 use specs.TrTables.{Tables}
 use specs.declared.faults.SetFaultKind.TheVariants.{ClassPlace, Memory}
@@ -60,16 +62,16 @@ pub record SecondRead (form : Form) (from : List ℕ) (firsts : List Member) (it
 pub second_read : (form : Form) (complement : Bool) (firsts : List Segment) (text : List ℕ) (role : SetRole)
     (fill : ℕ) (squeezed : List Bool) (first unfilled : Contents)
     → takes_second form ≡ true → role ≡ second_role form
-    → Ok unfilled ≡ ok_map (λ (ps : List Segment). contents_of (array 0 ps)) (string_segments role text)
+    → Ok unfilled ≡ ok_map (λ (ps : List Segment). contents_of (array 0 ps)) (read_string role text)
     → fill ≡ first.length - unfilled.length → first ≡ contents_of (first_array complement firsts)
-    → ((ps : List Segment) → string_segments role text ≡ Ok ps
+    → ((ps : List Segment) → read_string role text ≡ Ok ps
     → squeezed ≡ map (is_squeezed (plan_of form (first_array complement firsts) (array fill ps))) all_bytes)
     → SecondRead form (first_array complement firsts) (first_members complement firsts)
     (member_results fill (segments_of role text)) squeezed (ok_map tables (second_plan form complement firsts text))
 second_read form complement firsts text role fill squeezed first unfilled two at was e f s =
     let (ps, read, is) = mapped_ok _ _ was in
     let has_fill : fill ≡ fill_count (length (first_array complement firsts)) ps = cc in
-    let parts = ap (λ q. string_segments q text) (sym at) ∙ read in
+    let parts = ap (λ q. read_string q text) (sym at) ∙ read in
     record {
       to = marked_array fill ps;
       left = string-ok role text fill ps read;
@@ -79,13 +81,38 @@ second_read form complement firsts text role fill squeezed first unfilled two at
           (translated form two other _ _ _ _ (rw (← member_bytes-array fill ps) is) (s ps read));
     }
 
+-- ---- the fault of a string is that of the plan
+
+mapped_fault : (f : List Segment → Contents) (r : Result (List Segment) SetFaultKind) (k : SetFaultKind)
+    → Err k ≡ result_map_both f (λ (k : SetFaultKind). k) r → r ≡ Err k
+mapped_fault = grind arith
+
+pub second_fails : (f : List Segment → Contents) (form : Form) (complement : Bool) (firsts : List Segment)
+    (text : List ℕ) (role : SetRole) (k : SetFaultKind) → role ≡ second_role form
+    → Err k ≡ ok_map f (read_string role text) → Err k ≡ ok_map tables (second_plan form complement firsts text)
+second_fails f form complement firsts text role k at is =
+    let fails = ap (λ q. read_string q text) (sym at) ∙ mapped_fault f (read_string role text) k is in
+    rw fails refl
+
+pub first_fails : (f : List Segment → Contents) (form : Form) (complement : Bool) (s1 : List ℕ) (s2 : Option (List ℕ))
+    (fault : SetFault) → in_string string.First (ok_map f (read_string First s1)) ≡ Err fault
+    → Err fault ≡ ok_map tables (plan form complement s1 s2)
+first_fails f form complement s1 s2 fault is = by_string (read_string First s1) is
+  where
+    by_string : (r : Result (List Segment) SetFaultKind)
+        → in_string string.First (result_map_both f (λ (k : SetFaultKind). k) r) ≡ Err fault
+        → Err fault ≡ result_map_both tables (λ (f : SetFault). f)
+        (and_then (in_string string.First r) (λ firsts. plan_from form complement firsts s2))
+    by_string (Ok ps) e = cc
+    by_string (Err k) e = cc
+
 -- `in_string` changes only a fault
 pub in_string-ok : {A : Type 0} (string : SetString) (r : Result A SetFaultKind) (x : A) → Ok x ≡ in_string string r
     → Ok x ≡ r
 in_string-ok = grind arith
 
 pub plan_two : (form : Form) (complement : Bool) (s1 s2 : List ℕ) (firsts : List Segment)
-    → string_segments First s1 ≡ Ok firsts
+    → read_string First s1 ≡ Ok firsts
     → in_string string.Second (result_map_both tables (λ (k : SetFaultKind). k) (second_plan form complement firsts s2))
     ≡ result_map_both tables (λ (f : SetFault). f) (plan form complement s1 (Some s2))
 plan_two = grind arith
@@ -143,9 +170,10 @@ segments_not_memory role has_fill (u ∷ us) zero (first, fine) =
     by_first (Err k) fine later = fine
     by_first (Ok (p, rest)) fine later = first_not_memory _ _ (segment_not_memory _ _ p) (later _ _)
 
-string_not_memory : (role : SetRole) (text : List ℕ) → IsNotMemory (string_segments role text)
+string_not_memory : (role : SetRole) (text : List ℕ) → IsNotMemory (read_string role text)
 string_not_memory role [] = grind arith
-string_not_memory role (b ∷ text) = segments_not_memory role false (chars (b ∷ text)) 0 (chars_not_memory (b ∷ text) 0)
+string_not_memory role (b ∷ text) = subst IsNotMemory (sym (read_in_steps role (b ∷ text)))
+    (segments_not_memory role false (chars (b ∷ text)) 0 (chars_not_memory (b ∷ text) 0))
 
 second_not_memory : (form : Form) (complement : Bool) (firsts : List Segment) (text : List ℕ)
     → IsNotMemory (second_plan form complement firsts text)

@@ -8,4 +8,5 @@ pub mod OutLists
 pub mod TrChars
 pub mod TrElements
 pub mod TrPlan
+pub mod TrReading
 pub mod TrTables

@@ -1,18 +1,25 @@
--- The elements of a string of `tr`, over its characters: single characters, ranges, and the three bracketed forms
--- `[x*n]`, `[:class:]` and `[=x=]` (POSIX.1-2017, XCU, `tr`, "EXTENDED DESCRIPTION").
-use Rattle.std.specs.Prelude.{ℕ, zero, suc, ◌-◌, ◌==◌, List, [], ◌∷◌, Bool, false, Option}
-use Rattle.std.specs.Prelude.{Some, None, Result, Ok, Err, if◌then◌else◌, nat_le, nat_lt, length, drop, option_map}
+-- The segments of a string of `tr`: single characters, ranges, and the bracketed forms `[x*n]`, `[:class:]` and `[=x=]`
+-- (POSIX.1-2017, XCU, `tr`, "EXTENDED DESCRIPTION"). A character that begins with a backslash is never part of a form or
+-- the dash of a range, since the text is compared with their bytes.
+use Rattle.std.specs.Prelude.{ℕ, zero, suc, ◌==◌, ◌||◌, List, [], ◌∷◌, Bool, true, false, Option, Some, None}
+use Rattle.std.specs.Prelude.{Result, Ok, Err, if◌then◌else◌, nat_le, nat_lt, length, drop, take_while, codes}
+use Rattle.std.specs.Prelude.{option_map, ok_or, unwrap_or}
 use Rattle.std.specs.List.{list_all}
-use Rattle.std.specs.Option.{option_and_then, option_or}
+use Rattle.std.specs.Option.{option_and_then, option_map_or, option_or}
+use Rattle.std.specs.Result.{result_ok}
 use Rattle.std.specs.Char.{is_ascii_digit, is_ascii_lowercase}
 use Rattle.std.specs.Str.Parse.{digits_value}
 use Rattle.std.specs.Str.{byte}
-use Rattle.ptlangs.specs.TrChars.{Escaped, Invalid, Plain, SetChar, byte_of, is_octal_digit}
+use Rattle.ptlangs.specs.Numbers.{and_then, is_empty}
+use Rattle.ptlangs.specs.TrChars.{first_char, is_octal_digit}
 use Rattle.ptlangs.specs.TrClasses.{class_named}
 use Rattle.ptlangs.specs.declared.faults.SetFaultKind.{SetFaultKind}
-use Rattle.ptlangs.specs.declared.faults.SetFaultKind.TheVariants.{Descending, Empty}
-use Rattle.ptlangs.specs.declared.tr.elements.SetElement.{SetElement}
-use Rattle.ptlangs.specs.declared.tr.elements.SetElement.TheVariants.{Class, Equivalence, Range, Repeat, Single}
+use Rattle.ptlangs.specs.declared.faults.SetFaultKind.TheVariants.{Descending, Empty, EquivPlace, RepeatPlace, RepeatSize}
+use Rattle.ptlangs.specs.declared.faults.SetFaultKind.TheVariants.{SecondFill, UnknownClass}
+use Rattle.ptlangs.specs.declared.tr.segments.Segment.{Segment}
+use Rattle.ptlangs.specs.declared.tr.segments.Segment.TheVariants.{Class, Fill, Range, Repeat}
+use Rattle.ptlangs.specs.declared.tr.segments.SetRole.{SetRole}
+use Rattle.ptlangs.specs.declared.tr.segments.SetRole.TheVariants.{First, Images}
 
 -- the value of the digits, if it is at most 65535
 abbrev pub count_in_base : ℕ → List ℕ → Option ℕ
@@ -25,127 +32,104 @@ repeat_count (d ∷ ds) =
     if d == byte "0" then (if list_all is_octal_digit (d ∷ ds) then count_in_base 8 (d ∷ ds) else None)
     else count_in_base 10 (d ∷ ds)
 
--- ---- functions that compute the grammar: the first element, and the rest after it
+-- ---- what a form gives, or why it must not be there; `role` says which string of which form of `tr` it is in
 
--- the character is this plain byte
-abbrev pub is_plain : ℕ → SetChar → Bool
-is_plain c (Plain b) = b == c
-is_plain c (Escaped b) = false
-is_plain c (Invalid k) = false
+-- `[x*n]`; a count of 0 fills the array, which only one repeat of a string may do
+abbrev pub repeated : Bool → ℕ → Option ℕ → Result Segment SetFaultKind
+repeated has_fill b None = Err RepeatSize
+repeated has_fill b (Some zero) = if has_fill then Err SecondFill else Ok (Fill b)
+repeated has_fill b (Some (suc n)) = Ok (Repeat b (suc n))
 
--- the characters after plain byte `c`, if it is the first character
-abbrev pub after_plain : ℕ → List SetChar → Option (List SetChar)
-after_plain c [] = None
-after_plain c (u ∷ us) = if is_plain c u then Some us else None
+abbrev pub repeated_in : SetRole → Bool → ℕ → List ℕ → Result Segment SetFaultKind
+repeated_in First has_fill b digits = Err RepeatPlace
+repeated_in role has_fill b digits = repeated has_fill b (repeat_count digits)
 
--- the characters after plain bytes `c` and `d`, if these are the first two characters
-abbrev pub after_two : ℕ → ℕ → List SetChar → Option (List SetChar)
-after_two c d us = option_and_then (after_plain d) (after_plain c us)
+-- `[=x=]`
+abbrev pub equivalent_in : SetRole → ℕ → Result Segment SetFaultKind
+equivalent_in Images b = Err EquivPlace
+equivalent_in role b = Ok (Range b b)
 
--- the longest run of plain bytes at the start that pass the test
-abbrev pub plain_run : (ℕ → Bool) → List SetChar → List ℕ
-plain_run test [] = []
-plain_run test (Plain b ∷ us) = if test b then b ∷ plain_run test us else []
-plain_run test (Escaped b ∷ us) = []
-plain_run test (Invalid k ∷ us) = []
+-- ---- the three bracketed forms, from the text after the bracket, each with the text after the form
 
--- the characters after that run
-abbrev pub after_run : (ℕ → Bool) → List SetChar → List SetChar
-after_run test us = drop (length (plain_run test us)) us
+-- the text after `mark`, if it begins with that
+abbrev pub after : List ℕ → List ℕ → Option (List ℕ)
+after [] text = Some text
+after (c ∷ mark) [] = None
+after (c ∷ mark) (b ∷ text) = if b == c then after mark text else None
 
--- the element with the rest, if there is a rest
-abbrev pub with_rest : SetElement → Option (List SetChar) → Option (SetElement × List SetChar)
-with_rest p rest = option_map (λ (us : List SetChar). (p, us)) rest
+-- what was read, if `mark` comes next, and the text after that
+abbrev pub before : {A : Type 0} → List ℕ → A × List ℕ → Option (A × List ℕ)
+before mark (x, text) = option_map (λ rest. (x, rest)) (after mark text)
 
--- The three bracketed forms, each from the character after its opening bracket. First `[x*n]`: after the star, after
--- `x`, and from `x` on.
-abbrev pub repeat_after_star : ℕ → List SetChar → Option (SetElement × List SetChar)
-repeat_after_star v us = with_rest (Repeat v (repeat_count (plain_run is_ascii_digit us))) (after_plain (byte "]")
-    (after_run is_ascii_digit us))
+-- the longest run of bytes that pass the test, and the text after it
+abbrev pub run : (ℕ → Bool) → List ℕ → List ℕ × List ℕ
+run test text = (take_while test text, drop (length (take_while test text)) text)
 
-abbrev pub repeat_after_byte : Result ℕ SetFaultKind → List SetChar → Option (SetElement × List SetChar)
-repeat_after_byte (Ok v) us = option_and_then (repeat_after_star v) (after_plain (byte "*") us)
-repeat_after_byte (Err k) us = None
+-- `x*n]`
+abbrev pub repeat_form : SetRole → Bool → List ℕ → Option (Result Segment SetFaultKind × List ℕ)
+repeat_form role has_fill text =
+    option_and_then (λ (x : ℕ × List ℕ).
+    option_map (λ (n : List ℕ × List ℕ). (repeated_in role has_fill x.0 n.0, n.1))
+    (before (codes "]") (run is_ascii_digit x.1)))
+    (option_and_then (before (codes "*")) (result_ok (first_char text)))
 
-abbrev pub repeat_at : List SetChar → Option (SetElement × List SetChar)
-repeat_at [] = None
-repeat_at (u ∷ us) = repeat_after_byte (byte_of u) us
+-- `:class:]`
+abbrev pub class_form : List ℕ → Option (Result Segment SetFaultKind × List ℕ)
+class_form text =
+    option_and_then (λ inside.
+    let name = run is_ascii_lowercase inside in
+    if is_empty name.0 then None
+    else before (codes ":]") (ok_or (option_map Class (class_named name.0)) UnknownClass, name.1))
+    (after (codes ":") text)
 
--- `[:class:]`: the name and the rest after it
-abbrev pub class_with_name : List ℕ → List SetChar → Option (SetElement × List SetChar)
-class_with_name [] us = None
-class_with_name (c ∷ name) us = with_rest (Class (class_named (c ∷ name))) (after_two (byte ":") (byte "]") us)
+-- `=x=]`
+abbrev pub equivalence_form : SetRole → List ℕ → Option (Result Segment SetFaultKind × List ℕ)
+equivalence_form role text =
+    option_and_then (λ inside.
+    option_and_then (λ (x : ℕ × List ℕ). before (codes "=]") (equivalent_in role x.0, x.1))
+    (result_ok (first_char inside)))
+    (after (codes "=") text)
 
--- from the first letter of the name on
-abbrev pub class_after_colon : List SetChar → Option (SetElement × List SetChar)
-class_after_colon us = class_with_name (plain_run is_ascii_lowercase us) (after_run is_ascii_lowercase us)
+-- a bracketed form at the start of the text
+abbrev pub form_at : SetRole → Bool → List ℕ → Option (Result Segment SetFaultKind × List ℕ)
+form_at role has_fill text =
+    option_and_then
+    (λ inside. option_or (repeat_form role has_fill inside) (option_or (class_form inside) (equivalence_form role inside)))
+    (after (codes "[") text)
 
--- from the first colon on
-abbrev pub class_at : List SetChar → Option (SetElement × List SetChar)
-class_at us = option_and_then class_after_colon (after_plain (byte ":") us)
+-- ---- segments
 
--- `[=x=]`: the byte of `x` and the rest after it
-abbrev pub equivalence_with_byte : Result ℕ SetFaultKind → List SetChar → Option (SetElement × List SetChar)
-equivalence_with_byte (Ok v) us = with_rest (Equivalence v) (after_two (byte "=") (byte "]") us)
-equivalence_with_byte (Err k) us = None
+-- the range from `a` to a character, which must not be below `a`
+abbrev pub range_up_to : ℕ → ℕ × List ℕ → Result (Segment × List ℕ) SetFaultKind
+range_up_to a (b, rest) = if nat_lt b a then Err Descending else Ok (Range a b, rest)
 
--- from `x` on
-abbrev pub equivalence_after_equals : List SetChar → Option (SetElement × List SetChar)
-equivalence_after_equals [] = None
-equivalence_after_equals (u ∷ us) = equivalence_with_byte (byte_of u) us
+-- character `a` alone, or a range from it, if a dash and one more byte follow
+abbrev pub alone_or_range : ℕ × List ℕ → Result (Segment × List ℕ) SetFaultKind
+alone_or_range (a, text) =
+    let end = unwrap_or (after (codes "-") text) [] in
+    if is_empty end then Ok (Range a a, text) else and_then (first_char end) (range_up_to a)
 
--- from the first equals sign on
-abbrev pub equivalence_at : List SetChar → Option (SetElement × List SetChar)
-equivalence_at us = option_and_then equivalence_after_equals (after_plain (byte "=") us)
+-- the first segment of the text, and the text after it, or its fault
+abbrev pub first_segment : SetRole → Bool → List ℕ → Result (Segment × List ℕ) SetFaultKind
+first_segment role has_fill text =
+    option_map_or (λ (found : Result Segment SetFaultKind × List ℕ). and_then found.0 (λ x. Ok (x, found.1)))
+    (form_at role has_fill text) (and_then (first_char text) alone_or_range)
 
--- one of the three forms, after its opening bracket
-abbrev pub bracketed_inside : List SetChar → Option (SetElement × List SetChar)
-bracketed_inside us = option_or (repeat_at us) (option_or (class_at us) (equivalence_at us))
+-- the segment is a fill
+abbrev pub fills : Segment → Bool
+fills (Fill b) = true
+fills _ = false
 
--- a bracketed form at the start
-abbrev pub bracketed_at : List SetChar → Option (SetElement × List SetChar)
-bracketed_at us = option_and_then bracketed_inside (after_plain (byte "[") us)
+-- the segments of the text, of which there are at most `n`, or its leftmost fault; `has_fill` says whether a fill came
+-- before
+abbrev pub read_segments : SetRole → Bool → ℕ → List ℕ → Result (List Segment) SetFaultKind
+read_segments role has_fill n [] = Ok []
+read_segments role has_fill zero (b ∷ text) = Ok []
+read_segments role has_fill (suc n) (b ∷ text) =
+    and_then (first_segment role has_fill (b ∷ text)) (λ (found : Segment × List ℕ).
+    and_then (read_segments role (has_fill || fills found.0) n found.1) (λ more. Ok (found.0 ∷ more)))
 
--- the range from byte `a` to the byte of a character, which must not be below `a`
-abbrev pub range_to : ℕ → Result ℕ SetFaultKind → List SetChar → Result (SetElement × List SetChar) SetFaultKind
-range_to a (Err k) us = Err k
-range_to a (Ok b) us = if nat_lt b a then Err Descending else Ok (Range a b, us)
-
--- byte `a` alone, or a range that starts with `a`: the last argument is the rest after a dash, if a dash follows
-abbrev pub single_or_range : ℕ → List SetChar → Option (List SetChar) → Result (SetElement × List SetChar) SetFaultKind
-single_or_range a us None = Ok (Single a, us)
-single_or_range a us (Some []) = Ok (Single a, us)
-single_or_range a us (Some (v ∷ rest)) = range_to a (byte_of v) rest
-
--- a character alone, or a range that starts with it
-abbrev pub char_or_range : Result ℕ SetFaultKind → List SetChar → Result (SetElement × List SetChar) SetFaultKind
-char_or_range (Ok a) us = single_or_range a us (after_plain (byte "-") us)
-char_or_range (Err k) us = Err k
-
--- the bracketed form, if there is one, else a character or a range
-abbrev pub or_char : Option (SetElement × List SetChar) → SetChar → List SetChar
-    → Result (SetElement × List SetChar) SetFaultKind
-or_char (Some found) u us = Ok found
-or_char None u us = char_or_range (byte_of u) us
-
--- the first element of the characters, and the rest after it, or a fault
-abbrev pub first_set_element : List SetChar → Result (SetElement × List SetChar) SetFaultKind
-first_set_element [] = Err Empty
-first_set_element (u ∷ us) = or_char (bracketed_at (u ∷ us)) u us
-
--- the first element and those of the rest; after a fault nothing is read
-abbrev pub elements_from : Result (SetElement × List SetChar) SetFaultKind
-    → (List SetChar → List (Result SetElement SetFaultKind)) → List (Result SetElement SetFaultKind)
-elements_from (Ok found) more = Ok found.0 ∷ more found.1
-elements_from (Err k) more = Err k ∷ []
-
--- the elements of the characters after the first `skip` characters
-abbrev pub elements_after : List SetChar → ℕ → List (Result SetElement SetFaultKind)
-elements_after [] skip = []
-elements_after (u ∷ us) zero =
-    elements_from (first_set_element (u ∷ us)) (λ rest. elements_after us (length us - length rest))
-elements_after (u ∷ us) (suc skip) = elements_after us skip
-
--- the elements of the characters, in order, up to and including the first fault
-abbrev pub set_elements : List SetChar → List (Result SetElement SetFaultKind)
-set_elements us = elements_after us 0
+-- the segments of a string, which is not empty, or its leftmost fault
+abbrev pub read_string : SetRole → List ℕ → Result (List Segment) SetFaultKind
+read_string role [] = Err Empty
+read_string role (b ∷ text) = read_segments role false (length (b ∷ text)) (b ∷ text)

@@ -1,22 +1,19 @@
 -- The plan of `tr`: the array of bytes of each string, and which bytes are deleted, translated and squeezed
 -- (POSIX.1-2017, XCU, `tr`).
-use Rattle.std.specs.Prelude.{ℕ, zero, suc, ◌+◌, ◌-◌, ◌==◌, ◌&&◌, ◌||◌, List, [], ◌∷◌, ◌++◌, Bool, true}
+use Rattle.std.specs.Prelude.{ℕ, ◌+◌, ◌-◌, ◌==◌, ◌&&◌, List, [], ◌∷◌, ◌++◌, Bool, true}
 use Rattle.std.specs.Prelude.{false, not, Option, Some, None, Result, Ok, Err, if◌then◌else◌, length, take, filter}
 use Rattle.std.specs.Prelude.{nat_lt, replicate, unwrap_or, slice_get}
 use Rattle.std.specs.List.{flat_map, list_all, list_any, last_or}
 use Rattle.std.specs.Option.{option_and_then, option_to_list}
 use Rattle.std.specs.Result.{result_map_both}
-use Rattle.ptlangs.specs.Numbers.{and_then, traverse}
-use Rattle.ptlangs.specs.TrChars.{chars}
+use Rattle.ptlangs.specs.Numbers.{and_then}
 use Rattle.ptlangs.specs.TrClasses.{all_bytes, are_opposite_cases, class_bytes, span}
-use Rattle.ptlangs.specs.TrElements.{set_elements}
+use Rattle.ptlangs.specs.TrElements.{read_string}
 use Rattle.ptlangs.specs.declared.faults.SetFault.{SetFault}
 use Rattle.ptlangs.specs.declared.faults.SetFaultKind.{SetFaultKind}
-use Rattle.ptlangs.specs.declared.faults.SetFaultKind.TheVariants.{ClassPlace, Empty, EquivPlace, RepeatPlace}
-use Rattle.ptlangs.specs.declared.faults.SetFaultKind.TheVariants.{RepeatSize, SecondFill, UnknownClass}
+use Rattle.ptlangs.specs.declared.faults.SetFaultKind.TheVariants.{ClassPlace}
 use Rattle.ptlangs.specs.declared.faults.SetString.{SetString}
 use Rattle.ptlangs.specs.declared.tr.classes.CharClass.{CharClass}
-use Rattle.ptlangs.specs.declared.tr.elements.SetElement.{SetElement}
 use Rattle.ptlangs.specs.declared.tr.plan.Form.{Form}
 use Rattle.ptlangs.specs.declared.tr.plan.Form.TheVariants.{Delete, DeleteSqueeze, Squeeze, Translate}
 use Rattle.ptlangs.specs.declared.tr.plan.Form.TheVariants.{TranslateSqueeze}
@@ -24,66 +21,7 @@ use Rattle.ptlangs.specs.declared.tr.segments.Segment.{Segment}
 use Rattle.ptlangs.specs.declared.tr.segments.Segment.TheVariants.{Class, Fill, Range, Repeat}
 use Rattle.ptlangs.specs.declared.tr.segments.SetRole.{SetRole}
 use Rattle.ptlangs.specs.declared.tr.segments.SetRole.TheVariants.{First, Images, Squeezed}
-use Rattle.ptlangs.specs.declared.tr.elements.SetElement.TheVariants as element
 use Rattle.ptlangs.specs.declared.faults.SetString.TheVariants as string
-
--- ---- the segments of an array
-
--- `[b*n]`; with a count of 0 it fills the array, which only one repeat of a string may do
-abbrev pub repeat_or_fill : Bool → ℕ → ℕ → Result Segment SetFaultKind
-repeat_or_fill has_fill b zero = if has_fill then Err SecondFill else Ok (Fill b)
-repeat_or_fill has_fill b (suc n) = Ok (Repeat b (suc n))
-
--- the segment of a repeat with this count; `None` is no valid count
-abbrev pub repeat_segment : Bool → ℕ → Option ℕ → Result Segment SetFaultKind
-repeat_segment has_fill b None = Err RepeatSize
-repeat_segment has_fill b (Some n) = repeat_or_fill has_fill b n
-
--- the segment of a class; `None` is an unknown class
-abbrev pub class_segment : Option CharClass → Result Segment SetFaultKind
-class_segment None = Err UnknownClass
-class_segment (Some class) = Ok (Class class)
-
--- The segment of an element, or its fault. `role` says which string of which form it is, `has_fill` whether a fill came
--- before.
-abbrev pub segment : SetRole → Bool → SetElement → Result Segment SetFaultKind
-segment role has_fill (element.Single b) = Ok (Range b b)
-segment role has_fill (element.Range a b) = Ok (Range a b)
-segment role has_fill (element.Class class) = class_segment class
-segment Images has_fill (element.Equivalence b) = Err EquivPlace
-segment First has_fill (element.Equivalence b) = Ok (Range b b)
-segment Squeezed has_fill (element.Equivalence b) = Ok (Range b b)
-segment First has_fill (element.Repeat b count) = Err RepeatPlace
-segment Images has_fill (element.Repeat b count) = repeat_segment has_fill b count
-segment Squeezed has_fill (element.Repeat b count) = repeat_segment has_fill b count
-
--- the segment is a fill
-abbrev pub is_fill : Result Segment SetFaultKind → Bool
-is_fill (Ok (Range a b)) = false
-is_fill (Ok (Class class)) = false
-is_fill (Ok (Repeat b n)) = false
-is_fill (Ok (Fill b)) = true
-is_fill (Err k) = false
-
--- the segment of each element, or its fault
-abbrev pub segments : SetRole → Bool → List (Result SetElement SetFaultKind) → List (Result Segment SetFaultKind)
-segments role has_fill [] = []
-segments role has_fill (Err k ∷ more) = Err k ∷ []
-segments role has_fill (Ok p ∷ more) =
-    segment role has_fill p ∷ segments role (has_fill || is_fill (segment role has_fill p)) more
-
--- the segments of a string, or their faults
-abbrev pub segments_of : SetRole → List ℕ → List (Result Segment SetFaultKind)
-segments_of role text = segments role false (set_elements (chars text))
-
--- the values of all results, or the first fault
-abbrev pub sequence : {A E : Type 0} → List (Result A E) → Result (List A) E
-sequence rs = traverse (λ r. r) rs
-
--- the segments of a string, or its leftmost fault; a string is not empty
-abbrev pub string_segments : SetRole → List ℕ → Result (List Segment) SetFaultKind
-string_segments role [] = Err Empty
-string_segments role (b ∷ text) = sequence (segments_of role (b ∷ text))
 
 -- ---- arrays
 
@@ -203,11 +141,8 @@ in_string {A} string r = result_map_both (λ (x : A). x) (λ (k : SetFaultKind).
 
 -- the role of the second string of a form
 abbrev pub second_role : Form → SetRole
-second_role Translate = Images
-second_role TranslateSqueeze = Images
-second_role Squeeze = Images
-second_role Delete = Images
 second_role DeleteSqueeze = Squeezed
+second_role _ = Images
 
 -- The second string has only classes that are allowed. If it is only squeezed, every class is. If it translates, each
 -- class needs its other case at the same offset of the first string; a complement has no classes.
@@ -226,7 +161,7 @@ plan_with form complement firsts first seconds =
 -- the plan of two strings, from the segments of the first and the text of the second
 abbrev pub second_plan : Form → Bool → List Segment → List ℕ → Result Plan SetFaultKind
 second_plan form complement firsts text =
-    and_then (string_segments (second_role form) text)
+    and_then (read_string (second_role form) text)
     (λ seconds. plan_with form complement firsts (first_array complement firsts) seconds)
 
 -- the plan of one string or two, from the segments of the first
@@ -237,4 +172,4 @@ plan_from form complement firsts (Some text) = in_string string.Second (second_p
 -- the plan of a form, with or without a complement, of these strings; or the first fault
 abbrev pub plan : Form → Bool → List ℕ → Option (List ℕ) → Result Plan SetFault
 plan form complement s1 s2 =
-    and_then (in_string string.First (string_segments First s1)) (λ firsts. plan_from form complement firsts s2)
+    and_then (in_string string.First (read_string First s1)) (λ firsts. plan_from form complement firsts s2)

@@ -2,7 +2,8 @@
 use Rattle.std.specs.Prelude.{◌≡◌, ◌≢◌, ◌↔◌, ◌≤◌, ◌<◌, ℕ, List, [], ◌∷◌, ◌++◌, Bool, true, false}
 use Rattle.std.specs.Str.Parse.{digits_value}
 use Rattle.std.specs.Str.{byte}
-use Rattle.ptlangs.specs.TrChars.{Escaped, Invalid, Plain, SetChar, byte_of_escape, chars, is_octal_digit}
+use Rattle.ptlangs.specs.TrChars.{byte_of_escape, is_octal_digit}
+use Rattle.ptlangs.specs.Laws.TrReading.{Escaped, Invalid, Plain, SetChar, chars}
 use Rattle.ptlangs.specs.declared.faults.SetFaultKind.TheVariants.{Escape, Octal}
 
 -- the bytes start with an octal digit

@@ -5,9 +5,10 @@ use Rattle.std.specs.Prelude.{IsTrue}
 use Rattle.std.specs.List.{list_all}
 use Rattle.std.specs.Char.{is_ascii_digit, is_ascii_lowercase}
 use Rattle.std.specs.Str.{byte}
-use Rattle.ptlangs.specs.TrChars.{Escaped, Invalid, Plain, SetChar}
+use Rattle.ptlangs.specs.Laws.TrReading.{Escaped, Invalid, Plain, SetChar}
 use Rattle.ptlangs.specs.TrClasses.{class_named}
-use Rattle.ptlangs.specs.TrElements.{repeat_count, set_elements}
+use Rattle.ptlangs.specs.TrElements.{repeat_count}
+use Rattle.ptlangs.specs.Laws.TrReading.{set_elements}
 use Rattle.ptlangs.specs.declared.faults.SetFaultKind.{SetFaultKind}
 use Rattle.ptlangs.specs.declared.faults.SetFaultKind.TheVariants.{Descending}
 use Rattle.ptlangs.specs.declared.tr.elements.SetElement.{SetElement}

@@ -2,8 +2,10 @@
 use Rattle.std.specs.Prelude.{◌≡◌, ◌≢◌, ◌↔◌, ℕ, ◌||◌, List, ◌∷◌, Bool}
 use Rattle.std.specs.Prelude.{false, Option, Ok, Err}
 use Rattle.ptlangs.specs.Laws.TrElements.{StartsElement, StartsInvalid}
-use Rattle.ptlangs.specs.TrChars.{SetChar, chars}
-use Rattle.ptlangs.specs.TrPlan.{is_fill, plan, segment, string_segments}
+use Rattle.ptlangs.specs.Laws.TrReading.{SetChar, chars}
+use Rattle.ptlangs.specs.TrElements.{read_string}
+use Rattle.ptlangs.specs.TrPlan.{plan}
+use Rattle.ptlangs.specs.Laws.TrReading.{is_fill, segment, string_segments}
 use Rattle.ptlangs.specs.declared.faults.SetFault.{SetFault}
 use Rattle.ptlangs.specs.declared.faults.SetFaultKind.{SetFaultKind}
 use Rattle.ptlangs.specs.declared.faults.SetFaultKind.TheVariants.{Memory}
@@ -27,7 +29,11 @@ pub data FirstFault (role : SetRole) : Bool → List SetChar → SetFaultKind �
 -- a string is rejected with the fault of its first faulty element
 abbrev pub FirstFaultIsReported : Type 0
 FirstFaultIsReported = (role : SetRole) (b : ℕ) (text : List ℕ) (k : SetFaultKind)
-    → FirstFault role false (chars (b ∷ text)) k ↔ (string_segments role (b ∷ text) ≡ Err k)
+    → FirstFault role false (chars (b ∷ text)) k ↔ (read_string role (b ∷ text) ≡ Err k)
+
+-- a string is read as it is in steps: as the segments of the elements of its characters
+abbrev pub ReadInSteps : Type 0
+ReadInSteps = (role : SetRole) (text : List ℕ) → read_string role text ≡ string_segments role text
 
 -- ---- the plan
 

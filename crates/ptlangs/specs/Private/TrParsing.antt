@@ -4,10 +4,11 @@ use Rattle.std.specs.Prelude.{◌≡◌, ◌+◌, ◌*◌, ◌++◌, ◌&&◌, �
 use Rattle.std.specs.Prelude.{Result, Ok, Err, drop, length, map, take, if◌then◌else◌}
 use Rattle.std.specs.List.{flat_map, last_or}
 use Rattle.std.specs.Option.{option_or}
-use Rattle.ptlangs.specs.TrChars.{SetChar, byte_of, chars}
+use Rattle.ptlangs.specs.Laws.TrReading.{SetChar, byte_of, chars}
 use Rattle.ptlangs.specs.TrClasses.{all_bytes, are_opposite_cases}
-use Rattle.ptlangs.specs.TrElements.{class_at, equivalence_at, set_elements}
-use Rattle.ptlangs.specs.TrPlan.{array, complement_of, has_byte, image_by, members, segments, sequence}
+use Rattle.ptlangs.specs.Laws.TrReading.{class_at, equivalence_at, set_elements}
+use Rattle.ptlangs.specs.TrPlan.{array, complement_of, has_byte, image_by, members}
+use Rattle.ptlangs.specs.Laws.TrReading.{segments, sequence}
 use Rattle.ptlangs.specs.declared.faults.SetFaultKind.{SetFaultKind}
 use Rattle.ptlangs.specs.declared.faults.SetFaultKind.TheVariants.{ClassPlace, Empty}
 use Rattle.ptlangs.specs.declared.tr.bytes.Bytes.{Bytes}

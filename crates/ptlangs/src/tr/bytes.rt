@@ -1,7 +1,7 @@
 //! The bytes of the array that a string of `tr` denotes, read from the string one after another. No array is kept in
 //! memory.
 ghost use Rattle.std.specs.Prelude.{◌≡◌, ◌*◌, ◌+◌, ◌<◌, ◌++◌, length, map, replicate, Ok, IfOk, IfSome};
-ghost use Rattle.ptlangs.specs.TrPlan.{segments_of};
+ghost use Rattle.ptlangs.specs.Laws.TrReading.{segments_of};
 ghost use Rattle.ptlangs.specs.Private.TrParsing.{NextItemPost, bytes_left, member_results, most_left, plain_members};
 
 use crate::faults::SetFaultKind;

@@ -2,7 +2,8 @@
 //! makes its tables with it.
 ghost use Rattle.std.specs.Prelude.{◌≡◌, ◌+◌, ◌^◌, ◌<◌, ◌≤◌, ◌++◌, ◌∷◌, [], ℕ, List, IfOk, length, replicate};
 ghost use Rattle.ptlangs.specs.declared.tr.segments.Segment.{Segment};
-ghost use Rattle.ptlangs.specs.TrPlan.{array, complement_of, string_segments};
+ghost use Rattle.ptlangs.specs.TrPlan.{array, complement_of};
+ghost use Rattle.ptlangs.specs.TrElements.{read_string};
 ghost use Rattle.ptlangs.specs.Private.TrParsing.{contents_of};
 ghost use Rattle.ptlangs.specs.Calls.TrParsing.{ok_map};
 
@@ -38,7 +39,7 @@ impl Contents {
     pub(crate) fn read(role: SetRole, text: &[u8], fill: u128) -> Result<Contents, SetFaultKind>
         requires { fill < 2 ^ 100 }
         ensures is { result
-            ≡ ok_map (λ (ps : List Segment). contents_of (array fill ps)) (string_segments role text.now) }
+            ≡ ok_map (λ (ps : List Segment). contents_of (array fill ps)) (read_string role text.now) }
         ensures bound { IfOk result (λ c. c.length ≤ 2 ^ 80 + fill) }
     {
         if text.is_empty() {

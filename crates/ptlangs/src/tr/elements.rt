@@ -6,12 +6,14 @@ ghost use Rattle.std.specs.Prelude.{MatchOption};
 ghost use Rattle.std.specs.List.{list_all, AllPass};
 ghost use Rattle.std.specs.Char.{is_ascii_digit};
 ghost use Rattle.std.specs.Int.{is_in_range};
-ghost use Rattle.ptlangs.specs.TrChars.{is_octal_digit, chars};
+ghost use Rattle.ptlangs.specs.TrChars.{is_octal_digit};
+ghost use Rattle.ptlangs.specs.Laws.TrReading.{chars};
 ghost use Rattle.ptlangs.specs.Laws.TrChars.{CharsMatchGrammar};
-ghost use Rattle.ptlangs.specs.TrElements.{after_plain, after_two, after_run, plain_run, repeat_at, repeat_count};
-ghost use Rattle.ptlangs.specs.TrElements.{bracketed_at, first_set_element, range_to, with_rest};
+ghost use Rattle.ptlangs.specs.TrElements.{repeat_count};
+ghost use Rattle.ptlangs.specs.Laws.TrReading.{after_plain, after_two, after_run, plain_run, repeat_at};
+ghost use Rattle.ptlangs.specs.Laws.TrReading.{bracketed_at, first_set_element, range_to, with_rest};
 ghost use Rattle.ptlangs.specs.Laws.TrElements.{ElementsMatchGrammar};
-ghost use Rattle.ptlangs.specs.Laws.TrPlan.{FirstFaultIsReported};
+ghost use Rattle.ptlangs.specs.Laws.TrPlan.{FirstFaultIsReported, ReadInSteps};
 ghost use Rattle.ptlangs.specs.Private.TrParsing.{element_and_rest, enclosed_at, first_byte};
 ghost use Rattle.ptlangs.specs.Calls.TrParsing.{ok_map};
 
@@ -187,10 +189,11 @@ fn range(first: u8, text: &[u8]) -> Result<ParsedElement, SetFaultKind>
 }
 
 /// Does nothing at run time. Its contract states that the characters and elements that are read are those of the
-/// grammar of POSIX.1-2017 (XCU, `tr`), as `TrChars` and `TrElements` of `specs/Laws` give it case by case, and that a
-/// string is rejected with the fault of its first faulty element.
+/// grammar of POSIX.1-2017 (XCU, `tr`), as `TrChars` and `TrElements` of `specs/Laws` give it case by case; that a string
+/// is rejected with the fault of its first faulty element; and that it has the segments of these elements.
 pub fn elements_match_grammar()
     ensures chars { CharsMatchGrammar }
     ensures elements { ElementsMatchGrammar }
     ensures faults { FirstFaultIsReported }
+    ensures steps { ReadInSteps }
 {}

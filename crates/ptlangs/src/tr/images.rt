@@ -5,7 +5,8 @@ ghost use Rattle.ptlangs.specs.declared.faults.SetFaultKind.TheVariants.{ClassPl
 ghost use Rattle.ptlangs.specs.declared.tr.segments.Member.{Member};
 ghost use Rattle.ptlangs.specs.declared.tr.segments.Segment.{Segment};
 ghost use Rattle.ptlangs.specs.TrClasses.{all_bytes};
-ghost use Rattle.ptlangs.specs.TrPlan.{array, complement_of, first_array, image_by, string_segments};
+ghost use Rattle.ptlangs.specs.TrPlan.{array, complement_of, first_array, image_by};
+ghost use Rattle.ptlangs.specs.TrElements.{read_string};
 ghost use Rattle.ptlangs.specs.Private.TrParsing.{HasPaired, PairPost, all_paired, bytes_left, member_bytes};
 ghost use Rattle.ptlangs.specs.Private.TrParsing.{classes_match};
 ghost use Rattle.ptlangs.specs.Private.TrParsing.{contents_of, first_members, marked_array, plain_members};
@@ -68,7 +69,7 @@ impl<'a> Images<'a> {
 
     /// Pairs the bytes of the first array, if it is that of `text`.
     fn push_string(&mut self, text: &[u8]) -> Result<(), SetFaultKind>
-        ensures { (ps : List Segment) (to : List Member) → string_segments SetRole.First text.now ≡ Ok ps
+        ensures { (ps : List Segment) (to : List Member) → read_string SetRole.First text.now ≡ Ok ps
             → HasPaired [] to self.old → PairPost (marked_array 0 ps) to self.new result }
     {
         let mut bytes = Bytes::new(SetRole::First, text, 0);
@@ -123,7 +124,7 @@ pub(crate) fn read_images(
     first: &Contents,
     second: Bytes,
 ) -> Result<[u8; 256], SetFaultKind>
-    ensures { (ps : List Segment) (to : List Member) → string_segments SetRole.First s1.now ≡ Ok ps
+    ensures { (ps : List Segment) (to : List Member) → read_string SetRole.First s1.now ≡ Ok ps
         → first.now ≡ contents_of (first_array complement ps) → bytes_left second.entry ≡ map Ok to → result
         ≡ (if all_paired (first_members complement ps) to
         then Ok (map (image_by (first_array complement ps) (member_bytes to)) all_bytes)

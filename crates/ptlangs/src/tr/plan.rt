@@ -7,7 +7,8 @@ ghost use Rattle.ptlangs.specs.declared.faults.SetFaultKind.{SetFaultKind};
 ghost use Rattle.ptlangs.specs.declared.tr.segments.Segment.{Segment};
 ghost use Rattle.ptlangs.specs.TrPlan.{first_array, plan, plan_of, second_plan, second_role};
 ghost use Rattle.ptlangs.specs.Laws.TrPlan.{NoMemoryFault};
-ghost use Rattle.ptlangs.specs.TrPlan.{in_string, string_segments};
+ghost use Rattle.ptlangs.specs.TrPlan.{in_string};
+ghost use Rattle.ptlangs.specs.TrElements.{read_string};
 ghost use Rattle.ptlangs.specs.Calls.TrPlan.{takes_second};
 ghost use Rattle.ptlangs.specs.TrTables.{deletes, image, squeezes};
 ghost use Rattle.ptlangs.specs.Calls.TrTables.{tables};
@@ -62,7 +63,7 @@ impl Form {
 fn read_first(complement: bool, s1: &[u8]) -> Result<Contents, SetFaultKind>
     ensures is { result
         ≡ ok_map (λ (ps : List Segment). contents_of (first_array complement ps))
-        (string_segments SetRole.First s1.now) }
+        (read_string SetRole.First s1.now) }
     ensures bound { IfOk result (λ c. c.length < 2 ^ 90) }
 {
     let first = Contents::read(SetRole::First, s1, 0)?;
@@ -169,7 +170,7 @@ impl CharPlan {
     ) -> Result<CharPlan, SetFaultKind>
         requires form { takes_second form ≡ true }
         requires bound { first.now.length < 2 ^ 90 }
-        ensures { (firsts : List Segment) → string_segments SetRole.First s1.now ≡ Ok firsts
+        ensures { (firsts : List Segment) → read_string SetRole.First s1.now ≡ Ok firsts
             → first.now ≡ contents_of (first_array complement firsts)
             → result ≡ ok_map tables (second_plan form complement firsts s2.now) }
     {

@@ -2,7 +2,8 @@
 //! `[:alpha:]`. `bytes` iterates over their bytes, so that no array is kept in memory.
 
 ghost use Rattle.std.specs.Prelude.{◌≡◌, ◌+◌, ◌^◌, ◌<◌, ◌≤◌, length, replicate, slice_get, IfOk, IfSome};
-ghost use Rattle.ptlangs.specs.TrPlan.{segment, is_fill, members};
+ghost use Rattle.ptlangs.specs.TrPlan.{members};
+ghost use Rattle.ptlangs.specs.Laws.TrReading.{segment, is_fill};
 ghost use Rattle.ptlangs.specs.Private.TrParsing.{class_of, marked_members, plain_members};
 
 use crate::faults::SetFaultKind;

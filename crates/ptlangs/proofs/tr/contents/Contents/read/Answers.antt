@@ -3,7 +3,7 @@
 -- each turn.
 use Rattle.ptlangs.proofs
 use proofs.Common.{List, Ok, Segment, ap, arith, array, usual, contents_of, map-append, member_bytes, ok_map}
-use proofs.Common.{plain_members, refl, replicate, string_segments, sym, ◌++◌, ◌∙◌, ◌∷◌, ◌≡◌}
+use proofs.Common.{plain_members, refl, replicate, read_string, sym, ◌++◌, ◌∙◌, ◌∷◌, ◌≡◌}
 use proofs.TrArrays.{contents-new, items_end, items_fault, items_more, member_bytes-array, member_bytes-plain, on_fault}
 use proofs.TrArrays.{string-fault, string-read}
 use proofs.tr.contents.Contents.read.Goals as goal
@@ -16,7 +16,7 @@ returns-in_err-member-clause-is c =
     let (_, is) = c.from_residual.ensures in
     on_fault
     (λ r. r ≡ ok_map (λ (ps : List Segment). contents_of (array c.args.fill ps))
-    (string_segments c.args.role c.args.text.now)) _ k is (rw fault refl)
+    (read_string c.args.role c.args.text.now)) _ k is (rw fault refl)
 
 pub loop-member-init : goal.loop-member-init
 loop-member-init c = grind (usual, contents-new)

@@ -1,11 +1,11 @@
 -- Answers for `CharPlan::of_two`: its tables are those of the plan, for the form that deletes and for those that
 -- translate, or the fault is that of the images. The second string is read first without a fill, to find how many
--- bytes a fill has. It has the same segments each time (`seen`).
+-- bytes a fill has. It has the same segments each time (`seen`), or the same fault.
 use Rattle.ptlangs.proofs
-use proofs.Common.{List, Segment, arith, contents_of, first_array, first_members, member_results, ok_map, rules}
+use proofs.Common.{List, Segment, [], arith, contents_of, first_array, first_members, member_results, ok_map, rules}
 use proofs.Common.{segments_of, tables, ◌∙◌, ◌≡◌}
 use proofs.TrArrays.{none_contained, on_fault}
-use proofs.TrPlans.{SecondRead, second_read}
+use proofs.TrPlans.{SecondRead, second_fails, second_read}
 use Rattle.ptlangs.proofs.tr.plan.CharPlan.of_two.Goals.{Joined-form}
 use Rattle.ptlangs.proofs.tr.plan.CharPlan.of_two.Goals.{in-Translate, in_default+in_ok-squeezed-in_default}
 use Rattle.ptlangs.proofs.tr.plan.CharPlan.of_two.Goals as goal
@@ -27,7 +27,7 @@ seen c firsts f =
 pub returns-in-DeleteSqueeze : goal.returns-in-DeleteSqueeze
 returns-in-DeleteSqueeze c = λ firsts e f.
     let r = seen (goal.at.returns-in-DeleteSqueeze c).Joined-form firsts f in
-    search (rules, r.deletes, c.identity.ensures)
+    rw (c.new.ensures, f) (r.deletes c.in-DeleteSqueeze.is (c.identity.ensures []))
 
 pub returns-in_err-table : goal.returns-in_err-table
 returns-in_err-table c = λ firsts e f.
@@ -41,3 +41,19 @@ returns c = λ firsts e f.
     let r = seen (goal.at.returns c).Joined-form firsts f in
     rw c.new-3.ensures (r.translates c.in_default-form.not-DeleteSqueeze
     (c.in_ok-table.ensures firsts _ e f (c.new-2.ensures.all ∙ r.left)))
+
+pub returns-in_err-unfilled : goal.returns-in_err-unfilled
+returns-in_err-unfilled c = λ firsts e f.
+    let (_, is) = c.from_residual.ensures in
+    on_fault (λ r. r ≡ ok_map tables (second_plan c.args.form c.args.complement firsts c.args.s2.now)) _
+    c.in_err-unfilled.field-0.0 is
+    (second_fails _ c.args.form c.args.complement firsts c.args.s2.now _ _ c.second_role-role.ensures
+    c.in_err-unfilled.ensures.is)
+
+pub returns-in_err-squeezed-in_default : goal.returns-in_err-squeezed-in_default
+returns-in_err-squeezed-in_default c = λ firsts e f.
+    let (_, is) = c.from_residual-in_err-squeezed-in_default.ensures in
+    on_fault (λ r. r ≡ ok_map tables (second_plan c.args.form c.args.complement firsts c.args.s2.now)) _
+    c.in_err-squeezed-in_default.field-0.0 is
+    (second_fails _ c.args.form c.args.complement firsts c.args.s2.now _ _ c.second_role-role.ensures
+    c.in_err-squeezed-in_default.ensures.is)
