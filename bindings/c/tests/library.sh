@@ -109,6 +109,12 @@ fi
 cd bindings/python
 export PTEXT_LIBRARY="$built/libptext.so" PYTHONDONTWRITEBYTECODE=1
 timeout --foreground 600 python3 -m unittest discover -s tests || bad=$((bad + 1))
+if [ -e /usr/lib/python3/dist-packages/pandas ]; then
+    table='pandas.read_csv(ptext.stream(["cut", "-d,", "-f1,3"], stdin=b"a,b,c\n1,x,2\n3,y,4\n").file())'
+    is "pandas" "4 6" "$(/usr/bin/python3 -c "import pandas, ptext; print(*$table.sum())")"
+else
+    left_out "a stream that pandas reads (it is not there)"
+fi
 if has mypy; then
     words="--strict --follow-imports=silent --no-error-summary --cache-dir $room/mypy"
     is "the types of a program" "" "$(MYPYPATH=. mypy $words tests/user.py 2>&1)"
