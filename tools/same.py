@@ -122,7 +122,7 @@ def make_options(library, words, stdin, files):
 
     inputs = [stdin, None, None, *map(files.get, library.names(words)[0])]
     opened = bytes(text is not None for text in inputs[3:])
-    return _library.encode_words(words), _stream._Options(opened, len(opened), 0, None), inputs
+    return _library.encode_words(words), _stream.Options(opened), inputs
 
 
 class Steps(Library):

@@ -12,12 +12,14 @@ gcc $flags -o "$room/example" bindings/c/example.c "$built/libptext.a"
 gcc $flags -o "$room/shared" bindings/c/example.c -L"$built" -lptext
 gcc $flags -pthread -o "$room/calls" bindings/c/tests/library.c "$built/libptext.a"
 gcc $flags -o "$room/pointers" bindings/c/tests/pointers.c bindings/c/ptext.c
+gcc $flags -pthread -o "$room/alone" bindings/c/tests/alone.c bindings/c/stream.c
 drinks=$(printf '1,ann,tea\n2,bob,milk\n')
 for program in example shared; do
     is "bindings/c/example.c, $program" "$drinks" "$(LD_LIBRARY_PATH=$built "$room/$program")"
 done
 "$room/calls"
 "$room/pointers"
+"$room/alone"
 painted="-DPAINTED -Wl,--wrap=mmap,--wrap=munmap"
 gcc $flags -pthread $painted -o "$room/streams" bindings/c/tests/streams.c "$built/libptext.a"
 "$room/streams"

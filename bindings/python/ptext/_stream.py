@@ -52,21 +52,25 @@ class _Step(ctypes.Structure):
     ]
 
 
-class _Options(ctypes.Structure):
+class Options(ctypes.Structure):
     _fields_ = [
+        ("size", ctypes.c_size_t),
         ("opened", ctypes.c_char_p),
         ("files", ctypes.c_size_t),
         ("memory", ctypes.c_size_t),
         ("flush", ctypes.c_void_p),
     ]
 
+    def __init__(self, opened: bytes, memory: int = 0) -> None:
+        super().__init__(ctypes.sizeof(self), opened, len(opened), memory, None)
+
 
 _WORDS = [ctypes.c_char_p, ctypes.c_size_t]
 _STREAM, _OPEN, _NEXT, _CLOSE = LIBRARY.ptext_stream, LIBRARY.ptext_open, LIBRARY.ptext_next, LIBRARY.ptext_close
 _STREAM.restype = ctypes.c_uint8
-_STREAM.argtypes = [*_WORDS, *[ctypes.c_void_p] * 3, ctypes.POINTER(_Options)]
+_STREAM.argtypes = [*_WORDS, *[ctypes.c_void_p] * 3, ctypes.POINTER(Options)]
 _OPEN.restype = ctypes.c_void_p
-_OPEN.argtypes = [*_WORDS, ctypes.POINTER(_Options)]
+_OPEN.argtypes = [*_WORDS, ctypes.POINTER(Options)]
 _NEXT.restype = ctypes.c_int
 _NEXT.argtypes = [ctypes.c_void_p, ctypes.POINTER(_Step)]
 _CLOSE.restype = None
@@ -108,7 +112,7 @@ class Stream(Iterator[bytes], AsyncIterator[bytes]):
                 self._sources[number] = self._open(f"files[{name!r}]", given)
             self._is_awaited = any(isinstance(source, Awaited) for source in self._sources.values())
             opened = bytes(number in self._sources for number in range(FIRST_FILE, FIRST_FILE + len(read)))
-            options = _Options(opened, len(opened), min(memory or 0, sys.maxsize), None)
+            options = Options(opened, min(memory or 0, sys.maxsize))
             self._run = _OPEN(encoded, len(encoded), options)
             if not self._run:
                 raise MemoryError("ptext: out of memory")
@@ -359,4 +363,4 @@ def run_descriptors(words: Iterable[str], descriptors: list[int]) -> int:
     functions = (LIBRARY.ptext_read_descriptor, LIBRARY.ptext_write_descriptor)
     of_c = [ctypes.cast(function, ctypes.c_void_p) for function in functions]
     numbers = (ctypes.c_int * len(descriptors))(*descriptors)
-    return int(_STREAM(encoded, len(encoded), *of_c, numbers, _Options(opened, len(opened), 0, None)))
+    return int(_STREAM(encoded, len(encoded), *of_c, numbers, Options(opened)))
