@@ -10,6 +10,7 @@ turn over streams and in one thread.
 """
 import argparse
 import array
+import asyncio
 import base64
 import contextlib
 import ctypes
@@ -37,9 +38,9 @@ class Library:
     """Calls of the library, by the Python module."""
 
     def __init__(self):
-        from ptext import _library
+        from ptext import _library, _memory
 
-        self.names, self.run_all = _library.names, _library.run_all
+        self.names, self.run_all = _library.names, _memory.run_all
 
     def close(self):
         """There is nothing to end."""
@@ -55,8 +56,16 @@ def cut_randomly(text, chance):
     return pieces
 
 
+async def give(pieces):
+    """An input that is awaited."""
+    for piece in pieces:
+        yield piece
+
+
 class Streams(Library):
-    """Runs over streams, by `ptext.stream`."""
+    """Runs over streams, by `ptext.stream`: in turn piece by piece, as a file, and in an event loop."""
+
+    count = 0
 
     def make_input(self, text, chance, is_read_again, stack):
         """An input of a random kind with these bytes. Some kinds can be read only once."""
@@ -64,6 +73,7 @@ class Streams(Library):
         kinds = [text, bytearray(text), array.array("B", text), pieces, tuple(map(memoryview, pieces))]
         if not is_read_again:
             kinds += [iter(pieces), io.BytesIO(text), (piece for piece in pieces)]
+            kinds += [give(pieces)] * 3 if self.count % 3 == 2 else []
         kind = chance.randrange(len(kinds) + 2)
         if kind < len(kinds):
             return kinds[kind]
@@ -73,15 +83,31 @@ class Streams(Library):
         file.seek(0)
         return pathlib.Path(file.name) if is_read_again or kind % 2 else file
 
+    def read(self, stream, chance, out):
+        """Reads a stream to its end."""
+
+        async def wait():
+            async for piece in stream:
+                out.write(piece)
+
+        if self.count % 3 == 0:
+            out.writelines(stream)
+        elif self.count % 3 == 1:
+            file, size = stream.file(), chance.choice([1, 7, 8192, 100000])
+            out.writelines(iter(lambda: file.read1(size), b""))
+        else:
+            asyncio.run(wait())
+
     def run_all(self, words, stdin, files):
         import ptext
 
         chance, out, read = random.Random(repr(words)), io.BytesIO(), self.names(words)[0]
+        self.count += 1
         with contextlib.ExitStack() as stack:
             given = {name: self.make_input(text, chance, read.count(name) > 1, stack) for name, text in files.items()}
             stream = ptext.stream(words, self.make_input(stdin, chance, False, stack), given)
             try:
-                out.writelines(stream)
+                self.read(stream, chance, out)
                 status = 0
             except ptext.Error as why:
                 status = why.status
@@ -96,7 +122,7 @@ def make_options(library, words, stdin, files):
 
     inputs = [stdin, None, None, *map(files.get, library.names(words)[0])]
     opened = bytes(text is not None for text in inputs[3:])
-    return _library.encode_words(words), _stream._Options(opened, len(opened), 0, None), inputs
+    return _library.encode_words(words), _stream.Options(opened), inputs
 
 
 class Steps(Library):

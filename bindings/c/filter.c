@@ -8,23 +8,20 @@
 #include <string.h>
 
 int main(int count, char **words) {
-    size_t room = 1;
-    for (int i = 1; i < count; i++)
-        room += strlen(words[i]) + 1;
+    (void)count;
+    size_t size = ptext_words(words + 1, NULL, 0), room = size + 1;
     uint8_t *joined = malloc(room), *names = malloc(room), *output = malloc(room), *opened = calloc(room, 1);
     int *descriptors = malloc((room + PTEXT_FILE) * sizeof *descriptors);
     struct ptext_answer found;
     if (!joined || !names || !output || !opened || !descriptors)
         return 1;
-    size_t size = 0;
-    for (int i = 1; i < count; size += strlen(words[i++]) + 1)
-        memcpy(joined + size, words[i], strlen(words[i]) + 1);
+    ptext_words(words + 1, joined, room);
     if (ptext_names(joined, size, names, room, output, room, &found))
         return 1;
     /* (If a stream is closed, its number may soon be that of a file.) */
     for (int stream = 0; stream < PTEXT_FILE; stream++)
         descriptors[stream] = fcntl(stream, F_GETFD) < 0 ? -1 : stream;
-    struct ptext_options options = {.opened = opened};
+    struct ptext_options options = {.size = sizeof options, .opened = opened};
     int are_open = 1;
     for (uint8_t *name = names; name < names + found.out.written; name += strlen((char *)name) + 1) {
         int file = open((char *)name, O_RDONLY);

@@ -11,6 +11,17 @@ void ptext_run_in_memory(const uint8_t *words, size_t words_size, const uint8_t 
 void ptext_names_in_memory(const uint8_t *words, size_t words_size, uint8_t *names, size_t names_room,
                            uint8_t *output, size_t output_room, struct ptext_answer *answer);
 
+size_t ptext_words(char *const *words, uint8_t *into, size_t room) {
+    size_t size = 0;
+    for (; words && *words; words++) {
+        size_t length = strlen(*words) + 1;
+        if (into && size + length <= room)
+            memcpy(into + size, *words, length);
+        size += length;
+    }
+    return size;
+}
+
 /* No bytes, for null pointers with size 0. Nothing is written there. */
 static size_t nothing;
 

@@ -36,6 +36,12 @@ struct ptext_answer {
 };
 
 /*
+ * Writes the words of a list that ends with a null pointer, as that of main, to `into` as all calls below take them: each
+ * ends with byte 0. Returns their size. If that is above `room`, not all of them are written.
+ */
+size_t ptext_words(char *const *words, uint8_t *into, size_t room);
+
+/*
  * Runs a command, and returns the status, which is also in `answer`.
  *
  * `words` are the words of the command, the name of the tool first. Each ends with byte 0. `input` is standard input.
@@ -87,8 +93,10 @@ typedef ptrdiff_t ptext_read(void *context, uint32_t stream, uint8_t *into, size
 /* Writes to a stream: takes at least one and at most `size` bytes and returns how many. */
 typedef ptrdiff_t ptext_write(void *context, uint32_t stream, const uint8_t *bytes, size_t size);
 
-/* Choices for a run over streams. All that is 0 is as if it were not chosen. */
+/* Choices for a run over streams. All that is 0, but `size`, is as if it were not chosen. */
 struct ptext_options {
+    /* sizeof(struct ptext_options): so a later version, with more choices, knows how many there are. */
+    size_t size;
     /* A byte for each file that the words name, in the order of ptext_names. A file whose byte is 0, or which has none,
      * cannot be opened. */
     const uint8_t *opened;
@@ -102,7 +110,7 @@ struct ptext_options {
 /*
  * Runs a command over streams, and returns the exit status of the program, 0 to 2; PTEXT_MEMORY if memory ran out,
  * PTEXT_STOPPED if a function has stopped it, and PTEXT_ARGUMENTS if a pointer is null (only `context` and `options` may
- * be), or there are more than 2^31 - 4 files.
+ * be, and `context` not for descriptors), `size` is another, or there are more than 2^31 - 4 files.
  *
  * A stream is read from its beginning, one read after another, and not again once it has ended or failed. No more is
  * read ahead than one block of 8,192 bytes, in which the output is written, too.
@@ -152,11 +160,12 @@ struct ptext_run *ptext_open(const uint8_t *words, size_t words_size, const stru
 
 /*
  * Goes on to the next step, and returns what it wants. `step` has the answer to the last one. Any thread may go on with a
- * run, but only one at a time, and not from within a call of the same run.
+ * run, but only one at a time, and not from within a call of the same run. If a pointer is null (as `run` is where
+ * ptext_open has failed), PTEXT_ENDED is returned, and the status is PTEXT_ARGUMENTS.
  */
 int ptext_next(struct ptext_run *run, struct ptext_step *step);
 
-/* Ends a run, at any step. */
+/* Ends a run, at any step. Of a null pointer, it does nothing. */
 void ptext_close(struct ptext_run *run);
 
 #ifdef __cplusplus

@@ -59,12 +59,12 @@ static int is_given(const void *at, size_t size) {
     return size == 0 || (at && size <= PTRDIFF_MAX && size <= UINTPTR_MAX - (uintptr_t)at);
 }
 
-static const struct ptext_options no_options;
+static const struct ptext_options no_options = {.size = sizeof no_options};
 
 /* Whether the arguments of a run are what is asked for. */
 static int are_given(const uint8_t *words, size_t words_size, const struct ptext_options *options) {
-    return is_given(words, words_size) && options->files <= INT32_MAX - PTEXT_FILE &&
-           is_given(options->opened, options->files);
+    return is_given(words, words_size) && options->size == sizeof *options &&
+           options->files <= INT32_MAX - PTEXT_FILE && is_given(options->opened, options->files);
 }
 
 /* The status of a run in this thread, unless it was stopped. */
@@ -118,6 +118,8 @@ uint8_t ptext_stream(const uint8_t *words, size_t words_size, ptext_read *read, 
     if (!options)
         options = &no_options;
     if (!read || !write || !are_given(words, words_size, options))
+        return PTEXT_ARGUMENTS;
+    if (!context && (read == ptext_read_descriptor || write == ptext_write_descriptor))
         return PTEXT_ARGUMENTS;
     size_t count = options->files + PTEXT_FILE;
     struct called called = {
@@ -294,6 +296,11 @@ struct ptext_run *ptext_open(const uint8_t *words, size_t words_size, const stru
 }
 
 int ptext_next(struct ptext_run *run, struct ptext_step *step) {
+    if (!run || !step) {
+        if (step)
+            *step = (struct ptext_step){PTEXT_ENDED, 0, NULL, 0, PTEXT_ARGUMENTS};
+        return PTEXT_ENDED;
+    }
     if (!run->ended) {
         struct host *outer = running;
         running = &run->host;

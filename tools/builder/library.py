@@ -17,8 +17,8 @@ HEAP = "c/liblibc_c.a"
 # The proof of the crate as it is kept for the next run. (The gate proves it from nothing.)
 KEPT = f"{TOP}/build/{CRATE}-kept"
 # The first number of the version is that of the interface: programs link with libptext.so.0.
-EXPORTED = ["ptext_run", "ptext_names", "ptext_version", "ptext_stream", "ptext_open", "ptext_next", "ptext_close"]
-EXPORTED += ["ptext_read_descriptor", "ptext_write_descriptor"]
+EXPORTED = ["ptext_run", "ptext_names", "ptext_words", "ptext_version", "ptext_stream", "ptext_open", "ptext_next"]
+EXPORTED += ["ptext_close", "ptext_read_descriptor", "ptext_write_descriptor"]
 # The calls that the crate makes: of the C library, and of the toolchain for memory. Those that are named twice are bound
 # to functions of bindings/c/stream.c.
 BOUND = {

@@ -12,12 +12,14 @@ gcc $flags -o "$room/example" bindings/c/example.c "$built/libptext.a"
 gcc $flags -o "$room/shared" bindings/c/example.c -L"$built" -lptext
 gcc $flags -pthread -o "$room/calls" bindings/c/tests/library.c "$built/libptext.a"
 gcc $flags -o "$room/pointers" bindings/c/tests/pointers.c bindings/c/ptext.c
+gcc $flags -pthread -o "$room/alone" bindings/c/tests/alone.c bindings/c/stream.c
 drinks=$(printf '1,ann,tea\n2,bob,milk\n')
 for program in example shared; do
     is "bindings/c/example.c, $program" "$drinks" "$(LD_LIBRARY_PATH=$built "$room/$program")"
 done
 "$room/calls"
 "$room/pointers"
+"$room/alone"
 painted="-DPAINTED -Wl,--wrap=mmap,--wrap=munmap"
 gcc $flags -pthread $painted -o "$room/streams" bindings/c/tests/streams.c "$built/libptext.a"
 "$room/streams"
@@ -109,6 +111,12 @@ fi
 cd bindings/python
 export PTEXT_LIBRARY="$built/libptext.so" PYTHONDONTWRITEBYTECODE=1
 timeout --foreground 600 python3 -m unittest discover -s tests || bad=$((bad + 1))
+if [ -e /usr/lib/python3/dist-packages/pandas ]; then
+    table='pandas.read_csv(ptext.stream(["cut", "-d,", "-f1,3"], stdin=b"a,b,c\n1,x,2\n3,y,4\n").file())'
+    is "pandas" "4 6" "$(/usr/bin/python3 -c "import pandas, ptext; print(*$table.sum())")"
+else
+    left_out "a stream that pandas reads (it is not there)"
+fi
 if has mypy; then
     words="--strict --follow-imports=silent --no-error-summary --cache-dir $room/mypy"
     is "the types of a program" "" "$(MYPYPATH=. mypy $words tests/user.py 2>&1)"

@@ -4,6 +4,7 @@
 #define _GNU_SOURCE
 #include "ptext.h"
 
+#include <errno.h>
 #include <pthread.h>
 #include <signal.h>
 #include <stdio.h>
@@ -22,6 +23,7 @@ static void expect(int holds, const char *what) {
 }
 
 #define WORDS(text) (const uint8_t *)(text), sizeof(text)
+#define SIZED .size = sizeof(struct ptext_options)
 #define STREAMS 6
 
 /* The inputs and outputs of a run in memory, and how they go wrong. */
@@ -92,7 +94,7 @@ static int has(const struct world *w, uint32_t stream, const char *text) {
 }
 
 static const uint8_t both[] = {1, 1};
-static const struct ptext_options two_files = {.opened = both, .files = 2, .flush = world_flush};
+static const struct ptext_options two_files = {SIZED, .opened = both, .files = 2, .flush = world_flush};
 
 static void reset(const char *input, const char *first, const char *second) {
     memset(&world, 0, sizeof world);
@@ -191,8 +193,9 @@ static void waits_for_nothing(void) {
 
 static void bad_arguments(void) {
     static const uint8_t none[] = {0, 0};
-    const struct ptext_options unopened = {.opened = none, .files = 2}, first = {.opened = both, .files = 1};
-    const struct ptext_options null = {.files = 1}, many = {.opened = both, .files = (size_t)1 << 31};
+    const struct ptext_options unopened = {SIZED, .opened = none, .files = 2}, first = {SIZED, .opened = both, .files = 1};
+    const struct ptext_options null = {SIZED, .files = 1}, many = {SIZED, .opened = both, .files = (size_t)1 << 31};
+    const struct ptext_options later = {.size = sizeof later + 8, .opened = both, .files = 2};
     reset("", "a\n", "b\n");
     expect(ptext_stream(WORDS("paste\0x\0y"), world_read, world_write, &world, &unopened) == 1, "files that are not there");
     expect(has(&world, PTEXT_MESSAGES, "paste: x: cannot be opened\npaste: y: cannot be opened\n") && !world.reads, "both");
@@ -212,7 +215,19 @@ static void bad_arguments(void) {
     expect(ptext_stream(WORDS("cut"), world_read, NULL, &world, NULL) == PTEXT_ARGUMENTS, "no function to write");
     expect(ptext_stream(WORDS("cut"), world_read, world_write, &world, &null) == PTEXT_ARGUMENTS, "null files");
     expect(ptext_stream(WORDS("cut"), world_read, world_write, &world, &many) == PTEXT_ARGUMENTS, "2^31 files");
+    expect(ptext_stream(WORDS("cut"), world_read, world_write, &world, &later) == PTEXT_ARGUMENTS, "a later version");
+    ptext_read *read = ptext_read_descriptor;
+    ptext_write *write = ptext_write_descriptor;
+    expect(ptext_stream(WORDS("cut"), read, world_write, NULL, NULL) == PTEXT_ARGUMENTS, "no descriptors to read");
+    expect(ptext_stream(WORDS("cut"), world_read, write, NULL, NULL) == PTEXT_ARGUMENTS, "no descriptors to write");
     expect(!ptext_open(NULL, 1, NULL) && !ptext_open(WORDS("cut"), &null), "a run of bad arguments");
+    expect(!ptext_open(WORDS("cut"), &later), "a run of a later version");
+    struct ptext_step step = {PTEXT_READ, 1, none, 2, 0};
+    expect(ptext_next(NULL, &step) == PTEXT_ENDED && step.wants == PTEXT_ENDED, "a step of no run");
+    expect(step.status == PTEXT_ARGUMENTS && !step.bytes && !step.size, "its status");
+    struct ptext_run *run = ptext_open(WORDS("cut"), NULL);
+    expect(run && ptext_next(run, NULL) == PTEXT_ENDED, "no step");
+    ptext_close(run);
     ptext_close(NULL);
     expect(!strcmp(ptext_version(), PTEXT_VERSION), "the version");
 }
@@ -227,7 +242,7 @@ static void little_memory(void) {
     uint8_t status = PTEXT_MEMORY;
     size_t memory;
     for (memory = 1; status == PTEXT_MEMORY && memory < 1 << 20; memory += memory < 4096 ? 1 : 512) {
-        const struct ptext_options options = {.opened = both, .files = 2, .memory = memory};
+        const struct ptext_options options = {SIZED, .opened = both, .files = 2, .memory = memory};
         reset("", long_lines[0], long_lines[1]);
         status = ptext_stream(WORDS("join\0x\0y"), world_read, world_write, &world, &options);
         expect(status == PTEXT_MEMORY || !status, "status with little memory");
@@ -292,13 +307,14 @@ static void each_request_is_refused(void) {
 #define PAINT 0xa5
 
 static size_t untouched = SIZE_MAX;
+static uint8_t *lowest;
 
 void *__real_mmap(void *at, size_t size, int protection, int flags, int descriptor, off_t offset);
 void *__wrap_mmap(void *at, size_t size, int protection, int flags, int descriptor, off_t offset);
 void *__wrap_mmap(void *at, size_t size, int protection, int flags, int descriptor, off_t offset) {
     void *got = __real_mmap(at, size, protection, flags, descriptor, offset);
     if (got != MAP_FAILED && flags & MAP_STACK)
-        memset(got, PAINT, size);
+        lowest = memset(got, PAINT, size);
     return got;
 }
 
@@ -320,6 +336,17 @@ static void stacks(void) {
         failed = 1;
     }
 }
+
+/* What would go below a stack goes nowhere. */
+static void ends_of_stacks(void) {
+    int ends[2];
+    struct ptext_run *run = ptext_open(WORDS("tr\0a\0b"), NULL);
+    expect(run && !pipe(ends) && write(ends[1], "ab", 2) == 2, "a run and a pipe");
+    size_t page = (size_t)sysconf(_SC_PAGESIZE);
+    expect(read(ends[0], lowest + page - 1, 1) < 0 && errno == EFAULT, "a byte below a stack");
+    expect(read(ends[0], lowest + page, 1) == 1, "its lowest byte");
+    ptext_close(run);
+}
 #endif
 
 /* ---- runs in runs, and threads */
@@ -336,7 +363,7 @@ static ptrdiff_t nested_read(void *context, uint32_t stream, uint8_t *into, size
     static struct world inner;
     memset(&inner, 0, sizeof inner);
     inner.texts[PTEXT_INPUT] = "a,b\n";
-    const struct ptext_options little = {.memory = 1 << 16};
+    const struct ptext_options little = {SIZED, .memory = 1 << 16};
     expect(!ptext_stream(words, sizeof words, world_read, world_write, &inner, &little), "a run in a run");
     expect(has(&inner, PTEXT_OUTPUT, "b,b\n"), "its output");
     ptext_run(words, sizeof words, text, 4, NULL, 0, NULL, 0, into, room, messages, sizeof messages, &answer);
@@ -346,7 +373,7 @@ static ptrdiff_t nested_read(void *context, uint32_t stream, uint8_t *into, size
 static void *many_runs(void *context) {
     for (int i = 0; i < 300; i++) {
         struct world w = {.texts = {"a,b\nc,d\n"}, .piece = 3};
-        const struct ptext_options options = {.memory = i % 2 ? 1 << 20 : 0};
+        const struct ptext_options options = {SIZED, .memory = i % 2 ? 1 << 20 : 0};
         uint8_t status = ptext_stream(WORDS("cut\0-d,\0-f2"), world_read, world_write, &w, &options);
         if (status || !has(&w, PTEXT_OUTPUT, "b\nd\n"))
             return context;
@@ -366,7 +393,7 @@ static void four_threads(void) {
 }
 
 static void nested(void) {
-    const struct ptext_options options = {.memory = 1 << 16};
+    const struct ptext_options options = {SIZED, .memory = 1 << 16};
     reset(NULL, NULL, NULL);
     uint8_t status = ptext_stream(WORDS("cut\0-d,\0-f1"), nested_read, world_write, &world, &options);
     expect(!status && has(&world, PTEXT_OUTPUT, "b\nb\nb\n"), "runs in a run");
@@ -433,7 +460,7 @@ static void steps(void) {
         }
     }
     struct ptext_step step = {0};
-    static const struct ptext_options little = {.memory = 100};
+    static const struct ptext_options little = {SIZED, .memory = 100};
     struct ptext_run *run = ptext_open(WORDS("cut\0-b1"), &little);
     reset("ab\n", NULL, NULL);
     while (ptext_next(run, &step) != PTEXT_ENDED)
@@ -527,6 +554,7 @@ int main(void) {
 #endif
 #ifdef PAINTED
     stacks();
+    ends_of_stacks();
 #endif
 #ifdef REFUSED
     each_request_is_refused();

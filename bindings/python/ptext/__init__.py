@@ -6,6 +6,7 @@ r"""cut, paste, join, comm, uniq and tr over bytes in memory and over streams, b
     b'1,ann,tea\n'
     >>> lines = ptext.stream(["cut", "-d", ":", "-f", "1"], stdin=pathlib.Path("/etc/passwd"))
     >>> ptext.stream(["uniq", "-c"], stdin=lines, out=sys.stdout.buffer)
+    >>> rows = csv.reader(io.TextIOWrapper(ptext.stream(["cut", "-d", ",", "-f", "2-"], stdin=path).file()))
 
 The functions of the tools take all inputs, and return all output, in memory; `stream` is for inputs of any length, for
 output as it comes, and for what Ctrl-C shall end. Its inputs may come in pieces of any size. Pieces that are run one by
@@ -13,36 +14,37 @@ one have another output: `uniq -c` counts a run of equal lines twice.
 """
 from collections.abc import Mapping
 
-from ._inputs import Input, Readable
-from ._library import Error, names, run
+from ._inputs import AsyncInput, Input, Name, Readable
+from ._library import Error, names
+from ._memory import run
 from ._stream import Stream, Writable, stream
 
-__all__ = ["Error", "Input", "Readable", "Stream", "Writable"]
+__all__ = ["AsyncInput", "Error", "Input", "Readable", "Stream", "Writable"]
 __all__ += ["comm", "cut", "join", "names", "paste", "run", "stream", "tr", "uniq"]
 __version__ = "0.1.0"
 
 
-def cut(*words: str, stdin: Input = b"", files: "Mapping[str, Input] | None" = None) -> bytes:
+def cut(*words: str, stdin: Input = b"", files: "Mapping[Name, Input] | None" = None) -> bytes:
     """Selects bytes or fields of each line: `cut("-f", "1", stdin=...)`."""
     return run(["cut", *words], stdin, files)
 
 
-def paste(*words: str, stdin: Input = b"", files: "Mapping[str, Input] | None" = None) -> bytes:
+def paste(*words: str, stdin: Input = b"", files: "Mapping[Name, Input] | None" = None) -> bytes:
     """Puts lines side by side: `paste("-", "b", stdin=..., files={"b": ...})`."""
     return run(["paste", *words], stdin, files)
 
 
-def join(*words: str, stdin: Input = b"", files: "Mapping[str, Input] | None" = None) -> bytes:
+def join(*words: str, stdin: Input = b"", files: "Mapping[Name, Input] | None" = None) -> bytes:
     """Joins the lines of two sorted inputs that have a field in common."""
     return run(["join", *words], stdin, files)
 
 
-def comm(*words: str, stdin: Input = b"", files: "Mapping[str, Input] | None" = None) -> bytes:
+def comm(*words: str, stdin: Input = b"", files: "Mapping[Name, Input] | None" = None) -> bytes:
     """Shows which lines two sorted inputs have in common."""
     return run(["comm", *words], stdin, files)
 
 
-def uniq(*words: str, stdin: Input = b"", files: "Mapping[str, Input] | None" = None) -> bytes:
+def uniq(*words: str, stdin: Input = b"", files: "Mapping[Name, Input] | None" = None) -> bytes:
     """Writes one line of each run of equal lines. Also the output of an output operand is returned."""
     return run(["uniq", *words], stdin, files)
 

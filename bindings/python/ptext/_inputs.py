@@ -5,12 +5,15 @@ import codecs
 import contextlib
 import io
 import os
-from collections.abc import Iterable, Iterator, Mapping
-from typing import TYPE_CHECKING, Any, Callable, Protocol, Union
+from collections.abc import AsyncIterable, AsyncIterator, Iterable, Iterator, Mapping
+from typing import TYPE_CHECKING, Any, Callable, Protocol, TypeVar, Union
 
 if TYPE_CHECKING:
-    from typing_extensions import Buffer
+    # (Not every type checker knows `Buffer` of typing_extensions.)
+    from _typeshed import ReadableBuffer as Buffer
 
+Name = TypeVar("Name", bound=Union[str, "os.PathLike[str]"])
+_Given = TypeVar("_Given")
 PIECE = 1 << 18
 TEXTS = (io.TextIOBase, codecs.StreamReader, codecs.StreamWriter, codecs.StreamReaderWriter)
 TAKEN = "bytes or another buffer, a str, a pathlib.Path, a file open in binary mode, or an iterable of bytes"
@@ -25,11 +28,16 @@ class Readable(Protocol):
 Input = Union["Buffer", str, "os.PathLike[str]", Readable, Iterable["Buffer"]]
 """Bytes or another buffer (`bytearray`, `memoryview`, `mmap`, an array), a text (as UTF-8), a path, which is opened, an
 open file in binary mode, or an iterable of bytes in their order."""
+AsyncInput = AsyncIterable["Buffer"]
+"""What gives bytes when it is awaited: an async iterator, or a file whose `read` is a coroutine."""
 
 
-def check_files(files: Mapping[str, Input] | None) -> Mapping[str, Input]:
+def check_files(files: Mapping[Any, _Given] | None) -> Mapping[str, _Given]:
+    """The inputs by their names, which may be paths."""
     if not isinstance(files, (Mapping, type(None))):
         raise TypeError(f"files is {type(files).__name__}, and not a mapping from names to inputs")
+    if any(isinstance(name, os.PathLike) for name in files or ()):
+        return {os.fspath(name): given for name, given in (files or {}).items()}
     return files or {}
 
 
@@ -41,11 +49,11 @@ def is_buffer(given: object) -> bool:
     return True
 
 
-def is_read_once(given: Input) -> bool:
+def is_read_once(given: Input | AsyncInput) -> bool:
     """Whether the bytes of an input can be had only once."""
     if isinstance(given, (str, os.PathLike)) or is_buffer(given):
         return False
-    return hasattr(given, "read") or isinstance(given, Iterator)
+    return hasattr(given, "read") or isinstance(given, (Iterator, AsyncIterator))
 
 
 def refuse_text(what: str, given: object) -> None:
@@ -126,6 +134,24 @@ def list_pieces(what: str, given: Input) -> Iterator[Buffer]:
     if isinstance(given, Iterable):
         return (_check_piece(what, piece) for piece in given)
     raise TypeError(f"{what} is {type(given).__name__}, and not {TAKEN}")
+
+
+def is_async(given: object) -> bool:
+    return isinstance(given, AsyncIterable) and not isinstance(given, Iterable)
+
+
+async def list_async_pieces(what: str, given: AsyncInput) -> AsyncIterator[Buffer]:
+    """The pieces of an input that is awaited."""
+    import inspect
+
+    read = getattr(given, "read", None)
+    if not inspect.iscoroutinefunction(read):
+        async for piece in given:
+            yield _check_piece(what, piece)
+        return
+    # (As an iterator, such a file gives lines.)
+    while piece := _check_piece(what, await read(PIECE)):
+        yield piece
 
 
 def read_all(what: str, given: Input) -> bytes:

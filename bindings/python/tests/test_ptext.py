@@ -1,14 +1,19 @@
 """Tests of the module. Run them in python/ with `python3 -m unittest discover tests`."""
 import array
+import asyncio
 import codecs
 import concurrent.futures
+import contextlib
 import copy
+import csv
+import gzip
 import io
 import itertools
 import mmap
 import os
 import pathlib
 import pickle
+import shutil
 import signal
 import subprocess
 import sys
@@ -22,9 +27,10 @@ import ptext
 # Runs out of memory: the output is far longer than the inputs. It prints whether `out` of the exception is a beginning.
 NO_MEMORY = """
 import resource
+import sys
 import ptext
 resource.setrlimit(resource.RLIMIT_AS, (400 << 20,) * 2)
-lines = b"k 0123456789\\n" * 5_000
+lines = b"k 0123456789\\n" * int(sys.argv[1])
 try:
     ptext.join("a", "b", files={"a": lines, "b": lines})
 except MemoryError as error:
@@ -51,6 +57,28 @@ class Tools(unittest.TestCase):
         self.assertEqual(ptext.cut("-b", "1", stdin=memoryview(b"ab\n")), b"a\n")
         self.assertEqual(ptext.cut("-b", "1", "f", "g", files={"g": b"c\n", "f": b"ab\n"}), b"a\nc\n")
         self.assertEqual(ptext.cut("-b", "1"), b"")
+
+    def test_names_that_are_paths(self):
+        with tempfile.TemporaryDirectory() as room:
+            path = pathlib.Path(room, "f")
+            path.write_bytes(b"ab\n")
+            self.assertEqual(ptext.cut("-b", "1", path, files={path: path}), b"a\n")
+            self.assertEqual(ptext.cut("-b", "1", str(path), "g", files={path: b"cd\n", "g": path}), b"c\na\n")
+            self.assertEqual(list(ptext.stream(["cut", "-b", "1", path], files={path: path})), [b"a\n"])
+        self.assertRaises(TypeError, ptext.cut, "-b", "1", "5", files={5: b"", path: b""})
+
+    def test_more_bytes_than_are_run_at_once(self):
+        lines = b"".join(b"%d some words\n" % (number // 2) for number in range(100_000))
+        self.assertEqual(ptext.uniq(stdin=lines), b"".join(lines.splitlines(True)[::2]))
+        once = iter([lines, b"end"])
+        files = {"a": once, "b": once, "c": b"x\n"}
+        wanted = b"".join(b"%b\t%b\n" % (line, line) for line in (lines + b"end").splitlines())
+        self.assertEqual(ptext.paste("a", "b", files=files), wanted)
+        with self.assertRaises(ptext.Error) as caught:
+            ptext.run(["cut", "-d", " ", "-f", "1", "-", "x"], io.BytesIO(lines))
+        error, wanted = caught.exception, b"".join(b"%d\n" % (number // 2) for number in range(100_000))
+        self.assertEqual((error.status, error.message), (1, "cut: x: cannot be opened"))
+        self.assertEqual((error.unknown, error.out), (("x",), wanted))
 
     def test_open_file_that_is_named_twice(self):
         for words, wanted in [
@@ -123,6 +151,7 @@ class Failures(unittest.TestCase):
         error = self.refused(["cut", "-b", "1", "/etc/passwd"])
         self.assertIn("`files` has no '/etc/passwd'", str(error))
         self.assertEqual(error.unknown, ("/etc/passwd",))
+        self.assertEqual(self.refused(["paste", "x", "y", "x", "g"], files={"g": b""}).unknown, ("x", "y"))
         self.assertEqual(str(self.refused(["cut", "-q", "x"])), "cut: unknown option in -q")
 
     def test_inputs_that_are_none(self):
@@ -157,8 +186,9 @@ class Failures(unittest.TestCase):
         self.assertEqual((caught.status, caught.message), (2, "cut: unknown option in -q"))
 
     def test_no_memory(self):
-        did = subprocess.run([sys.executable, "-c", NO_MEMORY], capture_output=True, text=True)
-        self.assertEqual(did.stdout, "ptext: out of memory True True\n", did.stderr[-500:])
+        for lines in ("5000", "30000"):
+            did = subprocess.run([sys.executable, "-c", NO_MEMORY, lines], capture_output=True, text=True)
+            self.assertEqual(did.stdout, "ptext: out of memory True True\n", did.stderr[-500:])
 
 
 class Threads(unittest.TestCase):
@@ -292,6 +322,31 @@ class Streams(unittest.TestCase):
             with self.assertRaisesRegex(ValueError, "an input twice"):
                 ptext.stream(words, stdin, files)
 
+    def test_streams_that_are_done_or_dropped_leave_nothing(self):
+        def count_files():
+            return len(os.listdir("/proc/self/fd"))
+
+        def count_pages():
+            with open("/proc/self/statm", "rb") as file:
+                return int(file.read().split()[0])
+
+        def make():
+            return ptext.stream(["cut", "-b", "1"], stdin=pathlib.Path(__file__))
+
+        make().close()
+        files, pages, open_ones = count_files(), count_pages(), []
+        for end in (list, ptext.Stream.close, lambda stream: stream.file().close(), next):
+            for _ in range(100):
+                stream = make()
+                self.assertEqual(count_files(), files + 1)
+                end(stream)
+                # (`next` is not the end: the stream is dropped.)
+                open_ones.append(stream if end is not next else None)
+                del stream
+                self.assertEqual(count_files(), files)
+        # (A run has a stack of 256 KiB.)
+        self.assertLess((count_pages() - pages) * 4, 8_000)
+
     def test_limit_of_memory(self):
         lines = b"k 0123456789\n" * 20_000
         files = {"a": lines, "b": lines}
@@ -344,6 +399,13 @@ class Streams(unittest.TestCase):
         for count in (0, -1, 6):
             with self.assertRaisesRegex(OSError, f"`out` took {count} bytes of 5"):
                 ptext.stream(["cut", "-b", "1-4"], stdin=b"abcd\n", out=Taken(count))
+
+    def test_output_that_cannot_be_written_yet(self):
+        begin, end = os.pipe()
+        os.set_blocking(end, False)
+        with open(begin, "rb", 0), open(end, "wb", 0) as out:
+            with self.assertRaisesRegex(BlockingIOError, "`out` takes no bytes now"):
+                ptext.stream(["cut", "-b", "1-"], stdin=itertools.repeat(b"ab\n" * 1000), out=out)
 
     def test_output_that_a_file_may_not_keep(self):
         class Keeps(io.RawIOBase):
@@ -398,6 +460,187 @@ for piece in ptext.stream(["tr", {command}):
             self.assertLess(time.monotonic() - began, 4)
 
 
+class Files(unittest.TestCase):
+    """Streams that are read as files."""
+
+    def test_lines_and_blocks(self):
+        lines = [b"%d some words\n" % number for number in range(50_000)]
+
+        def make():
+            return ptext.stream(["cut", "-d", " ", "-f", "1,3"], stdin=lines).file()
+
+        wanted = b"".join(b"%d words\n" % number for number in range(50_000))
+        self.assertEqual(b"".join(make()), wanted)
+        self.assertEqual(make().read(), wanted)
+        self.assertEqual(b"".join(iter(lambda file=make(): file.read(1000), b"")), wanted)
+        file = make()
+        self.assertEqual([file.readline(), file.peek(1)[:2], file.read(3)], [b"0 words\n", b"1 ", b"1 w"])
+        self.assertEqual(file.read(), wanted[11:])
+        self.assertEqual(file.read(), b"")
+
+    def test_readers_of_the_standard_library(self):
+        table = "id,name,price\n" + "".join(f'{number},"n ""{number}"" é",5\n' for number in range(20_000))
+        with io.TextIOWrapper(ptext.stream(["cut", "-d", ",", "-f", "1,2"], stdin=table).file(), "utf-8") as text:
+            rows = list(csv.reader(text))
+        self.assertEqual(rows[0], ["id", "name"])
+        self.assertEqual(rows[1:], [[str(number), f'n "{number}" é'] for number in range(20_000)])
+        packed = gzip.compress(table.encode())
+        same = ptext.stream(["tr", "a", "a"], stdin=packed)
+        upper = ptext.stream(["tr", "a-z", "A-Z"], stdin=gzip.open(same.file()))
+        self.assertEqual(b"".join(upper), table.encode().upper())
+
+    def test_line_is_there_before_the_next_one_is_read(self):
+        begin, end = os.pipe()
+        with os.fdopen(begin, "rb") as given, ptext.stream(["cut", "-b", "1"], stdin=given).file() as file:
+            os.write(end, b"ab\n")
+            self.assertEqual(file.readline(), b"a\n")
+            os.close(end)
+            self.assertEqual(file.readline(), b"")
+
+    def test_errors_and_the_end(self):
+        file = ptext.stream(["cut", "-b", "1", "f", "g"], files={"g": b"ab\n"}).file()
+        self.assertEqual(file.readline(), b"a\n")
+        self.assertRaisesRegex(ptext.Error, "cut: f: cannot be opened", file.readline)
+        stream = ptext.stream(["tr", "a", "b"], stdin=itertools.repeat(b"a\n" * 10_000))
+        with stream.file() as file:
+            self.assertEqual(file.read(2), b"b\n")
+        self.assertEqual(list(stream), [])
+
+
+class Async(unittest.IsolatedAsyncioTestCase):
+    """Streams in an event loop."""
+
+    async def asyncSetUp(self):
+        # (Otherwise the loop reports each turn of 0.1 seconds, as any is on a busy machine.)
+        asyncio.get_running_loop().slow_callback_duration = 60
+
+    async def collect(self, words, stdin=b"", files=None):
+        return b"".join([piece async for piece in ptext.stream(words, stdin, files)])
+
+    async def make_lines(self, count):
+        for number in range(count):
+            yield b"%d\n" % (number // 2)
+            if number % 100 == 0:
+                await asyncio.sleep(0)
+
+    async def test_each_kind_of_input(self):
+        reader = asyncio.StreamReader()
+        reader.feed_data(b"ab\n" * 30_000 + b"x" * 100_000)
+        reader.feed_eof()
+        self.assertEqual(await self.collect(["cut", "-b", "1"], reader), b"a\n" * 30_000 + b"x\n")
+        for given in [b"ab\n", "ab\n", io.BytesIO(b"ab\n"), [b"a", b"b\n"], iter([b"ab\n"])]:
+            self.assertEqual(await self.collect(["cut", "-b", "1"], given), b"a\n")
+        wanted = b"".join(b"2 %d\n" % number for number in range(500))
+        self.assertEqual(await self.collect(["uniq", "-c"], self.make_lines(1000)), wanted)
+        files = {"f": self.make_lines(4), "g": b"0 x\n1 y\n"}
+        self.assertEqual(await self.collect(["join", "f", "g"], files=files), b"0 x\n0 x\n1 y\n1 y\n")
+
+    async def test_streams_compose(self):
+        async def run(number):
+            inner = ptext.stream(["uniq"], stdin=self.make_lines(200))
+            for _ in range(10):
+                inner = ptext.stream(["cut", "-b", "1-"], stdin=inner)
+            return await self.collect(["tr", "0-9", f"{number % 10}*"[:1] * 10], inner)
+
+        # (More streams than the executor has threads.)
+        outputs = await asyncio.wait_for(asyncio.gather(*map(run, range(40))), 60)
+        for number, output in enumerate(outputs):
+            self.assertEqual((len(output), output[:1]), (290, b"%d" % (number % 10)))
+
+    async def test_loop_goes_on_while_an_input_waits(self):
+        begin, end = os.pipe()
+        self.addCleanup(os.close, begin)
+        async with ptext.stream(["cut", "-b", "1"], stdin=open(begin, "rb", closefd=False)) as stream:
+            for letter in b"ab":
+                waiting = asyncio.ensure_future(anext_of(stream))
+                await asyncio.sleep(0.05)
+                self.assertFalse(waiting.done())
+                os.write(end, b"%cx\n" % letter)
+                self.assertEqual(await waiting, b"%c\n" % letter)
+            os.close(end)
+            self.assertEqual([piece async for piece in stream], [])
+
+    async def test_loop_goes_on_while_a_command_computes(self):
+        zeros = mmap.mmap(-1, 1 << 28, mmap.MAP_PRIVATE, mmap.PROT_READ)
+        computing = asyncio.ensure_future(self.collect(["tr", "-d", r"\0"], zeros))
+        turns = 0
+        while not computing.done():
+            turns += 1
+            await asyncio.sleep(0.001)
+        self.assertGreater(turns, 10)
+        self.assertEqual(await computing, b"")
+
+    async def test_errors(self):
+        async def broken():
+            yield b"ab\n"
+            raise RuntimeError("broken")
+
+        stream = ptext.stream(["cut", "-b", "1"], stdin=broken())
+        self.assertEqual(await anext_of(stream), b"a\n")
+        with self.assertRaisesRegex(RuntimeError, "broken"):
+            await anext_of(stream)
+        self.assertEqual([piece async for piece in stream], [])
+        with self.assertRaisesRegex(ptext.Error, "cannot be opened"):
+            await self.collect(["cut", "-b", "1", "f"])
+        with self.assertRaisesRegex(TypeError, "stdin gave str"):
+            await self.collect(["cut", "-b", "1"], of_texts())
+        once = self.make_lines(2)
+        with self.assertRaisesRegex(ValueError, "an input twice"):
+            ptext.stream(["paste", "-", "f"], once, {"f": once})
+        for call in (list, lambda stream: stream.file().read(), lambda stream: stream._write_to(io.BytesIO())):
+            with self.assertRaisesRegex(TypeError, "an input is async"):
+                call(ptext.stream(["cut", "-b", "1"], stdin=self.make_lines(2)))
+        with self.assertRaisesRegex(TypeError, "async_generator, and not bytes"):
+            ptext.cut("-b", "1", stdin=self.make_lines(2))
+
+    async def test_cancelled_wait_ends_the_command(self):
+        begin, end = os.pipe()
+        os.write(end, b"ab\n")
+        gone = []
+
+        async def never():
+            try:
+                yield b"ab\n"
+                await asyncio.sleep(60)
+            finally:
+                gone.append(True)
+
+        self.addCleanup(os.close, begin)
+        for given in (open(begin, "rb", closefd=False), never()):
+            async with ptext.stream(["cut", "-b", "1"], stdin=given) as stream:
+                self.assertEqual(await anext_of(stream), b"a\n")
+                with self.assertRaises(asyncio.TimeoutError):
+                    await asyncio.wait_for(anext_of(stream), 0.1)
+                self.assertEqual([piece async for piece in stream], [])
+                stream.close()
+        self.assertEqual(gone, [True])
+        # (Now the thread that reads the pipe ends, and with it the run.)
+        os.close(end)
+
+    async def test_use_by_two(self):
+        begin, end = os.pipe()
+        with open(begin, "rb") as given, open(end, "wb"):
+            stream = ptext.stream(["cut", "-b", "1"], stdin=given)
+            waiting = asyncio.ensure_future(anext_of(stream))
+            await asyncio.sleep(0.05)
+            with self.assertRaisesRegex(ValueError, "in use"):
+                await anext_of(stream)
+            self.assertRaisesRegex(ValueError, "in use", stream.close)
+            os.write(end, b"ab\n")
+            self.assertEqual(await waiting, b"a\n")
+            await stream.aclose()
+            self.assertEqual(list(stream), [])
+
+
+async def anext_of(stream):
+    """The next piece. (`anext` is new in Python 3.10.)"""
+    return await stream.__anext__()
+
+
+async def of_texts():
+    yield "a text"
+
+
 def environment():
     """That of a process which imports this module of ptext."""
     path = os.pathsep.join(os.path.abspath(folder) for folder in sys.path if folder)
@@ -436,9 +679,10 @@ class Program(unittest.TestCase):
         self.is_so("ptext paste f f", (0, "ab\tab\ncd\tcd\n", ""))
 
     def test_output_file(self):
-        self.is_so("ptext uniq -c - made", (0, "", ""), input=b"a\na\n")
-        with open(f"{self.room}/made", "rb") as file:
-            self.assertEqual(file.read(), b"2 a\n")
+        for lines in (1000, 2):
+            self.is_so("ptext uniq -c - made", (0, "", ""), input=b"a\n" * lines)
+            with open(f"{self.room}/made", "rb") as file:
+                self.assertEqual(file.read(), b"%d a\n" % lines)
         self.is_so("ptext uniq none made2", (1, "", "uniq: none: cannot be opened\n"))
         self.assertFalse(os.path.exists(f"{self.room}/made2"))
         self.is_so("ptext uniq - none/made", (1, "", "uniq: none/made: cannot be opened\n"))
@@ -448,6 +692,33 @@ class Program(unittest.TestCase):
         names = [f"none{number:0200}" for number in range(300)]
         messages = "".join(f"cut: {name}: cannot be opened\n" for name in names)
         self.is_so(f"ptext cut -b 1 {' '.join(names)}", (1, "", messages))
+
+    def test_no_memory(self):
+        self.is_so("ulimit -v 400000; ptext uniq </dev/zero", (1, "", "uniq: out of memory\n"))
+
+    def test_interrupt(self):
+        words = [sys.executable, "-m", "ptext", "tr", "a", "b"]
+        with subprocess.Popen(words, stdin=subprocess.PIPE, stdout=subprocess.PIPE, env=environment()) as child:
+            child.stdin.write(b"a\n")
+            child.stdin.flush()
+            self.assertEqual(child.stdout.readline(), b"b\n")
+            child.send_signal(signal.SIGINT)
+            try:
+                self.assertEqual(child.wait(30), -signal.SIGINT)
+            finally:
+                child.kill()
+
+    def test_library_that_is_named(self):
+        package = f"{self.room}/ptext"
+        shutil.copytree(os.path.dirname(ptext.__file__), package, ignore=shutil.ignore_patterns("*.so", "__pycache__"))
+        with open(f"{package}/libptext.so", "wb") as file:
+            file.write(b"no library")
+        how = {"capture_output": True, "cwd": self.room, "text": True}
+        named = ptext._library.LIBRARY._name
+        for path, wanted in [(named, "x\n"), ("", "")]:
+            words = [sys.executable, "-m", "ptext", "cut", "-b", "1", "g"]
+            did = subprocess.run(words, env={**os.environ, "PTEXT_LIBRARY": path}, **how)
+            self.assertEqual(did.stdout, wanted, did.stderr)
 
     def test_file_that_may_not_grow(self):
         with open(f"{self.room}/long", "wb") as file:
@@ -460,6 +731,7 @@ class Program(unittest.TestCase):
         self.is_so("ptext cut -b 1 f .", (1, "a\nc\n", "cut: .: read failed\n"))
         self.is_so("ptext join - none", (1, "", "join: none: cannot be opened\n"), input=None, stdin=self.never())
         self.is_so("ptext cut -b 1 <&-", (1, "", "cut: standard input: read failed\n"))
+        self.is_so("ptext cut -b 1 f <&-", (0, "a\nc\n", ""))
         self.is_so("ptext cut -b 1 f >&-", (1, "", "cut: output: write failed\n"))
         self.is_so("ptext cut -b 1 f >/dev/full", (1, "", "cut: output: write failed\n"))
         self.is_so("ptext cut -b 1 f none 2>&-", (1, "a\nc\n", ""))
@@ -468,7 +740,7 @@ class Program(unittest.TestCase):
         user = os.path.join(os.path.dirname(os.path.abspath(__file__)), "user.py")
         how = {"cwd": self.room, "capture_output": True, "text": True, "env": environment()}
         did = subprocess.run([sys.executable, user, "g"], **how)
-        wanted = "1 x\n21 b'xabcdxxef\\n' 1: comm: x: line 2 is out of order (['in'], 'out')\n"
+        wanted = "1 x\n21 b'xabcdxxef\\n' 1: comm: x: line 2 is out of order (['in'], 'out')\n7 2 b'x\\nx\\n'\n"
         self.assertEqual(did.stdout, wanted, did.stderr)
 
     def test_does_not_wait_for_an_input_that_it_does_not_read(self):
