@@ -34,6 +34,11 @@ def write_text(path, text):
         file.write(text)
 
 
+def write_bytes(path, data):
+    with open(path, "wb") as file:
+        file.write(data)
+
+
 def read_version():
     return read_text(f"{TOP}/VERSION").strip()
 

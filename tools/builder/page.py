@@ -6,8 +6,9 @@ place for crates of WebAssembly. So the module is made here from copies: `ptrunc
 reads and writes; and these two, which are the toolchain's with their calls of C taken from the host. All copies are
 checked as any crate, over what an earlier run kept, before they are compiled. docs/LIBRARY.md says what that shows.
 
-The compiler makes modules with 64-bit addresses only. wasm-opt (Debian's binaryen) gives the module 32-bit addresses,
-which every browser knows. Without wasm-opt it stays as it is.
+The compiler makes modules with 64-bit addresses only, and without vectors. wasm-opt (Debian's binaryen) gives the
+module 32-bit addresses, which every browser knows; without wasm-opt it stays as it is. With Debian's wabt, too, the
+module has vectors.
 """
 import base64
 import html
@@ -25,7 +26,7 @@ sys.path.append(os.path.join(os.path.dirname(os.path.dirname(os.path.dirname(os.
 from examples import find_examples
 from library import CRATE, KEPT, make_words
 from names import NAMES
-from project import TOP, Failed, put, read_text, read_version, run, say, write_text
+from project import TOP, Failed, put, read_text, read_version, run, say, write_bytes, write_text
 from proving import Crates, describe_kept, leave_out, prove
 
 WASM = "wasm64-unknown-unknown"
@@ -34,7 +35,13 @@ STACK = 4 * 2**20
 # The sections of a module with its table of functions, with its exports, and with what is in the table.
 TABLE, EXPORTS, ELEMENTS = 4, 7, 9
 # The parts of WebAssembly that the compiler uses (its processor `lime1`). All browsers have those but memory64.
-FEATURES = ["memory64", "bulk-memory", "multivalue", "mutable-globals", "nontrapping-float-to-int", "sign-ext"]
+FEATURES = ["bulk-memory", "multivalue", "mutable-globals", "nontrapping-float-to-int", "sign-ext", "simd"]
+# The programs that make a module with vectors.
+NEEDED = ["wasm-opt", "wasm2wat", "wat2wasm"]
+# The loads and stores of vectors whose addresses wasm-opt 108 leaves at 64 bits, in the text of a module. The address is
+# the last operand; in those of one lane, the one before the vector.
+OF_VECTOR = re.compile(r"\s*v128\.load(\d+_splat|\d+_zero|8x8_[su]|16x4_[su]|32x2_[su])\b")
+OF_LANE = re.compile(r"\s*v128\.(load|store)\d+_lane\b")
 # How many files the page has room for.
 FILES = 2
 HEAP = "hostheap"
@@ -134,8 +141,8 @@ def prove_copy(kit, place, crate, kept):
     run([f"{kit}/bin/rattle", "build", *words, "-o", f"{place}/rlib/{crate}.rlib"], f"{place}/{crate}")
 
 
-def make_module(kit, place, room, crates):
-    """Makes ptext.wasm in the place."""
+def copy_crate(kit, place, room, crates):
+    """Makes the copy of `ptrunc` in the place. Returns the words that prove it and compile it."""
     made = f"{place}/{CRATE}"
     shutil.copytree(f"{TOP}/crates/{CRATE}", made, ignore=leave_out)
     for name, pairs in IN_CRATE.items():
@@ -146,11 +153,70 @@ def make_module(kit, place, room, crates):
     words = make_words(kit, room, crates, MODULE_KEPT)
     for name in (HEAP, IO):
         words += ["--extern", f"{name}={place}/rlib/{name}.rlib"]
-    words += ["-L", f"dependency={place}/rlib", "--target", WASM]
-    run([*words, "-o", f"{place}/ptext.a"], made)
-    link = ["--target", WASM, "--toolchain", f"{kit}/toolchain", "--stack", str(STACK)]
+    return [*words, "-L", f"dependency={place}/rlib", "--target", WASM]
+
+
+def compile_crate(kit, place, words, toolchain):
+    """The bytes of a module with 64-bit addresses. (The second time its proof is kept.)"""
+    words = [toolchain if it == f"{kit}/toolchain" else it for it in words]
+    run([*words, "-o", f"{place}/ptext.a"], f"{place}/{CRATE}")
+    link = ["--target", WASM, "--toolchain", toolchain, "--stack", str(STACK)]
     run([f"{kit}/bin/rattle-link", *link, "-o", f"{place}/ptext64.wasm", f"{place}/ptext.a"], place)
-    lower(f"{place}/ptext64.wasm", f"{place}/ptext.wasm")
+    with open(f"{place}/ptext64.wasm", "rb") as file:
+        return file.read()
+
+
+def make_modules(kit, place, words):
+    """Makes ptext.wasm in the place, and plain.wasm, which has no vectors."""
+    plain, to = compile_crate(kit, place, words, f"{kit}/toolchain"), f"{place}/plain.wasm"
+    if not shutil.which("wasm-opt"):
+        say("there is no wasm-opt (on Debian: apt install binaryen wabt): the module needs 64-bit memories")
+        write_bytes(to, plain)
+    else:
+        write_bytes(to, reduce(plain))
+        lower(to)
+    if not all(map(shutil.which, NEEDED)):
+        say("there is no wabt (on Debian: apt install binaryen wabt): the module has no vectors, and is a third as fast")
+        shutil.copy(to, f"{place}/ptext.wasm")
+        return
+    vectors, to = compile_crate(kit, place, words, make_toolchain(kit, place)), f"{place}/ptext.wasm"
+    write_bytes(to, reduce(vectors))
+    wide = ["--enable-memory64", "--no-check"]
+    run(["wasm2wat", *wide, to, "-o", f"{to}.wat"], place)
+    write_text(f"{to}.wat", narrow_vectors(read_text(f"{to}.wat")))
+    run(["wat2wasm", *wide, f"{to}.wat", "-o", to], place)
+    lower(to)
+
+
+def make_toolchain(kit, place):
+    """Makes a toolchain whose clang compiles to vectors of WebAssembly. (The compiler has no option for them.)"""
+    made, of_kit = f"{place}/toolchain", f"{kit}/toolchain"
+    for folder in ("bin", "lib"):
+        os.makedirs(f"{made}/{folder}")
+        for name in os.listdir(f"{of_kit}/{folder}"):
+            os.symlink(f"{of_kit}/{folder}/{name}", f"{made}/{folder}/{name}")
+    os.remove(f"{made}/bin/clang")
+    write_text(f"{made}/bin/clang", f'#!/bin/sh\nexec {shlex.quote(of_kit)}/bin/clang "$@" -msimd128\n')
+    os.chmod(f"{made}/bin/clang", 0o755)
+    return made
+
+
+def narrow_vectors(text):
+    """The text of a module in which the loads and stores of vectors that wasm-opt leaves alone have 32-bit addresses."""
+    made, head = [], None
+    for line in text.splitlines(True):
+        # (A function declares a variable for a vector once, after its own variables.)
+        if line.startswith(("  (func ", "    (local ")):
+            head = len(made) + 1
+        if OF_VECTOR.match(line):
+            made.append("i32.wrap_i64\n")
+        elif OF_LANE.match(line):
+            if head is not None:
+                made.insert(head, "    (local $lane v128)\n")
+                head = None
+            made.append("local.set $lane\ni32.wrap_i64\nlocal.get $lane\n")
+        made.append(line)
+    return "".join(made)
 
 
 def read_number(data, at):
@@ -194,20 +260,14 @@ def reduce(data):
     return made
 
 
-def lower(wide, to):
-    """Makes a module with 32-bit addresses, or the same one if there is no wasm-opt."""
-    if not shutil.which("wasm-opt"):
-        say("there is no wasm-opt (on Debian: apt install binaryen): the module needs 64-bit memories")
-        shutil.copy(wide, to)
-        return
-    with open(wide, "rb") as file:
-        data = file.read()
-    with open(to, "wb") as file:
-        file.write(reduce(data))
+def lower(path):
+    """Gives a module 32-bit addresses, and checks it."""
     known = [f"--enable-{name}" for name in FEATURES]
     stripped = [f"--strip-{name}" for name in ("debug", "producers", "target-features")]
     does = ["--memory64-lowering", "--remove-unused-module-elements", *stripped]
-    run(["wasm-opt", *known, *does, to, "-o", to], os.path.dirname(to))
+    # (Before, some addresses may be lowered: so it is checked afterwards only.)
+    run(["wasm-opt", "--no-validation", "--enable-memory64", *known, *does, path, "-o", path], os.path.dirname(path))
+    run(["wasm-opt", *known, path, "-o", os.devnull], os.path.dirname(path))
 
 
 # ---- the page
@@ -297,8 +357,9 @@ def make_page(wasm):
 def make_package(wasm):
     """The package for node, in build/node."""
     made = f"{TOP}/build/node"
-    for name in ("ptext.mjs", "checks.mjs", "worker.mjs", "ptext.d.ts"):
-        put(f"{TOP}/bindings/node/{name}", f"{made}/{name}")
+    for name in os.listdir(f"{TOP}/bindings/node"):
+        if name.endswith((".mjs", ".ts")):
+            put(f"{TOP}/bindings/node/{name}", f"{made}/{name}")
     put(f"{TOP}/bindings/page/ptext.mjs", f"{made}/module.mjs")
     put(wasm, f"{made}/ptext.wasm")
     section = re.search(r"^## JavaScript\n(.*?)^## ", read_text(f"{TOP}/docs/LIBRARY.md"), re.M | re.S)
@@ -317,7 +378,7 @@ def build(kit, place):
     os.mkdir(f"{place}/rlib")
     make_heap(kit, place)
     make_io(kit, place)
-    make_module(kit, place, room, crates)
+    make_modules(kit, place, copy_crate(kit, place, room, crates))
     make_package(f"{place}/ptext.wasm")
     write_text(f"{place}/ptext.html", make_page(f"{place}/ptext.wasm"))
     put(f"{place}/ptext.html", f"{TOP}/build/page/ptext.html")

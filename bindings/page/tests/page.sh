@@ -27,9 +27,9 @@ in_time 600 node bindings/node/tests/node.mjs "$built/node"
 if has tsc; then
     mkdir -p "$room/typed/node_modules"
     ln -s "$built/node" "$room/typed/node_modules/ptext"
-    cp bindings/node/tests/user.mts "$room/typed"
+    cp bindings/node/tests/*.mts "$room/typed"
     known="--target es2022 --lib es2022,dom,dom.iterable --module node16"
-    is "the types of a program" "" "$(cd "$room/typed" && tsc --strict --noEmit $known user.mts 2>&1)"
+    is "the types of a program" "" "$(cd "$room/typed" && tsc --strict --noEmit $known *.mts 2>&1)"
 else
     left_out "the types of a program by a compiler of TypeScript (there is no tsc)"
 fi
@@ -47,6 +47,11 @@ fi
 chromium=$(command -v chromium || command -v chromium-browser || command -v google-chrome || true)
 if [ "$chromium" ]; then
     in_time 1800 node bindings/page/tests/browser.mjs "$chromium" "$page" "$program"
+    if has esbuild; then
+        in_time 600 node bindings/node/tests/bundled.mjs "$chromium" "$built/node" "$program"
+    else
+        left_out "the package in a page, bundled (there is no esbuild)"
+    fi
 else
     left_out "the page in Chromium (it is not there)"
 fi
