@@ -24,7 +24,7 @@ pub use out::{Out, WriteFault, write_out};
 pub use parts::parts_of_lines;
 pub use reader::LineReader;
 pub use sink::{Failed, Sink};
-pub use sizes::{BLOCK, PAD, PADDED, PaddedBlock};
+pub use sizes::{BLOCK, PAD, PADDED, PaddedBlock, size_of_a_block};
 pub use source::Source;
 pub use std_io::{FromRead, FromWrite};
 pub use store::{LineFault, Store};

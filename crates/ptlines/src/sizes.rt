@@ -1,5 +1,7 @@
 //! The sizes of blocks of bytes. Used by the reader, the output and the tools.
 
+ghost use Rattle.std.specs.Prelude.{◌≡◌};
+
 /// The size of a block of bytes, which a reader or an output buffers. A reader reads no more at once; an output writes
 /// what is buffered, and bytes that are pushed together and fill a block or more, as they are.
 pub const BLOCK: usize = 8192;
@@ -12,3 +14,8 @@ pub const PADDED: usize = BLOCK + PAD;
 
 /// A block, and the bytes after it.
 pub type PaddedBlock = [u8; PADDED];
+
+/// States the size of a block, which other clauses name. The call does nothing.
+pub fn size_of_a_block()
+    ensures { BLOCK ≡ 8192 }
+{}
