@@ -1,5 +1,5 @@
 # make                      proves the program and its libraries, and builds build/ptext
-# make try WORDS='cut -c 1' compiles the program and runs it on standard input, in half a minute: nothing is proved
+# make try WORDS='cut -c 1' compiles the program and runs it on standard input, in a minute: nothing is proved
 # make check                while working: proves what changed since SINCE, what uses it, its tests, and the wrong bodies
 #                           of the changed crates (SINCE=COMMIT; origin/main where it is known, else HEAD~1)
 # make test                 the gate: every proof, most wrong bodies, all tests; then all tests of the program that it
@@ -82,7 +82,7 @@ must-fail:
 try:
 	@$(if $(WORDS),:,echo "which words? make try WORDS='cut -c 3-,1'" >&2; exit 1)
 	@$(WITH_RT)
-	@mkdir -p build && echo 'compiling the program, which takes about half a minute; nothing is proved (it finds' \
+	@mkdir -p build && echo 'compiling the program, which takes about a minute; nothing is proved (it finds' \
 	    'files by their absolute names only, and writes at most 1 MiB)' >&2
 	@cd crates/ptext && rt try -- $(WORDS) 2>../../build/try.log; status=$$?; \
 	    grep -v '^checked: ended\|^run=ended' ../../build/try.log >&2; exit $$status

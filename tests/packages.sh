@@ -230,7 +230,7 @@ elif command -v dpkg-buildpackage >/dev/null && command -v dh >/dev/null; then
     python3 "$top/tools/dist.py" deb "$room/one" >"$room/said.one" 2>&1 &
     mkdir "$room/a b"
     (umask 077 && cd / && TMPDIR="$room/a b" python3 "$top/tools/dist.py" deb "$room/two") >"$room/said" 2>&1
-    wait $! || { cat "$room/said.one"; bad=$((bad + 1)); }
+    wait $! || { cat "$room/said.one"; echo "FAILED: make deb, so its packages are not looked into"; exit 1; }
     deb=ptext_$version-1_amd64.deb tools=ptext-tools_$version-1_all.deb
     list=ptext_$version-1_amd64
     is "what it says" "made in $room/two: $tools, $list.buildinfo, $list.changes, $deb" "$(cat "$room/said")"

@@ -14,8 +14,8 @@ PROGRAM = "ptext"
 def build(_, place):
     crates = Crates(PROGRAM, True)
     say(
-        f"proving {len(crates.names)} crates and building the program. From nothing this takes 11 to 18 minutes on "
-        f"four processors; the first crate alone takes 2 to 3 minutes; {describe_kept(crates)}."
+        f"proving {len(crates.names)} crates and building the program. From nothing this takes 25 minutes on "
+        f"four processors, the first crate alone 2 to 4; {describe_kept(crates)}."
     )
     made = f"{prove(crates, place)}/crates/{PROGRAM}/out/{PROGRAM}"
     if os.path.exists(f"{made}.o"):
