@@ -309,15 +309,19 @@ def find_examples_of_tools():
 
 
 def make_buttons(all_examples):
-    """A list of buttons for each tool."""
+    """The buttons of each tool, of which all but the first are hidden. On a phone that has the tool's name only."""
     text = ""
     for tool in NAMES:
-        text += f'<ul aria-label="Examples of {tool}">\n'
+        text += f'<div role="group" aria-label="{tool}">\n'
+        more = ""
         for number, (of, example) in enumerate(all_examples):
             if of == tool:
-                shown = html.escape(example["command"])
-                text += f'<li><button type="button" data-example="{number}"><code>{shown}</code></button></li>\n'
-        text += "</ul>\n"
+                name, blank, words = html.escape(example["command"]).partition(" ")
+                code = f'<code>{name}<span class="words">{blank}{words}</span></code>'
+                stop = -1 if number else 0
+                text += f'<button type="button" data-example="{number}" tabindex="{stop}"{more}>{code}</button>\n'
+                more = ' class="rest" hidden'
+        text += "</div>\n"
     return text
 
 
