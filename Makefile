@@ -13,6 +13,7 @@
 # make python               build/dist: a wheel of the Python module, with the library in it (docs/LIBRARY.md)
 # make page                 build/page/ptext.html: the tools in a browser, as one file; build/node: a package for node
 # make node                 build/dist: that package as an archive, which npm install takes (docs/LIBRARY.md)
+# make onefile              build/dist: the program as one file in C, for any machine with a compiler
 # make bench                ratios to the system's tools, by tool, work and length of a line: tables, data and chart in
 #                           bench/; and the tools over parts of their input, on all processors
 # make compare N=5000       random words and inputs, against the definitions and the system's tools; AGAINST=busybox,
@@ -58,8 +59,8 @@ WITH_RT = command -v rt >/dev/null || { echo 'there is no rt in PATH: it is part
     says what can be had without it (if it is unpacked: export PATH=/opt/rattle/bin:$$PATH)' >&2; exit 1; }
 AGAINST ?= system
 
-.PHONY: all try check must-fail check-program test static lib install-lib python page node bench compare definitions \
-    docs install is-built install-tools uninstall dist dist-static deb clean help
+.PHONY: all try check must-fail check-program test static lib install-lib python page node onefile bench compare \
+    definitions docs install is-built install-tools uninstall dist dist-static deb clean help
 
 all: build/ptext
 	@echo '$$ echo abcd | build/ptext cut -c 3-,1' && echo abcd | build/ptext cut -c 3-,1
@@ -135,6 +136,12 @@ build/page/ptext.html: $(BUILDER) $(wildcard bindings/page/*.* bindings/node/*.*
 
 node: build/page/ptext.html
 	@python3 tools/dist.py node build/dist
+
+onefile: build/onefile/ptext.c
+	@python3 tools/dist.py onefile build/dist
+
+build/onefile/ptext.c: build/page/ptext.html $(wildcard bindings/onefile/*.*)
+	python3 tools/builder onefile
 
 bench: build/ptext
 	python3 bench/run.py build/ptext

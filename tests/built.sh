@@ -59,6 +59,11 @@ fi
 if is_current build/page/ptext.html "make page"; then
     test_of "the page" sh bindings/page/tests/page.sh "$program"
 fi
+if has wasm-opt wasm2c && is_current build/onefile/ptext.c "make onefile"; then
+    test_of "the one file" sh bindings/onefile/tests/onefile.sh "$program"
+elif ! has wasm-opt wasm2c; then
+    left_out "the one file (there is no wasm2c, or no wasm-opt)" >>"$room/log"
+fi
 if is_current build/ptext-static "make static"; then
     test_of "the static program" sh tests/static.sh build/ptext-static
 fi

@@ -10,6 +10,8 @@ list of the packages has not: it names the time and the environment.)
                                                       C library asks for, to link it anew
   python3 tools/dist.py node FOLDER                   ptext-VERSION.tgz, the package for node (make page), as npm packs
                                                       it
+  python3 tools/dist.py onefile FOLDER                ptext-VERSION-onefile.tar.xz: the program as one file in C, with
+                                                      its pages and licenses (make onefile)
   python3 tools/dist.py deb FOLDER                    two packages by dpkg-buildpackage, and its list of them, which has
                                                       their checksums
 
@@ -22,6 +24,7 @@ Packages are made in both cases, and their pages say it.
 import gzip
 import hashlib
 import io
+import lzma
 import os
 import re
 import shutil
@@ -34,6 +37,7 @@ sys.dont_write_bytecode = True
 
 from install import LGPL, call_git, find_source_id, list_files, list_files_of_tools, make_notice_of_c_library
 from install import read_bytes, read_lines
+from names import NAMES
 from project import ARCHIVES, TOP, Failed, find_kit, read_version, run_script
 
 VERSION = read_version()
@@ -85,6 +89,15 @@ that library, in this folder:
     gcc -static -s -o ../bin/ptext ptext.o {archives}
 """
 
+ONE_FILE = """# ptext as one file
+
+cut, paste, join, comm, uniq and tr, for any machine with POSIX and a compiler of C11 (gcc, clang, tcc):
+
+    cc -O2 -w -o ptext ptext.c
+
+It takes two minutes, or without -O2 half a minute. man/ has its pages (man ./man/ptext.1).
+"""
+
 
 def make_script(_, name):
     """Runs a tool by its own name, from wherever the archive was unpacked, and through a link too."""
@@ -134,7 +147,8 @@ def write_archive(path, front, members, commit):
     """An archive of members, each a name, a mode and bytes, below the folder `front`."""
     members = [*members, ("COMMIT", 0o644, f"{commit}\n".encode())]
     members.append(("SHA256SUMS", 0o644, make_sums(members).encode()))
-    with open(path, "wb") as raw, gzip.GzipFile("", "wb", 9, raw, mtime=0) as packed:
+    is_xz = path.endswith(".xz")
+    with open(path, "wb") as raw, lzma.open(raw, "wb") if is_xz else gzip.GzipFile("", "wb", 9, raw, mtime=0) as packed:
         with tarfile.open(mode="w", fileobj=packed, format=tarfile.USTAR_FORMAT) as packing:
             for name, mode, text in sorted(members):
                 about = tarfile.TarInfo(f"{front}/{name}")
@@ -272,6 +286,24 @@ def make_node(folder):
     print(f"made {folder}/ptext-{VERSION}.tgz, which npm install takes, of commit {commit}")
 
 
+def make_onefile(folder):
+    """The archive of the program in C. (It contains what the package for node does, and so has its licenses.)"""
+    built, commit = f"{TOP}/build", find_commit(find_changes(make_source_members()))
+    named = f"ptext-{VERSION}-onefile"
+    pages = ["ptext.1", *(f"ptext-{name}.1" for name in NAMES)]
+    members = [
+        ("ptext.c", 0o644, read_bytes(f"{built}/onefile/ptext.c")),
+        ("LICENSES", 0o644, read_bytes(f"{built}/node/LICENSES")),
+        ("README", 0o644, ONE_FILE.encode()),
+        *((f"man/{name}", 0o644, read_bytes(f"{TOP}/man/{name}")) for name in pages),
+    ]
+    with tempfile.TemporaryDirectory() as room:
+        write_archive(f"{room}/{named}.tar.xz", named, members, commit)
+        put_all(room, folder)
+    write_sums(folder)
+    print(f"made {folder}/{named}.tar.xz and SHA256SUMS, of commit {commit}")
+
+
 def check_programs():
     """Fails if a program that makes packages is lacking."""
     for program, package in (("dpkg-buildpackage", "dpkg-dev"), ("dh", "debhelper")):
@@ -322,6 +354,7 @@ def main():
         "archives": lambda folder: make_archives(folder, "--changed" in sys.argv),
         "static": make_static,
         "node": make_node,
+        "onefile": make_onefile,
         "deb": make_packages,
         "sums": write_sums,
     }

@@ -31,8 +31,8 @@ export function run(words: readonly string[], options?: Options<SyncInput>): Uin
  * Runs a command, the name of the tool first, in a thread of its own, and returns its output as a stream, over which
  * `for await` goes, too. Inputs are read as they are needed, and nothing is read before the output is. After the last
  * piece it throws a PtextError if the status is not 0. What an input throws comes through. Leaving the loop, or
- * `cancel()`, ends the command, and closes the inputs that it has begun to read. Others stay as they were. So does, some
- * time later, a stream that nobody refers to any more.
+ * `cancel()`, ends the command, and closes the inputs that it has begun to read. Others stay as they were. A stream to
+ * which nothing refers any more is ended, too, some time later.
  */
 export function stream(
     words: readonly string[],

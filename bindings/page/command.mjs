@@ -4,6 +4,9 @@ import { joined } from "./ptext.mjs";
 /** A command that is not taken. Its message says why. */
 export class Refused extends Error {}
 
+/** The tools, as they are named in messages. */
+const TOOLS = ["cut", "paste", "join", "comm", "uniq", "tr"];
+
 /** Refuses a character with which a shell would do something that this page does not. */
 function refuse(character) {
     const advice = `if it is meant as it is, write '${character}'`;
@@ -50,6 +53,9 @@ export function commands(text) {
             found.push([]);
         } else if ("`<>&;()".includes(it) || isExpanded(text, at)) refuse(it);
         else if ("#~".includes(it) && word === null) refuse(it);
+        else if ("*?".includes(it)) {
+            throw new Refused(`this page knows no patterns of names: if ${it} is meant as it is, write '${it}'`);
+        }
         else if (it === "\\") {
             if (++at >= text.length) throw new Refused("a character is lacking after \\");
             word = (word ?? "") + text[at];
@@ -59,6 +65,12 @@ export function commands(text) {
     end();
     if (found.length > 1 && !found.at(-1).length) throw new Refused("a command is lacking after |");
     return found.map((words) => (words[0] === "ptext" ? words.slice(1) : words));
+}
+
+/** Refuses commands of which one is none of the tools. */
+export function checkTools(all) {
+    const other = all.map((words) => words[0]).find((it) => it !== undefined && !TOOLS.includes(it));
+    if (other !== undefined) throw new Refused(`${other} is not in this page, which has ${TOOLS.join(", ")}`);
 }
 
 /**

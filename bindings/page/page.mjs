@@ -1,5 +1,5 @@
 // The page: takes what is typed, has the worker run it, and shows what comes out.
-import { Refused, commands } from "./command.mjs";
+import { Refused, checkTools, commands } from "./command.mjs";
 import { firstOf, shown } from "./shown.mjs";
 
 const at = (id) => document.getElementById(id);
@@ -166,6 +166,7 @@ function run() {
     at("same").textContent = isTaken ? "File 1 has this name, too: only file 2 is there." : "";
     try {
         const all = commands(at("command").value);
+        checkTools(all);
         worker ??= newWorker();
         isRunning = true;
         worker.postMessage({ number, commands: all, stdin: inputOf("stdin"), files });
@@ -175,8 +176,8 @@ function run() {
         }, 400);
     } catch (error) {
         if (!(error instanceof Refused)) throw error;
-        show({ messages: new TextEncoder().encode(`${error.message}\n`) });
-        say("Not run", "this page could not split the command");
+        show({});
+        say("Not run", error.message);
     }
 }
 
@@ -286,6 +287,62 @@ function take(example) {
     run();
 }
 
+// ---- examples: one for each tool, or all. They are one stop of the Tab key, and arrows go from one to the next.
+
+const shownExamples = () => [...at("examples").querySelectorAll("button")].filter((it) => !it.hidden);
+
+/** Shows all examples, or one for each tool. */
+function showMore() {
+    const isAll = at("examples").classList.toggle("all");
+    for (const it of document.querySelectorAll(".rest")) it.hidden = !isAll;
+    at("more").textContent = isAll ? "Fewer" : "More";
+    at("more").setAttribute("aria-expanded", isAll);
+    // (In Safari a click gives a button no focus. It becomes the stop, since that may be hidden now.)
+    at("more").focus();
+}
+
+function move(event) {
+    const all = shownExamples(), index = all.indexOf(event.target), last = all.length - 1;
+    const to = {
+        ArrowRight: index + 1, ArrowDown: index + 1, ArrowLeft: index - 1, ArrowUp: index - 1, Home: 0, End: last,
+    }[event.key];
+    if (to === undefined) return;
+    event.preventDefault();
+    all[Math.min(Math.max(to, 0), last)].focus();
+}
+
+/** Makes the button that has the focus the one to which Tab comes back. */
+function stopAt(event) {
+    for (const it of at("examples").querySelectorAll("button")) it.tabIndex = it === event.target ? 0 : -1;
+}
+
+// ---- files that are dropped
+
+/** The section over which something is dragged, if it is a file. (Elsewhere it is standard input.) */
+function sectionOf(event) {
+    if (!event.dataTransfer.types.includes("Files")) return null;
+    return event.target.closest?.("[data-input]") ?? document.querySelector("[data-input]");
+}
+
+function drag(event) {
+    const section = sectionOf(event);
+    for (const it of document.querySelectorAll("[data-over]")) if (it !== section) delete it.dataset.over;
+    if (!section) return;
+    event.preventDefault();
+    section.dataset.over = "yes";
+}
+
+function drop(event) {
+    const section = sectionOf(event);
+    if (!section) return;
+    event.preventDefault();
+    delete section.dataset.over;
+    forget(section.dataset.input);
+    open(section.dataset.input, event.dataTransfer.files[0]);
+}
+
+// ---- texts that are copied
+
 /** Puts a text into the clipboard, and says what was done. */
 async function copy(text, what) {
     try {
@@ -337,7 +394,7 @@ async function begin() {
         at("lacks").hidden = false;
         return;
     }
-    const examples = JSON.parse(textOf("examples"));
+    const examples = JSON.parse(textOf("fields"));
     for (const it of FIELDS) at(it).addEventListener("input", change);
     for (const it of INPUTS) {
         at(it).addEventListener("paste", paste);
@@ -351,6 +408,14 @@ async function begin() {
         });
     }
     at("stop").addEventListener("click", stop);
+    addEventListener("keydown", (event) => {
+        if (event.key === "Escape" && isRunning) stop();
+    });
+    for (const it of ["dragover", "dragleave"]) document.addEventListener(it, drag);
+    document.addEventListener("drop", drop);
+    at("more").addEventListener("click", showMore);
+    at("examples").addEventListener("keydown", move);
+    at("examples").addEventListener("focusin", stopAt);
     at("link").addEventListener("click", link);
     at("copy").addEventListener("click", async () => {
         const part = output.size > COPIED ? `The first ${COPIED.toLocaleString("en")} bytes` : "The output";

@@ -4,7 +4,8 @@
   python3 tools/builder program      the program, ptext
   python3 tools/builder static       the program as one file that needs no shared libraries, ptext-static
   python3 tools/builder library      the library for C, libptext.a and libptext.so
-  python3 tools/builder page         the tools in a browser, page/ptext.html
+  python3 tools/builder page         the tools in a browser, page/ptext.html, and modules for node and for the next
+  python3 tools/builder onefile      the program in C, onefile/ptext.c (after page)
 """
 import importlib
 import os
@@ -17,7 +18,7 @@ sys.path.insert(0, os.path.dirname(os.path.dirname(os.path.realpath(__file__))))
 
 from project import TOP, Failed, find_kit, run_script, say
 
-TARGETS = ["program", "static", "library", "page"]
+TARGETS = ["program", "static", "library", "page", "onefile"]
 
 
 def main():

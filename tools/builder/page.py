@@ -1,5 +1,5 @@
-"""The tools over streams as WebAssembly: in one page without other files, build/page/ptext.html, and as a package for
-node, build/node.
+"""The tools over streams as WebAssembly: in one page without other files, build/page/ptext.html, as a package for node,
+build/node; and for the program in C, which onefile.py makes, build/onefile/ptext.wasm.
 
 The gate proves the crates below `ptrunc`, or takes what it proved on this machine, as for the library for C. It has no
 place for crates of WebAssembly. So the module is made here from copies: `ptrunc` as it is, except for its heap and its
@@ -8,7 +8,7 @@ checked as any crate, over what an earlier run kept, before they are compiled. d
 
 The compiler makes modules with 64-bit addresses only, and without vectors. wasm-opt (Debian's binaryen) gives the
 module 32-bit addresses, which every browser knows; without wasm-opt it stays as it is. With Debian's wabt, too, the
-module has vectors.
+module of the page and of node has vectors. (wasm2c knows none: that of the program in C has not.)
 """
 import base64
 import html
@@ -26,6 +26,7 @@ sys.path.append(os.path.join(os.path.dirname(os.path.dirname(os.path.dirname(os.
 from examples import find_examples
 from library import CRATE, KEPT, make_words
 from names import NAMES
+from onefile import MODULE
 from project import TOP, Failed, put, read_text, read_version, run, say, write_bytes, write_text
 from proving import Crates, describe_kept, leave_out, prove
 
@@ -38,8 +39,8 @@ TABLE, EXPORTS, ELEMENTS = 4, 7, 9
 FEATURES = ["bulk-memory", "multivalue", "mutable-globals", "nontrapping-float-to-int", "sign-ext", "simd"]
 # The programs that make a module with vectors.
 NEEDED = ["wasm-opt", "wasm2wat", "wat2wasm"]
-# The loads and stores of vectors whose addresses wasm-opt 108 leaves at 64 bits, in the text of a module. The address is
-# the last operand; in those of one lane, the one before the vector.
+# The loads and stores of vectors whose addresses wasm-opt 108 leaves at 64 bits, in the text of a module. The address
+# is the last operand; in those of one lane, the one before the vector.
 OF_VECTOR = re.compile(r"\s*v128\.load(\d+_splat|\d+_zero|8x8_[su]|16x4_[su]|32x2_[su])\b")
 OF_LANE = re.compile(r"\s*v128\.(load|store)\d+_lane\b")
 # How many files the page has room for.
@@ -176,7 +177,7 @@ def make_modules(kit, place, words):
         write_bytes(to, reduce(plain))
         lower(to)
     if not all(map(shutil.which, NEEDED)):
-        say("there is no wabt (on Debian: apt install binaryen wabt): the module has no vectors, and is a third as fast")
+        say("there is no wabt (on Debian: apt install binaryen wabt): the module has no vectors, and is slower")
         shutil.copy(to, f"{place}/ptext.wasm")
         return
     vectors, to = compile_crate(kit, place, words, make_toolchain(kit, place)), f"{place}/ptext.wasm"
@@ -202,7 +203,7 @@ def make_toolchain(kit, place):
 
 
 def narrow_vectors(text):
-    """The text of a module in which the loads and stores of vectors that wasm-opt leaves alone have 32-bit addresses."""
+    """The text of a module in which the loads and stores of vectors that wasm-opt leaves have 32-bit addresses."""
     made, head = [], None
     for line in text.splitlines(True):
         # (A function declares a variable for a vector once, after its own variables.)
@@ -308,15 +309,19 @@ def find_examples_of_tools():
 
 
 def make_buttons(all_examples):
-    """A list of buttons for each tool."""
+    """The buttons of each tool, of which all but the first are hidden. On a phone that has the tool's name only."""
     text = ""
     for tool in NAMES:
-        text += f'<ul aria-label="Examples of {tool}">\n'
+        text += f'<div role="group" aria-label="{tool}">\n'
+        more = ""
         for number, (of, example) in enumerate(all_examples):
             if of == tool:
-                shown = html.escape(example["command"])
-                text += f'<li><button type="button" data-example="{number}"><code>{shown}</code></button></li>\n'
-        text += "</ul>\n"
+                name, blank, words = html.escape(example["command"]).partition(" ")
+                code = f'<code>{name}<span class="words">{blank}{words}</span></code>'
+                stop = -1 if number else 0
+                text += f'<button type="button" data-example="{number}" tabindex="{stop}"{more}>{code}</button>\n'
+                more = ' class="rest" hidden'
+        text += "</div>\n"
     return text
 
 
@@ -380,6 +385,7 @@ def build(kit, place):
     make_io(kit, place)
     make_modules(kit, place, copy_crate(kit, place, room, crates))
     make_package(f"{place}/ptext.wasm")
+    put(f"{place}/plain.wasm", MODULE)
     write_text(f"{place}/ptext.html", make_page(f"{place}/ptext.wasm"))
     put(f"{place}/ptext.html", f"{TOP}/build/page/ptext.html")
     return "build/page/ptext.html"

@@ -11,7 +11,7 @@ from typing import Callable, NamedTuple
 
 from model import Answer
 
-SECONDS = 1
+SECONDS = int(os.environ.get("PTEXT_SECONDS", 1))
 UUTILS, NINE = "/usr/lib/cargo/bin/coreutils", "/usr/lib/plan9/bin"
 
 

@@ -47,8 +47,15 @@ async function typed(browser) {
     is("two files of one name", await browser.until(`${same}.startsWith("File 1 has this name, too")`), true);
     await browser.type("name2", "");
     is("one file of that name", await browser.until(`${same} === ""`), true);
-    await browser.type("command", "cut -f 1 > f");
-    is("not taken", await browser.until(`(${RESULT}).status.startsWith("Not run")`), true);
+    for (const [command, why] of [
+        ["cut -f 1 > f", "this page does not do what > means in a shell: if it is meant as it is, write '>'"],
+        ["sort | uniq -c", "sort is not in this page, which has cut, paste, join, comm, uniq, tr"],
+        ["cut -f 1 *.txt", "this page knows no patterns of names: if * is meant as it is, write '*'"],
+    ]) {
+        await browser.type("command", command);
+        is(`not taken: ${command}`, await browser.until(`(${RESULT}).status === ${JSON.stringify(`Not run: ${why}`)}`),
+            true);
+    }
     await browser.type("command", "tr ab '\\377\\0'");
     await browser.type("stdin", "abc");
     is("escapes", await browser.until(`(${RESULT}).out === "\\\\xff\\\\x00c"`), true);
@@ -63,6 +70,10 @@ async function clicked(browser) {
     is("there are examples", count > 25, true);
     const labels = `Array.from(document.querySelectorAll("[data-example]"), (it) => it.textContent)`;
     is("their labels differ", await browser.value(`new Set(${labels}).size`), count);
+    const seen = `Array.from(document.querySelectorAll("[data-example]")).filter((it) => it.offsetParent)
+        .map((it) => it.textContent.split(" ")[0]).join(" ")`;
+    is("one of each tool can be seen", await browser.value(seen), "cut paste join comm uniq tr");
+    await browser.value(`document.getElementById("more").click()`);
     for (let number = 0; number < count; number++) {
         const button = `document.querySelector('[data-example="${number}"]')`;
         await browser.value(`document.getElementById("status").textContent = ""; ${button}.focus()`);
@@ -96,12 +107,19 @@ async function large(browser) {
     await browser.type("name1", "f");
     await browser.type("name2", "g");
     for (const it of ["file1", "file2"]) await paste(it, `"k some more words\\n".repeat(20000)`);
-    await browser.type("command", "join f g");
+    // (With few bytes of output: at 2 GiB it would end.)
+    await browser.type("command", "join -o 0 f g");
     is("a long run can be stopped", await browser.until(`!document.getElementById("stop").hidden`), true);
-    await browser.value(`document.getElementById("stop").click()`);
+    await browser.press("Escape", 27);
     is("it is stopped", (await browser.value(RESULT)).status, "Stopped");
+    await browser.type("command", "join -o 0,0 f g");
+    await browser.until(`!document.getElementById("stop").hidden`);
+    await browser.value(`document.getElementById("stop").click()`);
+    is("it is stopped by its button", (await browser.value(RESULT)).status, "Stopped");
     await browser.type("command", "uniq -c f");
     is("a run after it", await browser.until(`(${RESULT}).out === "20000 k some more words\\n"`), true);
+    // (As a person would, by keys, Chromium empties a long field slowly.)
+    for (const it of ["file1", "file2"]) await paste(it, `""`);
 }
 
 /** The size of the output of a long run that begins with this. If it does not come, what the page shows is said, and
@@ -230,6 +248,60 @@ async function chosen(browser) {
     await browser.value(`document.getElementById("file1-empty").click()`);
 }
 
+/** Drops a file onto a field, and one beside all fields. */
+async function dropped(browser) {
+    const drop = (selector, name, text) => browser.value(`{ const data = new DataTransfer();
+        data.items.add(new File([${JSON.stringify(text)}], ${JSON.stringify(name)}));
+        const how = { dataTransfer: data, bubbles: true, cancelable: true };
+        const events = ["dragover", "drop"].map((it) => new DragEvent(it, how));
+        for (const it of events) document.querySelector(${JSON.stringify(selector)}).dispatchEvent(it);
+        events.every((it) => it.defaultPrevented) && !document.querySelector("[data-over]"); }`);
+    for (const it of ["name1", "file1", "name2", "file2", "stdin"]) await browser.type(it, "");
+    is("a file is dropped", await drop("#file2", "right", "a 2\n"), true);
+    is("and one beside", await drop("h1", "left", "a 1\n"), true);
+    await browser.type("command", "join - right");
+    is("both are taken", await browser.until(`(${RESULT}).out === "a 1 2\\n"`), true);
+    const text = `{ const data = new DataTransfer(), how = { dataTransfer: data, cancelable: true };
+        data.setData("text/plain", "a");
+        const event = new DragEvent("drop", how);
+        document.dispatchEvent(event);
+        event.defaultPrevented; }`;
+    is("a text that is dropped is the browser's", await browser.value(text), false);
+}
+
+/** Walks from the command by the Tab key, and through the examples by arrows. */
+async function walked(browser) {
+    await browser.open(address);
+    await browser.until(`document.getElementById("status").textContent.startsWith("Status")`);
+    const focused = `(({ id, dataset, tagName }) => id || (dataset.example ? "example " + dataset.example : tagName))
+        (document.activeElement)`;
+    const walk = async (key, number, count) => {
+        const found = [];
+        for (let turn = 0; turn < count; turn++) {
+            await browser.press(key, number);
+            found.push(await browser.value(focused));
+        }
+        return found.join(" ");
+    };
+    await browser.value(`document.getElementById("command").focus()`);
+    // (The tab stops of a browser's own, as at a file, are more than one here and there.)
+    is("by Tab", await walk("Tab", 9, 15), "example 0 stdin stdin-open out download copy link messages name1 file1 "
+        + "file1-open name2 file2 file2-open SUMMARY");
+    await browser.value(`document.getElementById("command").focus()`);
+    await walk("Tab", 9, 1);
+    const firsts = (await browser.value(`Array.from(document.querySelectorAll("[data-example]:not([hidden])"),
+        (it) => "example " + it.dataset.example).join(" ")`));
+    is("by arrows", `example 0 ${await walk("ArrowRight", 39, 7)}`, `${firsts} more more`);
+    is("back", await walk("ArrowLeft", 37, 1), firsts.split(" ").slice(-2).join(" "));
+    is("to the first", await walk("Home", 36, 1), "example 0");
+    is("to the last", await walk("End", 35, 1), "more");
+    await browser.press("Enter", 13, "\r");
+    is("all are shown", await browser.value(`document.querySelectorAll("[data-example][hidden]").length`), 0);
+    await browser.press("Enter", 13, "\r");
+    is("and few again", await browser.value(`document.querySelectorAll("[data-example]:not([hidden])").length`), 6);
+    is("it stays the stop", await browser.value(`document.querySelector("#examples [tabindex='0']").id`), "more");
+}
+
 /** Shows how many bytes of many messages are shown. */
 async function messages(browser) {
     const size = `document.getElementById("messages-size").textContent`;
@@ -257,8 +329,14 @@ async function narrow(browser) {
     await browser.send("Emulation.setDeviceMetricsOverride", phone);
     await browser.value("scrollTo(0, 0)");
     is("on a phone nothing is cut off", await browser.value("document.documentElement.scrollWidth"), 360);
-    is("examples can be seen at once",
-        await browser.value(`document.querySelector(".examples").getBoundingClientRect().bottom < 500`), true);
+    await browser.value(`document.querySelector("#examples.all") && document.getElementById("more").click()`);
+    const bottom = (id) => browser.value(`document.getElementById("${id}").getBoundingClientRect().bottom`);
+    is("examples can be seen at once", await bottom("examples") < 320, true);
+    is("and the output", await bottom("out") < phone.height, true);
+    const small = `Array.from(document.querySelectorAll("a, button, input, summary, textarea"))
+        .filter((it) => it.offsetParent).map((it) => [it.id, it.getBoundingClientRect()])
+        .filter(([, it]) => it.width < 24 || it.height < 24).map(([id]) => id)`;
+    is("what is touched has 24 pixels", await browser.value(small), []);
     await browser.send("Emulation.clearDeviceMetricsOverride");
     const colors = async (scheme) => {
         const features = [{ name: "prefers-color-scheme", value: scheme }];
@@ -288,11 +366,13 @@ async function main() {
     await narrow(browser);
     if (picture) await pictured(browser);
     await chosen(browser);
+    await dropped(browser);
     await messages(browser);
     await large(browser);
     await huge(browser);
     await shared(browser);
     await failing(browser);
+    await walked(browser);
     const requests = browser.events.filter((it) => it.method === "Network.requestWillBeSent");
     const asked = requests.map((it) => it.params.request.url);
     const isOther = (it) => it.replace(/#.*/, "") !== address && !/^(blob|data):/.test(it);

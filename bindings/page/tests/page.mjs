@@ -1,6 +1,6 @@
 // Tests of the module of a page, and of the scripts around it, by node. usage: node bindings/page/tests/page.mjs MODULE
 import fs from "node:fs";
-import { commands, runAll, Refused } from "../command.mjs";
+import { checkTools, commands, runAll, Refused } from "../command.mjs";
 import { Heap, Ptext, joined, readerOf } from "../ptext.mjs";
 import { firstOf, shown } from "../shown.mjs";
 
@@ -79,7 +79,6 @@ for (const tool of ["cut -f 1", "paste -", "uniq", "tr a b", "comm f f", "join f
 }
 is("no words", run("")[0], 2);
 is("ptext alone", run("ptext")[0], 2);
-is("no tool", run("head -1")[0], 2);
 const every = Uint8Array.from({ length: 256 }, (_, index) => index);
 is("all bytes", runOver(["tr", "-d", "\\n"], every).out, every.filter((it) => it !== 10));
 
@@ -337,12 +336,12 @@ const QUOTES = [
     ["a'b\"c'\"d'e\"", [["ab\"cd'e"]]],
     ["ptext cut | ptext tr '|' \\|", [["cut"], ["tr", "|", "|"]]],
     ["tr a$ '$x' x#~ \"$\"", [["tr", "a$", "$x", "x#~", "$"]]],
-    ["cut -f 1 *.txt [a-z]?", [["cut", "-f", "1", "*.txt", "[a-z]?"]]],
+    ["tr [a-z] '*?' \\* \"?\"", [["tr", "[a-z]", "*?", "*", "?"]]],
     ["", [[]]],
 ];
 for (const [text, wanted] of QUOTES) is(`words of ${text}`, commands(text), wanted);
-const REFUSED = ["cut > f", "cut < f", "cut; tr", "cut & tr", "a || b", "| a", "a |", "$x", "\"$x\"", "`a`", "\"`a`\"",
-    "(a)", "$'a'", "${x}", "$(a)", "'a", "\"a", "a\\", "a #b", "~/f"];
+const REFUSED = ["cut *.txt", "cut f?", "cut > f", "cut < f", "cut; tr", "cut & tr", "a || b", "| a", "a |", "$x",
+    "\"$x\"", "`a`", "\"`a`\"", "(a)", "$'a'", "${x}", "$(a)", "'a", "\"a", "a\\", "a #b", "~/f"];
 for (const text of REFUSED) {
     let message = "";
     try {
@@ -352,6 +351,18 @@ for (const text of REFUSED) {
     }
     is(`refused: ${text}`, message !== "", true);
 }
+
+for (const text of ["sort", "uniq | sort | uniq -c", "ptext sort", "CUT -b 1"]) {
+    let message = "";
+    try {
+        checkTools(commands(text));
+    } catch (error) {
+        message = error instanceof Refused ? error.message : "";
+    }
+    const named = text.startsWith("CUT") ? "CUT" : "sort";
+    is(`no tool: ${text}`, message, `${named} is not in this page, which has cut, paste, join, comm, uniq, tr`);
+}
+checkTools(commands("ptext | cut | paste | join | comm | uniq | tr"));
 
 // ---- bytes as they are shown
 const marked = ({ isText, text }) => (isText ? text : `<${text}>`);

@@ -1,0 +1,75 @@
+#!/bin/sh
+# Tests the program as one file in C, build/onefile/ptext.c: compiled by gcc, with each address checked, and by tcc, all
+# tests of a program and random commands; for a big-endian machine; and its archive.
+# usage: bindings/onefile/tests/onefile.sh PROGRAM
+set -u
+program=$(realpath "${1:?which program?}")
+cd "$(dirname "$0")/../../.." || exit 1
+. tests/common.sh
+source=$PWD/build/onefile/ptext.c
+version=$(cat VERSION)
+
+# quiet NAME WORDS..: that a command succeeds. What it says is shown if it does not
+quiet() {
+    name=$1
+    shift
+    "$@" >"$room/said" 2>&1 || cat "$room/said"
+    is "$name" 0 $?
+}
+
+# (No file of the source is beside that of the archive.)
+python3 tools/dist.py onefile "$room/dist" >"$room/said" || cat "$room/said"
+mkdir "$room/one" && tar -xJf "$room/dist/ptext-$version-onefile.tar.xz" -C "$room/one" --strip-components=1
+is "the archive" "COMMIT LICENSES README SHA256SUMS man ptext.c " "$(ls "$room/one" | LC_ALL=C sort | tr '\n' ' ')"
+is "its program" "" "$(cmp "$source" "$room/one/ptext.c" 2>&1)"
+is "its licenses" "3" "$(grep -c 'MIT License\|Apache License$\|memchr' "$room/one/LICENSES" | sed 's/^[3-9]$/3/')"
+is "its manual" "ptext-comm.1 ptext-cut.1 ptext-join.1 ptext-paste.1 ptext-tr.1 ptext-uniq.1 ptext.1 " \
+    "$(ls "$room/one/man" | LC_ALL=C sort | tr '\n' ' ')"
+command=$(sed -n 's/^    \(cc .*\)/\1/p' "$room/one/README")
+is "how to compile it" "cc -O2 -w -o ptext ptext.c" "$command"
+
+# (With -O2 gcc takes two minutes. Without, a program may need more than the second that a random command has.)
+export PTEXT_SECONDS=30
+quiet "gcc compiles it" gcc -std=c11 -DPTEXT_CHECKED -w -o "$room/gcc" "$source"
+quiet "random commands" python3 tools/compare "$room/gcc" 2000
+if has tcc; then
+    quiet "tcc compiles it" tcc -w -o "$room/tcc" "$source"
+    quiet "the tests of a program" sh tests/program.sh "$room/tcc"
+    quiet "random commands by tcc" python3 tools/compare "$room/tcc" 2000
+else
+    left_out "the one file by tcc (there is no tcc)"
+    quiet "the tests of a program" sh tests/program.sh "$room/gcc"
+fi
+
+# ends WORDS..: how both programs end at a standard stream that fails, or that is closed
+ends() {
+    for one in "$program" "$room/gcc"; do
+        (cd "$room" && printf 'a\nb\n' | sh -c "$*" "$one" 2>&1; echo " $?") >"$room/ends.$(basename "$one")"
+    done
+    is "ends as the program: $*" "$(cat "$room/ends.$(basename "$program")")" "$(cat "$room/ends.gcc")"
+}
+
+printf 'x\n' >"$room/f"
+ends '"$0" cut -b 1 >/dev/full'
+ends '"$0" cut -b 1 >&-'
+ends '"$0" cut -b 1 <&-'
+ends '"$0" cut -q 2>&-'
+ends '"$0" paste - f none <&-'
+ends '"$0" uniq f nowhere/f'
+ends '"$0" uniq none made; ls made'
+ends '"$0" cut -b 1 .'
+ends '"$0" cut -b 1 "$(printf "\\377")"'
+ends '"$0"'
+ends '{ yes | "$0" tr a b; echo $? >&2; } | head -n 1'
+ends 'ulimit -v 400000; head -c 300000000 /dev/zero | "$0" uniq | wc -c'
+
+if has qemu-s390x s390x-linux-gnu-gcc; then
+    quiet "gcc compiles it for s390x" s390x-linux-gnu-gcc -w -static -o "$room/s390x.bin" "$source"
+    printf '#!/bin/sh\nexec qemu-s390x "%s" "$@"\n' "$room/s390x.bin" >"$room/s390x"
+    chmod +x "$room/s390x"
+    quiet "random commands, big-endian" python3 tools/compare "$room/s390x" 200
+else
+    left_out "the one file on a big-endian machine (there is no qemu-s390x, or no s390x-linux-gnu-gcc)"
+fi
+echo "$count tests of the one file: $bad failed"
+[ "$bad" = 0 ]
