@@ -7,12 +7,11 @@ use Rattle.std.specs.List.{list_any}
 use Rattle.ptlines.specs.Sources.{SourceState}
 use Rattle.ptlangs.specs.Numbers.{and_then}
 use Rattle.ptopts.specs.Args.{ParsedOption}
-use Rattle.ptopts.specs.Commands.{Command, checked_command, command, command_of_args, command_of_tool, file_names}
-use Rattle.ptopts.specs.Commands.{ok_unless, or_stdin, order_from, output}
-use Rattle.ptopts.specs.Faults.{Fault, is_standard}
+use Rattle.ptopts.specs.Commands.{Command, command, command_of_args, command_of_tool, file_names, ok_unless, or_stdin}
+use Rattle.ptopts.specs.Commands.{order_from, output, read_words, values_fault}
+use Rattle.ptopts.specs.Faults.{Fault, constraints_fault, first_some, is_standard, operands_fault, strings_fault}
 use Rattle.ptopts.specs.declared.inputs.Input.TheVariants.{File, Standard}
 use Rattle.ptopts.specs.Syntax.{tools}
-use Rattle.ptopts.specs.declared.tool.Tool.{Tool}
 use Rattle.ptrun.specs.Files.{InputBytes, is_reader_unopened}
 use Rattle.ptrun.specs.Joint.{disorder_status}
 use Rattle.ptrun.specs.Operands.{positions}
@@ -38,18 +37,14 @@ of_each {T} P test (t ∷ ts) none each = by_test (test t) (of_each P test ts no
     by_test true others = each.0
     by_test false others = others
 
--- Of the tools, which have no names here, `uniq` is the fifth.
-abbrev Fifth : {T : Type 0} → (T → Type 0) → List (List ℕ × T) → Type 0
-Fifth P (a ∷ b ∷ c ∷ d ∷ e ∷ more) = P e.1
-Fifth P _ = ⊤
+-- What holds of each tool holds of those that are listed, which have no names here.
+abbrev Every : {T : Type 0} → (T → Type 0) → List (List ℕ × T) → Type 0
+Every P [] = ⊤
+Every P (t ∷ ts) = P t.1 × Every P ts
 
-of_fifth : {T : Type 0} (P : T → Type 0) → ((t : T) → P t) → (ts : List (List ℕ × T)) → Fifth P ts
-of_fifth P of [] = tt
-of_fifth P of (a ∷ []) = tt
-of_fifth P of (a ∷ b ∷ []) = tt
-of_fifth P of (a ∷ b ∷ c ∷ []) = tt
-of_fifth P of (a ∷ b ∷ c ∷ d ∷ []) = tt
-of_fifth P of (a ∷ b ∷ c ∷ d ∷ e ∷ more) = of e.1
+every : {T : Type 0} (P : T → Type 0) → ((t : T) → P t) → (ts : List (List ℕ × T)) → Every P ts
+every P of [] = tt
+every P of (t ∷ ts) = (of t.1, every P of ts)
 
 module _ (standard : SourceState) (content : ℕ → List ℕ → Option Content) (count : ℕ) where
   is_cons : {X : Type 0} {x : X} → x ∷ [] ≡ [] → ⊥
@@ -105,29 +100,44 @@ module _ (standard : SourceState) (content : ℕ → List ℕ → Option Content
     of_fault command None unread = unread
     of_fault command (Some fault) unread = λ are some none. refl
 
-    of_read : (tool : Tool) (read : Result (List ParsedOption × List (List ℕ)) Fault)
-        → ((os : List ParsedOption) (operands : List (List ℕ)) → IsUnread (Ok (command tool os operands)))
-        → IsUnread (and_then read (checked_command tool))
-    of_read tool (Ok (os, operands)) unread = of_fault _ _ (unread os operands)
-    of_read tool (Err fault) unread = λ are some none. refl
+    of_read : {T : Type 0} (reads : T → Result (List ParsedOption × List (List ℕ)) Fault)
+        (check : T → List ParsedOption × List (List ℕ) → Option Fault)
+        (made : T → List ParsedOption → List (List ℕ) → Command) (tool : T)
+        → ((os : List ParsedOption) (operands : List (List ℕ)) → IsUnread (Ok (made tool os operands)))
+        → IsUnread (and_then (reads tool) (λ (o : List ParsedOption × List (List ℕ)).
+        ok_unless (check tool o) (made tool o.0 o.1)))
+    of_read reads check made tool unread = by_result (reads tool)
+      where
+        by_result : (read : Result (List ParsedOption × List (List ℕ)) Fault)
+            → IsUnread (and_then read (λ (o : List ParsedOption × List (List ℕ)).
+            ok_unless (check tool o) (made tool o.0 o.1)))
+        by_result (Ok (os, operands)) = of_fault (made tool os operands) (check tool (os, operands)) (unread os operands)
+        by_result (Err fault) = λ are some none. refl
 
-    -- Each tool but `uniq` writes to standard output.
+    -- Each tool but `uniq`, the fifth, writes to standard output.
     of_args : (words : List (List ℕ)) → IsUnread (command_of_args words)
     of_args [] = λ are some none. refl
-    of_args (name ∷ words) = of_each (λ tool. IsUnread (command_of_tool tool words)) (λ t. bytes_eq name t.0) tools
-        (λ are some none. refl) (
-          of_read _ _ (λ os operands are some none. absurd (true≢false some)),
+    of_args (name ∷ words) =
+        let (cut, (paste, (join, (comm, (uniq, (tr, _)))))) =
+        every (λ tool. ((os : List ParsedOption) (operands : List (List ℕ)) → IsUnread (Ok (command tool os operands)))
+        → IsUnread (command_of_tool (Some tool) words))
+        (λ tool unread. of_read (λ t. read_words t [] None words) (λ t o. first_some (
+        constraints_fault t o.0 ∷ values_fault t o.0 ∷ operands_fault t o.0 o.1 ∷ strings_fault t o.0 o.1 ∷ []))
+        command tool unread) tools in
+        of_each (λ tool. IsUnread (command_of_tool tool words)) (λ t. bytes_eq name t.0) tools (λ are some none. refl) (
+          cut (λ os operands are some none. absurd {0} (true≢false some)),
           (
-            of_read _ _ (λ os operands are some none. absurd (true≢false some)),
+            paste (λ os operands are some none. absurd {0} (true≢false some)),
             (
-              of_read _ _ (λ os operands are some none. absurd (true≢false some)),
+              join (λ os operands are some none. absurd {0} (true≢false some)),
               (
-                of_read _ _ (λ os operands are some none. absurd (true≢false some)),
+                comm (λ os operands are some none. absurd {0} (true≢false some)),
                 (
-                  of_read _ _ (λ os operands. of_fifth (λ tool. IsUniq (output tool) operands)
-                      (λ tool. of_uniq (output tool) operands) tools refl (λ input. refl)
-                      (λ input written more. refl)),
-                  (of_read _ _ (λ os operands are some none. absurd (true≢false some)), tt),
+                  uniq (λ os operands.
+                      let (_, (_, (_, (_, (is, _))))) = every (λ tool. IsUniq (output tool) operands)
+                      (λ tool. of_uniq (output tool) operands) tools in
+                      is refl (λ input. refl) (λ input written more. refl)),
+                  (tr (λ os operands are some none. absurd {0} (true≢false some)), tt),
                 ),
               ),
             ),
