@@ -73,7 +73,7 @@ ROWS = [
     Row("ptext-parts plan 12 ", NAMES),
     Row("ptext-parts plan 12 pas", "ptext-parts plan 12 paste"),
     Row("ptext-parts run lo", "ptext-parts run lonely"),
-    Row("ptext-parts plan 12 ", ["run", "whole"], False),
+    Row("ptext-parts plan 12 ", ["whole"], False),
     # No option is offered after an operand.
     Row("ptext uniq lonely -", ["-c", "-d", "-f", "-s", "-u", "-z"], False),
     Row("ptext cut -f 1 lonely -", ["-b", "-c", "-d", "-n", "-s", "-z"], False),

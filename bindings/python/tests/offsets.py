@@ -10,6 +10,7 @@ missing, and what no law lets be cut.
 """
 import os
 import random
+import re
 import subprocess
 import sys
 import tempfile
@@ -70,15 +71,30 @@ def cut_case(case, plan, part):
     return case._replace(operands=operands, late=[], inputs=texts)
 
 
+def names_disorder(plan, said):
+    """Whether a message names a line that is out of order in its whole file."""
+    command = parts.read_words(plan.words)
+    path, number = re.fullmatch(r"[a-z]+: (.*): line ([0-9]+) is out of order \(part .*\)", said, re.S).groups()
+    for which, file in enumerate(plan.inputs, 1):
+        field = int(command.options.get(str(which)) or 1)
+        separator = command.options.get("t", "").encode()
+        find_key = parts.make_join_key(separator, field) if command.tool == "join" else bytes
+        lines = read_file(file.path).split(command.terminator)[int(number) - 2 : int(number)]
+        before, now = (list(map(find_key, lines)) + [b"", b""])[:2]
+        if file.path == path and (before < now if "r" in command.options else now < before):
+            return True
+    return False
+
+
 def run_parts(plan, room):
-    """The outputs of all parts by the program, or None if one fails."""
+    """The outputs of all parts by the program, or None if one fails because a line is out of order."""
     try:
         for part in range(1, len(plan.parts) + 1):
             parts.put_part(plan, part, f"{room}/parts")
         parts.put_together(plan, f"{room}/parts", f"{room}/result")
         return read_file(f"{room}/result")
-    except parts.ToolError:
-        return None
+    except parts.ToolError as why:
+        return None if names_disorder(plan, why.message) else why.message
 
 
 def run_whole(plan, program, stdin):

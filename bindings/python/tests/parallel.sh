@@ -188,10 +188,10 @@ run "ptext-parts whole plan parts result"
 grep -q 'no output of part 7$' messages && [ "$status" != 0 ] && [ ! -e result ] || failed "a part is missing"
 # A part that is killed leaves nothing under its name, and a second run does it.
 mkfifo fifo
-printf '#!/bin/sh\ncat fifo\n' >bin/slow
+printf '#!/bin/sh\n: >begun\ncat fifo\n' >bin/slow
 chmod +x bin/slow
 PTEXT_PROGRAM=slow ptext-parts run plan 7 parts 2>messages &
-sleep 1
+until [ -e begun ]; do sleep 0.1; done
 kill -9 $!
 wait $! 2>/dev/null
 : >fifo
