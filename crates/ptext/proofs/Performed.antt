@@ -4,11 +4,12 @@
 use Rattle.std.proofs.Common.{◌≡◌, ℕ, Bool, true, false, List, [], ◌∷◌, ⊎_elim, inl, inr, refl, subst}
 use Rattle.std.specs.Prelude.{⊤}
 use Rattle.ptlines.specs.Sinks.{SinkState}
+use Rattle.ptlines.specs.Slots.{Slots}
 use Rattle.ptlines.specs.Sources.{SourceState}
 use Rattle.ptopts.specs.Commands.{command_of_args}
 use Rattle.ptrun.specs.Runs.{Outcome}
 use Rattle.ptfiles.specs.Files.{FilesState, Output, new_readers, with_opened}
-use Rattle.ptfiles.specs.Shell.{After, Before, HasRun, IsDirected, RunOverFilesInOwnStore, RunOverFilesPost}
+use Rattle.ptfiles.specs.Shell.{After, Before, HasRun, IsDirected, RunOverFilesPost, after, before, empty_store}
 use Rattle.ptfiles.specs.Shell.{command_to_run, has_standard_output, input_names, output_names, valid_command}
 use Rattle.ptext.specs.Perform.{PerformPost, no_calls}
 
@@ -51,16 +52,18 @@ of_system {words} {b} {a} {Unused} (inl (h, exact)) = let of_system : HasRun wor
 } in inl (of_system, exact)
 of_system (inr other) = inr other
 
--- The files of the system were not used before.
+-- The files of the system and the store were not used before.
 pub performed : {words : List (List ℕ)} {old new : FilesState} {standard : SourceState} {out messages : SinkState}
-    {file : Output} {out_of_memory : Bool} {o : Outcome} {Unused Failing : Type 0} → old ≡ no_calls
-    → RunOverFilesInOwnStore words old new standard out messages file out_of_memory o Unused Failing
+    {lent left : Slots} {file : Output} {out_of_memory : Bool} {o : Outcome} {Unused Failing : Type 0}
+    → old ≡ no_calls → lent ≡ empty_store
+    → RunOverFilesPost words (before old standard out messages lent) (after new left file out_of_memory o) Unused Failing
     → PerformPost words standard out messages Unused o
-performed {words} {old} {new} {standard} {out} {messages} {file} {out_of_memory} {o} {Unused} none post = (
-  new,
-  file,
-  out_of_memory,
-  subst
-      (λ files. RunOverFilesInOwnStore words files new standard out messages file out_of_memory o Unused ⊤) none
-      (post.0, of_system post.1),
-)
+performed {words} {old} {new} {standard} {out} {messages} {lent} {left} {file} {out_of_memory} {o} {Unused} none empty
+    post = (
+      new,
+      file,
+      out_of_memory,
+      left,
+      subst (λ b. RunOverFilesPost words b (after new left file out_of_memory o) Unused ⊤)
+          (λ i. before (none i) standard out messages (empty i)) (of_system post),
+    )

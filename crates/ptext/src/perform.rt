@@ -13,7 +13,7 @@ ghost use Rattle.ptrun.specs.Runs.{outcome};
 
 use crate::system::SystemFiles;
 use ptfiles::{FilesReport, Streams, run_over_files};
-use ptlines::{Sink, Source};
+use ptlines::{Sink, Source, Store};
 use ptrun::{Report, say};
 use std::alloc::Allocator;
 use std::fs::Files;
@@ -41,6 +41,7 @@ pub fn perform<'a, R: Files, A: Allocator + Copy, S: Source, W: Sink, E: Sink>(
     ensures performed { PerformPost (words_view words.now) (S.state standard) (W.state out) (E.state messages)
         (result.out ≡ out) (outcome W.state E.state result) }
 {
+    let mut store = Store::empty(alloc);
     let mut files = SystemFiles::new(rt);
     let streams = Streams {
         standard,
@@ -51,7 +52,7 @@ pub fn perform<'a, R: Files, A: Allocator + Copy, S: Source, W: Sink, E: Sink>(
         report,
         file: _,
         out_of_memory: _,
-    } = run_over_files(alloc, &mut files, words, streams);
+    } = run_over_files(alloc, &mut store, &mut files, words, streams);
     report
 }
 

@@ -1,6 +1,6 @@
 -- From the run over the parsed command to the contract of a run over files. The words and the parsed command agree
 -- on the command, so the run is one that the words mean, over the new inputs that they name, and its sink is where
--- they say. If the words are no command, nothing is read. And the contract of a run with a store of its own.
+-- they say. If the words are no command, nothing is read.
 use Rattle.std.proofs.Common.{◌≡◌, ℕ, Bool, true, false, List, [], ◌∷◌, Option, Some, None, Result, Ok, Err, inl, inr}
 use Rattle.std.proofs.Common.{All, arith, sym, ◌∙◌, ap, refl, subst, ⊎_elim, if◌then◌else◌, is_none, length, option_map}
 use Rattle.std.proofs.lemmas.Bool.{false≢true}
@@ -345,10 +345,3 @@ module _ {A : Type 0} (command : Result (code.Command A) UseFault) (before_open 
           (sym same)
           (subst (λ names. HaveOpened before_open files names standard readers) (ap input_names is) opened))
           post
-
-pub in_own_store : {words : List (List ℕ)} {files : FilesState} {standard : SourceState} {out messages : SinkState}
-    {store own : Slots} {a : After} {Unused Failing : Type 0} → store ≡ own
-    → RunOverFilesPost words (before files standard out messages store) a Unused Failing
-    → RunOverFilesPost words (before files standard out messages own) a Unused Failing
-in_own_store {words} {files} {standard} {out} {messages} {store} {own} {a} {Unused} {Failing} same post =
-    subst (λ s. RunOverFilesPost words (before files standard out messages s) a Unused Failing) same post

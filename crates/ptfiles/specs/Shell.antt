@@ -179,15 +179,8 @@ pub record IsOutputUnopened (words : List (List ℕ)) (b : Before) (a : After) (
 
 -- ---- the postconditions
 
--- The postcondition of `run_over_files_in_store`.
+-- The postcondition of `run_over_files`.
 abbrev pub RunOverFilesPost : List (List ℕ) → Before → After → Type 0 → Type 0 → Type 0
 RunOverFilesPost words b a Unused Failing =
     ((h : HasRun words b a Unused Failing) × IsExactOverNames words b a h)
     ⊎ (IsOutputUnopened words b a Unused ⊎ IsOutOfMemory b a Unused)
-
--- The postcondition of `run_over_files`, which has a store of its own. It is empty at first.
-abbrev pub RunOverFilesInOwnStore : List (List ℕ) → FilesState → FilesState → SourceState → SinkState → SinkState
-    → Output → Bool → Outcome → Type 0 → Type 0 → Type 0
-RunOverFilesInOwnStore words old new standard out messages file out_of_memory outcome Unused Failing =
-    (left : Slots) × RunOverFilesPost words (before old standard out messages empty_store)
-    (after new left file out_of_memory outcome) Unused Failing

@@ -1,5 +1,5 @@
-//! `run_over_files` and `run_over_files_in_store`, the entry points of the crate. They parse the words, open the
-//! files that these name, decide where the command writes, create its output file, and run it.
+//! `run_over_files`, the entry point of the crate. It parses the words, opens the files that these name, decides where
+//! the command writes, creates its output file, and runs it.
 
 ghost use Rattle.std.specs.Prelude.{◌≡◌, false, Err, IfOk, OnErr};
 ghost use Rattle.std.specs.List.{list_any};
@@ -14,7 +14,7 @@ ghost use Rattle.ptrun.specs.Runs.{outcome, sinks as run_sinks};
 ghost use Rattle.ptrun.specs.SpecOfArgs.{file_count, is_memory_fault};
 ghost use Rattle.ptfiles.specs.Files.{IsNewInput, created_state, reader_of_input};
 ghost use Rattle.ptfiles.specs.Private.Files.{opened_state};
-ghost use Rattle.ptfiles.specs.Shell.{MayFail, RunOverFilesPost, RunOverFilesInOwnStore};
+ghost use Rattle.ptfiles.specs.Shell.{MayFail, RunOverFilesPost, empty_store};
 ghost use Rattle.ptfiles.specs.Private.Shell.{RunOverInputsPost, OpenInputsPost};
 ghost use Rattle.ptfiles.specs.Private.Shell.{IsDestination, command_of_parsed};
 ghost use Rattle.ptfiles.specs.Shell.{before, after};
@@ -38,25 +38,6 @@ pub struct Streams<S, W, E> {
     pub messages: E,
 }
 
-/// Parses the words and runs the command, with a store of its own, like `run_over_files_in_store`.
-pub fn run_over_files<A: Allocator + Copy, F: Files, S: Source, W: Sink, E: Sink>(
-    alloc: A,
-    files: &mut F,
-    words: &[&str],
-    streams: Streams<S, W, E>,
-) -> FilesReport<W, F::Output, E>
-    requires fresh { IsFresh (S.state streams.standard) }
-    requires writable { (W.state streams.out).failed ≡ false }
-    requires messages_writable { (E.state streams.messages).failed ≡ false }
-    ensures { RunOverFilesInOwnStore (words_view words.now) (F.state files.old) (F.state files.new)
-        (S.state streams.standard) (W.state streams.out) (E.state streams.messages)
-        (created_state F.Output.state result.file) result.out_of_memory (outcome W.state E.state result.report)
-        (result.report.out ≡ streams.out) (MayFail S.state F.Input.state) }
-{
-    let mut store = Store::empty(alloc);
-    run_over_files_in_store(alloc, &mut store, files, words, streams)
-}
-
 /// Parses the words and runs the command: opens the files that they name, in order, each once, then runs the command over
 /// them, and returns the report of the run. A file that cannot be opened is reported by the run when the tool reaches it.
 /// If the words are not valid, no file is opened.
@@ -66,10 +47,10 @@ pub fn run_over_files<A: Allocator + Copy, F: Files, S: Source, W: Sink, E: Sink
 /// Standard output is returned unchanged unless the words mean a command that writes to it. A file that is input and
 /// output is emptied before it is read (POSIX leaves this unspecified).
 ///
-/// The store must never have been used. The peak in the report, and whether memory was denied, are the store's own.
+/// The store must be that of `Store::empty`. The peak in the report, and whether memory was denied, are the store's own.
 /// `alloc` allocates the lists of the words and of the inputs. It is of a type of its own, so that no other store can be
 /// made here.
-pub fn run_over_files_in_store<
+pub fn run_over_files<
     A: Allocator + Copy,
     B: Allocator + Copy,
     F: Files,
@@ -84,7 +65,9 @@ pub fn run_over_files_in_store<
     streams: Streams<S, W, E>,
 ) -> FilesReport<W, F::Output, E>
     requires fresh { IsFresh (S.state streams.standard) }
-    requires unused { RunPre store.old (run_sinks (W.state streams.out) (E.state streams.messages)) }
+    requires empty { store.old ≡ empty_store }
+    requires writable { (W.state streams.out).failed ≡ false }
+    requires messages_writable { (E.state streams.messages).failed ≡ false }
     ensures { RunOverFilesPost (words_view words.now)
         (before (F.state files.old) (S.state streams.standard) (W.state streams.out) (E.state streams.messages) store.old)
         (after (F.state files.new) store.new (created_state F.Output.state result.file) result.out_of_memory

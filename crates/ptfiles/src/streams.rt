@@ -3,7 +3,7 @@
 
 ghost use Rattle.std.specs.Prelude.{◌≡◌, ℕ, List, [], ◌∷◌, Option, Some, All, false, length, min};
 ghost use Rattle.ptfiles.specs.Files.{IsContent, created_state};
-ghost use Rattle.ptfiles.specs.Shell.{MayFail};
+ghost use Rattle.ptfiles.specs.Shell.{MayFail, empty_store};
 ghost use Rattle.ptlines.specs.Sinks.{SinkState};
 ghost use Rattle.ptlines.specs.Sources.{IsFresh};
 ghost use Rattle.ptfiles.specs.Private.Files.{IsNewOutput, opened_state};
@@ -19,7 +19,7 @@ use crate::files::Files;
 use crate::report::FilesReport;
 use crate::shell::{Streams, run_over_files};
 use crate::words::words_of;
-use ptlines::{Sink, Source};
+use ptlines::{Sink, Source, Store};
 use ptrun::say;
 use std::alloc::Allocator;
 
@@ -144,14 +144,16 @@ pub enum GivenRun<O> {
 
 /// Runs a command whose words each end with byte 0 over the streams of a host, like `run_streams`. If the words are not
 /// UTF-8, or there is no memory for them, only a message is written, and the exit status is 2 or 4.
-pub fn run_given_streams<A: Allocator + Copy, H: Host>(
-    alloc: A,
+pub fn run_given_streams<A: Allocator + Copy, B: Allocator + Copy, H: Host>(
+    alloc: B,
+    store: &mut Store<A>,
     host: &H,
     words: &[u8],
     opened: &[u8],
 ) -> GivenRun<H::Output>
-    ensures { GivenStreamsPost H.Output.state words.now (H.content host.now) H.output opened.now result
-        (MayFail H.Input.state H.Input.state) }
+    requires { store.old ≡ empty_store }
+    ensures { GivenStreamsPost H.Output.state words.now (H.content host.now) H.output opened.now store.old store.new
+        result (MayFail H.Input.state H.Input.state) }
 {
     let Ok(text) = str::from_utf8(words) else {
         return GivenRun::Refused {
@@ -160,7 +162,7 @@ pub fn run_given_streams<A: Allocator + Copy, H: Host>(
         };
     };
     match words_of(alloc, text) {
-        Ok(words) => GivenRun::Ran(run_streams(alloc, host, &words, opened)),
+        Ok(words) => GivenRun::Ran(run_streams(alloc, store, host, &words, opened)),
         Err(_) => GivenRun::Refused {
             status: 4,
             messages: refuse(host.output(MESSAGES), "ptext: out of memory"),
@@ -180,14 +182,16 @@ fn refuse<W: Sink>(mut messages: W, text: &str) -> W
 /// Runs a command over the streams of a host, as `run_over_files` does. `opened` has a byte for each file that the words
 /// name, in their order, which is 0 if it cannot be opened; so is a file without a byte. The output file of `uniq` is the
 /// stream of the output.
-pub fn run_streams<A: Allocator + Copy, H: Host>(
-    alloc: A,
+pub fn run_streams<A: Allocator + Copy, B: Allocator + Copy, H: Host>(
+    alloc: B,
+    store: &mut Store<A>,
     host: &H,
     words: &[&str],
     opened: &[u8],
 ) -> StreamsReport<H::Output>
-    ensures { RunStreamsPost H.Output.state (words_view words.now) (H.content host.now) H.output opened.now result.status
-        (created_state H.Output.state result.files.file) result.files.out_of_memory
+    requires { store.old ≡ empty_store }
+    ensures { RunStreamsPost H.Output.state (words_view words.now) (H.content host.now) H.output opened.now
+        store.old store.new result.status (created_state H.Output.state result.files.file) result.files.out_of_memory
         (outcome H.Output.state H.Output.state result.files.report) result.files.report.out
         (MayFail H.Input.state H.Input.state) }
 {
@@ -197,7 +201,7 @@ pub fn run_streams<A: Allocator + Copy, H: Host>(
         out: host.output(OUTPUT),
         messages: host.output(MESSAGES),
     };
-    let report = run_over_files(alloc, &mut files, words, streams);
+    let report = run_over_files(alloc, store, &mut files, words, streams);
     let status = status_of(&report);
     StreamsReport {
         status,

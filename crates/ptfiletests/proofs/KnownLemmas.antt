@@ -7,7 +7,7 @@ use Rattle.ptfiles.specs.Calls.Streams.{GivenStreamsPost, RunStreamsPost, file_c
 use Rattle.ptfiles.specs.Calls.Streams.{status_unless_memory, stream_files}
 use Rattle.ptfiles.specs.Files.{FilesState, HaveContents, IsShort, Output, created_state, source_of}
 use Rattle.ptfiles.specs.Shell.{After, Before, HasRun, IsDirected, IsExactOverNames, RunOverFilesPost, after}
-use Rattle.ptfiles.specs.Shell.{before, empty_store, has_standard_output, input_names}
+use Rattle.ptfiles.specs.Shell.{before, has_standard_output, input_names}
 use Rattle.ptfiles.specs.Shell.{valid_command}
 use Rattle.ptfiles.specs.declared.streams.GivenRun.{GivenRun}
 use Rattle.ptfiles.specs.declared.streams.GivenRun.TheVariants.{Ran, Refused}
@@ -51,11 +51,11 @@ fits status status' false false is other = (refl, refl, is)
 
 module _ (words : List (List ℕ)) (bytes : ℕ → List ℕ) (output : ℕ → SinkState) (opened : List ℕ)
     (standard : SourceState) (standard_is : standard ≡ source_of (bytes 0)) (short : IsShort (Some (bytes 0)))
-    (place : FilesState) (store : Slots) (file : Output) (o : Outcome) (Unused Failing : Type 0) (none : Failing → ⊥)
+    (place : FilesState) (lent store : Slots) (file : Output) (o : Outcome) (Unused Failing : Type 0) (none : Failing → ⊥)
     (created : All (λ output'. output' ≡ Some (output 1)) place.outputs) (denied : o.denied ≡ false)
     (written : SinkState) (is_output : IsOutput words file o written) (unfailed : written.failed ≡ false) where
   abbrev b : Before
-  b = before (stream_files (content bytes opened) opened) standard (output 1) (output 2) empty_store
+  b = before (stream_files (content bytes opened) opened) standard (output 1) (output 2) lent
 
   abbrev a : Bool → After
   a out_of_memory = after place store file out_of_memory o
@@ -115,28 +115,29 @@ module _ (words : List (List ℕ)) (bytes : ℕ → List ℕ) (output : ℕ → 
   exact false fits (inr (inr memory)) = absurd (false≢true memory.out_of_memory)
 
 pub known_run : {W : Type 0} {of : W → SinkState} {words : List (List ℕ)} (bytes : ℕ → List ℕ) {opened : List ℕ}
-    {status : ℕ} {file : Output} {out_of_memory : Bool} {o : Outcome} {returned : W} {Failing : Type 0} → (Failing → ⊥)
-    → RunStreamsPost of words (content bytes opened) new_output opened status file out_of_memory o returned Failing
+    {lent left : Slots} {status : ℕ} {file : Output} {out_of_memory : Bool} {o : Outcome} {returned : W}
+    {Failing : Type 0} → (Failing → ⊥)
+    → RunStreamsPost of words (content bytes opened) new_output opened lent left status file out_of_memory o returned Failing
     → RunKnownPost words bytes opened status file o
-known_run {W} {of} {words} bytes {opened} {status} {file} {out_of_memory} {o} {returned} {Failing} none r written
+known_run {W} {of} {words} bytes {opened} {lent} {left} {status} {file} {out_of_memory} {o} {returned} {Failing} none r written
     is_output unfailed other =
     let f = fits status o.status out_of_memory o.denied r.status_is other in
     let e = exact words bytes new_output opened r.standard (source_is r.standard (source_of (bytes 0)) r.input.0) r.input.1
-    r.after r.ran.0 file o (returned ≡ r.out) Failing none r.created f.1 written is_output unfailed out_of_memory f.0
-    r.ran.1 in
+    r.files lent left file o (returned ≡ r.out) Failing none r.created f.1 written is_output unfailed out_of_memory f.0
+    r.ran in
     (f.2 ∙ e.status_is, e)
   where
     source_is : (x y : SourceState) → Some x ≡ Some y → x ≡ y
     source_is x y is = cc
 
 pub known_given : {W : Type 0} (of : W → SinkState) (words : List ℕ) (bytes : ℕ → List ℕ) (opened : List ℕ)
-    (ended : GivenRun W) (given : ℕ → Option (List ℕ)) {Failing : Type 0} → (Failing → ⊥)
-    → given ≡ content bytes opened → GivenStreamsPost of words given new_output opened ended Failing
+    (ended : GivenRun W) (given : ℕ → Option (List ℕ)) (lent left : Slots) {Failing : Type 0} → (Failing → ⊥)
+    → given ≡ content bytes opened → GivenStreamsPost of words given new_output opened lent left ended Failing
     → GivenKnownPost of words bytes opened ended
-known_given of words bytes opened (Ran ran) given {Failing} none is post = (
+known_given of words bytes opened (Ran ran) given lent left {Failing} none is post = (
   post.0,
-  known_run bytes none (subst (λ known. RunStreamsPost of (lines 0 words) known new_output opened ran.status
+  known_run bytes none (subst (λ known. RunStreamsPost of (lines 0 words) known new_output opened lent left ran.status
       (created_state of ran.files.file) ran.files.out_of_memory (outcome of of ran.files.report) ran.files.report.out
       Failing) is post.1),
 )
-known_given of words bytes opened (Refused status said) given none is post = post
+known_given of words bytes opened (Refused status said) given lent left none is post = post.0

@@ -6,7 +6,7 @@ use Rattle.std.proofs.lemmas.Bool.{false≢true, true≢false}
 use Rattle.std.specs.Borrow.{Bor}
 use Rattle.std.specs.List.{list_any}
 use Rattle.ptfiles.specs.Files.{Content, FilesState, HaveContents, Output, new_readers, source_of}
-use Rattle.ptfiles.specs.Shell.{After, Before, HasRun, IsExactOverNames, MayFail, RunOverFilesInOwnStore}
+use Rattle.ptfiles.specs.Shell.{After, Before, HasRun, IsExactOverNames, MayFail}
 use Rattle.ptfiles.specs.Shell.{RunOverFilesPost, after, before, empty_store, has_standard_output}
 use Rattle.ptfiles.specs.Shell.{input_names, name_of_output, output_names, valid_command}
 use Rattle.ptlines.specs.Readers.{Reader}
@@ -75,20 +75,17 @@ module _ (words : List (List ℕ)) (files : List (Bor (List ℕ) × Bor (List �
       (new_readers (source_of bytes) unopened.inputs) unopened.not_created.name standard unopened.not_created.is)
   named false (inr (inr memory)) standard parsed fits fine = absurd (false≢true memory.out_of_memory)
 
--- No file was opened or created before, and nothing was written.
+-- No file was opened or created before, nothing was written, and the store was empty.
 pub named_run : (files : List (Bor (List ℕ) × Bor (List ℕ))) (bytes : List ℕ) {words : List (List ℕ)}
-    {old place : FilesState} {standard : SourceState} {out messages : SinkState} {file : Output} {out_of_memory : Bool}
-    {o : Outcome} {Unused : Type 0} → old ≡ unopened_files files → standard ≡ source_of bytes → length bytes < 2 ^ 63
-    → out ≡ new_sink → messages ≡ new_sink
-    → RunOverFilesInOwnStore words old place standard out messages file out_of_memory o Unused
+    {old place : FilesState} {standard : SourceState} {out messages : SinkState} {lent left : Slots} {file : Output}
+    {out_of_memory : Bool} {o : Outcome} {Unused : Type 0} → old ≡ unopened_files files → standard ≡ source_of bytes
+    → length bytes < 2 ^ 63 → out ≡ new_sink → messages ≡ new_sink → lent ≡ empty_store
+    → RunOverFilesPost words (before old standard out messages lent) (after place left file out_of_memory o) Unused
     (MayFail bytes_state bytes_state)
     → RunNamedPost words files bytes o out_of_memory
-named_run files bytes {words} {old} {place} {standard} {out} {messages} {file} {out_of_memory} {o} {Unused} unopened is
-    short out_is messages_are post =
-    named words files bytes short place file post.0 o Unused out_of_memory
-    (subst (λ b. RunOverFilesPost words b (after place post.0 file out_of_memory o) Unused
-    (MayFail bytes_state bytes_state)) before_is post.1)
-  where
-    before_is : before old standard out messages empty_store
-        ≡ before (unopened_files files) (source_of bytes) new_sink new_sink empty_store
-    before_is i = before (unopened i) (is i) (out_is i) (messages_are i) empty_store
+named_run files bytes {words} {old} {place} {standard} {out} {messages} {lent} {left} {file} {out_of_memory} {o} {Unused}
+    unopened is short out_is messages_are empty post =
+    named words files bytes short place file left o Unused out_of_memory
+    (subst (λ b. RunOverFilesPost words b (after place left file out_of_memory o) Unused
+    (MayFail bytes_state bytes_state))
+    (λ i. before (unopened i) (is i) (out_is i) (messages_are i) (empty i)) post)

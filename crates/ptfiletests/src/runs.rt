@@ -9,6 +9,7 @@ ghost use Rattle.ptrun.specs.Runs.{outcome};
 use crate::named_files::NamedFiles;
 use ptfakes::VecSink;
 use ptfiles::{Bytes, FilesReport, Streams, run_over_files};
+use ptlines::Store;
 use std::alloc::Global;
 use std::process::Abort;
 
@@ -27,7 +28,7 @@ fn run_over(alloc: Global, words: &[&str], files: &[(&str, &[u8])], standard: &[
         out: VecSink::new(alloc),
         messages: VecSink::new(alloc),
     };
-    run_over_files(alloc, &mut named, words, streams)
+    run_over_files(alloc, &mut Store::empty(alloc), &mut named, words, streams)
 }
 
 // Runs a command over `FILES`. Standard input has the line `b 5`.

@@ -6,6 +6,7 @@ ghost use Rattle.ptfiletests.specs.KnownStreams.{GivenKnownPost, bytes_of, numbe
 use crate::known_streams::{KnownStreams, NumberedSink};
 use ptfakes::{ChunkedSource, FailingAlloc};
 use ptfiles::{GivenRun, Host, run_given_streams};
+use ptlines::Store;
 use std::alloc::Global;
 use std::process::Abort;
 
@@ -92,7 +93,14 @@ const EXAMPLES: &[Example] = &[
 fn run_known(alloc: Global, words: &[u8], streams: &[&[u8]], opened: &[u8]) -> Ended
     ensures { GivenKnownPost numbered_state words.now (bytes_of streams.now) opened.now result }
 {
-    run_given_streams(alloc, &KnownStreams::new(alloc, streams), words, opened)
+    let mut store = Store::empty(alloc);
+    run_given_streams(
+        alloc,
+        &mut store,
+        &KnownStreams::new(alloc, streams),
+        words,
+        opened,
+    )
 }
 
 // Returns whether this was written to the stream with this number.

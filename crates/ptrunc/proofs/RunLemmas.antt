@@ -26,7 +26,7 @@ use Rattle.ptfiles.specs.Files.{FilesState, HaveContents, Output, new_readers, s
 use Rattle.ptfiles.specs.Files.{with_opened}
 use Rattle.ptfiles.specs.Outputs.{closed_state}
 use Rattle.ptfiles.specs.Private.Shell.{HaveOpened}
-use Rattle.ptfiles.specs.Shell.{After, Before, HasRun, IsDirected, IsExactOverNames, MayFail, RunOverFilesInOwnStore}
+use Rattle.ptfiles.specs.Shell.{After, Before, HasRun, IsDirected, IsExactOverNames, MayFail}
 use Rattle.ptfiles.specs.Shell.{RunOverFilesPost, after, before, command_to_run, empty_store, has_standard_output}
 use Rattle.ptfiles.specs.Shell.{input_names, output_names}
 use Rattle.ptrunc.proofs.Below.{below_or_not}
@@ -466,28 +466,26 @@ module _ {A : Type 0} (words : List (List ℕ)) (w : InputBytes) (out final mess
 pub answer_of_run : {A : Type 0} (words : List (List ℕ)) (input : List ℕ) (files : InputBytes) → length input < 2 ^ 63
     → (to_out to_messages out messages' final : Filling) → IsNewFilling to_out → IsNewFilling to_messages
     → (file : Option (Kept A)) (results : List (Option (Kept A))) → All IsNewFile results
-    → {old place : FilesState} {standard : SourceState} {o : Outcome} {out_of_memory : Bool}
-    → old ≡ unopened_files files → standard ≡ source_of input → place.outputs ≡ map (option_map kept_state) results
+    → {old place : FilesState} {standard : SourceState} {lent left : Slots} {o : Outcome} {out_of_memory : Bool}
+    → old ≡ unopened_files files → standard ≡ source_of input → lent ≡ empty_store
+    → place.outputs ≡ map (option_map kept_state) results
     → o.out ≡ filling_state out → o.messages ≡ filling_state messages'
-    → RunOverFilesInOwnStore words old place standard (filling_state to_out) (filling_state to_messages)
-    (option_map kept_state file) out_of_memory o (out ≡ to_out) (MayFail bytes_state bytes_state)
+    → RunOverFilesPost words (before old standard (filling_state to_out) (filling_state to_messages) lent)
+    (after place left (option_map kept_state file) out_of_memory o) (out ≡ to_out) (MayFail bytes_state bytes_state)
     → {failed : Bool} → AppendPost out final file failed
     → (exit : Option ℕ) → ExitPost o.status out_of_memory o.denied failed messages'.rest.failed exit
     → (a : Answer) (p q : Part) → p ≡ part_of final → q ≡ part_of messages' → a.out ≡ p → a.messages ≡ q
     → StatusPost exit p q a.status
     → IsRunInMemory words (inputs_for words input files) final.room.bytes.now messages'.room.bytes.now a
 answer_of_run words input files short to_out to_messages out messages' final out_new messages_new file results results_new
-    {old} {place} {standard} {o} {out_of_memory} unopened is results_are o_out o_messages post append exit why a p q p_is
-    q_is out_is messages_are told =
-    let run = subst (λ s. RunOverFilesPost words (before (unopened_files files) s (filling_state to_out)
-    (filling_state to_messages) empty_store) (after place post.0 (option_map kept_state file) out_of_memory o)
-    (out ≡ to_out) (MayFail bytes_state bytes_state)) is
-    (subst (λ f. RunOverFilesPost words (before f standard (filling_state to_out) (filling_state to_messages) empty_store)
-    (after place post.0 (option_map kept_state file) out_of_memory o) (out ≡ to_out) (MayFail bytes_state bytes_state))
-    unopened post.1) in
+    {old} {place} {standard} {lent} {left} {o} {out_of_memory} unopened is empty results_are o_out o_messages post append
+    exit why a p q p_is q_is out_is messages_are told =
+    let run = subst (λ b. RunOverFilesPost words b (after place left (option_map kept_state file) out_of_memory o)
+    (out ≡ to_out) (MayFail bytes_state bytes_state))
+    (λ i. before (unopened i) (is i) (filling_state to_out) (filling_state to_messages) (empty i)) post in
     answer_is words (inputs_for words input files) out final messages' file o.status out_of_memory o.denied _
     (by_memory words input files short to_out to_messages out messages' out_new messages_new file results
-    results_new place results_are post.0 o o_out o_messages out_of_memory run)
+    results_new place results_are left o o_out o_messages out_of_memory run)
     append a (out_is ∙ p_is) (messages_are ∙ q_is) exit why (rw (p_is, q_is) at told)
 
 -- Standard output was used, so no file was created.
@@ -521,35 +519,35 @@ none_created (Some f) none = absurd (none_is_some none)
 
 -- A file was created only if standard output is not used.
 pub file_leaves_out : {A : Type 0} {words : List (List ℕ)} {old place : FilesState} {standard : SourceState}
-    {out_state messages_state : SinkState} {o : Outcome} {out_of_memory : Bool} {Failing : Type 0} {to_out out : Filling}
-    {file : Option (Kept A)}
-    → RunOverFilesInOwnStore words old place standard out_state messages_state (option_map kept_state file) out_of_memory o
-    (out ≡ to_out) Failing
+    {out_state messages_state : SinkState} {lent left : Slots} {o : Outcome} {out_of_memory : Bool} {Failing : Type 0}
+    {to_out out : Filling} {file : Option (Kept A)}
+    → RunOverFilesPost words (before old standard out_state messages_state lent)
+    (after place left (option_map kept_state file) out_of_memory o) (out ≡ to_out) Failing
     → IsNewFilling to_out → (file ≡ None) ⊎ (out.rest.failed ≡ false)
 file_leaves_out {A} {file = file} post new = ⊎_elim (λ used. inl (none_created file used.no_file))
-    (λ unused. inr (ap (λ (s : Filling). s.rest.failed) unused ∙ new.unfailed)) (is_used post.1)
+    (λ unused. inr (ap (λ (s : Filling). s.rest.failed) unused ∙ new.unfailed)) (is_used post)
 
 -- The run returned the sink that fills the room of the output.
 pub same_out : {words : List (List ℕ)} {old place : FilesState} {standard : SourceState}
-    {messages_state : SinkState} {o : Outcome} {out_of_memory : Bool} {file : Output} {Failing : Type 0}
-    (to_out out : Filling)
-    → RunOverFilesInOwnStore words old place standard (filling_state to_out) messages_state file out_of_memory o
-    (out ≡ to_out) Failing
+    {messages_state : SinkState} {lent left : Slots} {o : Outcome} {out_of_memory : Bool} {file : Output}
+    {Failing : Type 0} (to_out out : Filling)
+    → RunOverFilesPost words (before old standard (filling_state to_out) messages_state lent)
+    (after place left file out_of_memory o) (out ≡ to_out) Failing
     → o.out ≡ filling_state out → out.room.bytes.ghost_name ≡ to_out.room.bytes.ghost_name
 same_out to_out out post is = ⊎_elim
     (λ used. same_room to_out out used.written (ap (λ s. s.accepted) (sym is) ∙ used.accepted))
-    (λ unused. ap (λ (s : Filling). s.room.bytes.ghost_name) unused) (is_used post.1)
+    (λ unused. ap (λ (s : Filling). s.room.bytes.ghost_name) unused) (is_used post)
 
 -- And the one that fills the room of the messages.
 pub same_messages : {words : List (List ℕ)} {old place : FilesState} {standard : SourceState}
-    {out_state : SinkState} {o : Outcome} {out_of_memory : Bool} {file : Output} {Unused Failing : Type 0}
-    (to_messages messages' : Filling)
-    → RunOverFilesInOwnStore words old place standard out_state (filling_state to_messages) file out_of_memory o Unused
-    Failing
+    {out_state : SinkState} {lent left : Slots} {o : Outcome} {out_of_memory : Bool} {file : Output}
+    {Unused Failing : Type 0} (to_messages messages' : Filling)
+    → RunOverFilesPost words (before old standard out_state (filling_state to_messages) lent)
+    (after place left file out_of_memory o) Unused Failing
     → o.messages ≡ filling_state messages'
     → messages'.room.bytes.ghost_name ≡ to_messages.room.bytes.ghost_name
 same_messages {o = o} to_messages messages' post is = ⊎_elim (λ run. if_said run.0.ran.run.run.has_said)
-    (⊎_elim (λ unopened. if_said unopened.not_created.said.has_said) (λ memory. if_said memory.said.has_said)) post.1
+    (⊎_elim (λ unopened. if_said unopened.not_created.said.has_said) (λ memory. if_said memory.said.has_said)) post
   where
     if_said : {text : List ℕ} → HasSaid (filling_state to_messages) o.messages text
         → messages'.room.bytes.ghost_name ≡ to_messages.room.bytes.ghost_name

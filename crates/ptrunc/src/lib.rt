@@ -23,6 +23,7 @@ use given::{are_ends, files_of};
 use host::Caller;
 use naming::write_names;
 use ptfiles::{GivenRun, run_given_streams, words_of};
+use ptlines::Store;
 use running::run_in_memory;
 use std::alloc::Global;
 
@@ -111,7 +112,8 @@ pub extern "C" fn ptext_run_streams(alloc: Global, words: &[u8], opened: &[u8]) 
     ensures { HasGivenRun hide_accepted words.now unknown (λ number. unwritten) opened.now result
         (MayFail hide_left hide_left) }
 {
-    match run_given_streams(alloc, &Caller, words, opened) {
+    let mut store = Store::empty(alloc);
+    match run_given_streams(alloc, &mut store, &Caller, words, opened) {
         GivenRun::Ran(ran) => ran.status,
         GivenRun::Refused { status, .. } => status,
     }

@@ -11,7 +11,7 @@ use crate::answer::Answer;
 use crate::files::MemoryFiles;
 use crate::memory::{Filling, Kept, Room};
 use ptfiles::{Bytes, FilesReport, Streams, run_over_files};
-use ptlines::write_out;
+use ptlines::{Store, write_out};
 use ptrun::Report;
 use std::alloc::Allocator;
 use std::mem;
@@ -56,6 +56,7 @@ fn run_into<'a, A: Allocator + Copy + Drop>(
         (inputs_for (words_view words.now) input.now (files_view files.now)) out.new.bytes.now messages.new.bytes.now
         result }
 {
+    let mut store = Store::empty(alloc);
     let mut memory = MemoryFiles::new(alloc, files);
     let streams = Streams {
         standard: Bytes::new(input),
@@ -66,7 +67,7 @@ fn run_into<'a, A: Allocator + Copy + Drop>(
         mut report,
         file,
         out_of_memory,
-    } = run_over_files(alloc, &mut memory, words, streams);
+    } = run_over_files(alloc, &mut store, &mut memory, words, streams);
     let out_failed = append_file(&mut report.out, file);
     let exit = exit_of(&report, out_of_memory, out_failed);
     let answer = Answer::new(exit, report.out.part(), report.messages.part());

@@ -5,10 +5,11 @@ use Rattle.std.specs.Prelude.{◌≡◌, ◌⊎◌, ◌+◌, ℕ, Bool, not, Lis
 use Rattle.std.specs.Prelude.{codes, ◌∷◌, if◌then◌else◌, option_map, slice_index_or}
 use Rattle.std.specs.Str.{IsUtf8}
 use Rattle.ptfiles.specs.Files.{Content, FilesState, IsContent, Output, created_state}
-use Rattle.ptfiles.specs.Shell.{RunOverFilesInOwnStore}
+use Rattle.ptfiles.specs.Shell.{RunOverFilesPost, after, before, empty_store}
 use Rattle.ptfiles.specs.declared.streams.GivenRun.{GivenRun}
 use Rattle.ptfiles.specs.declared.streams.GivenRun.TheVariants.{Ran, Refused}
 use Rattle.ptlines.specs.Sinks.{SinkState}
+use Rattle.ptlines.specs.Slots.{Slots}
 use Rattle.ptlines.specs.Sources.{SourceState}
 use Rattle.ptlines.specs.Text.{lines}
 use Rattle.ptrun.specs.MessageWrites.{HasSaid, line_of}
@@ -44,17 +45,17 @@ status_unless_memory status out_of_memory denied = if out_of_memory || denied th
 -- The command was run as over files: its standard input, its files, its output and its messages are the streams with
 -- these numbers. So if their bytes are known, the output and the messages are exact (`IsExactOverNames`).
 pub record RunStreamsPost {W : Type 0} (of : W → SinkState) (words : List (List ℕ)) (content : ℕ → Option (List ℕ))
-    (output : ℕ → SinkState) (opened : List ℕ) (status : ℕ) (file : Output) (out_of_memory : Bool) (o : Outcome)
-    (returned : W) (Failing : Type 0) : Type 0 where
+    (output : ℕ → SinkState) (opened : List ℕ) (lent left : Slots) (status : ℕ) (file : Output) (out_of_memory : Bool)
+    (o : Outcome) (returned : W) (Failing : Type 0) : Type 0 where
   pub standard : SourceState
   pub input : IsContent (known (content 0)) (Some standard)
   pub out : W
   pub out_is : of out ≡ output 1
-  pub after : FilesState
-  pub ran : RunOverFilesInOwnStore words (stream_files content opened) after standard (output 1) (output 2) file
-      out_of_memory o (returned ≡ out) Failing
+  pub files : FilesState
+  pub ran : RunOverFilesPost words (before (stream_files content opened) standard (output 1) (output 2) lent)
+      (after files left file out_of_memory o) (returned ≡ out) Failing
   -- a file that was created is the output
-  pub created : All (λ output'. output' ≡ Some (output 1)) after.outputs
+  pub created : All (λ output'. output' ≡ Some (output 1)) files.outputs
   pub status_is : status ≡ status_unless_memory o.status out_of_memory o.denied
 
 -- The words were not run: they are not UTF-8, or there was no memory for them. A message was written to this stream, or
@@ -67,20 +68,21 @@ IsNotRun words status old new =
 -- The command that these bytes are was run over streams, or only a message was written to that of the messages. The words
 -- are the lines that end with byte 0.
 abbrev pub GivenStreamsPost : {W : Type 0} → (W → SinkState) → List ℕ → (ℕ → Option (List ℕ)) → (ℕ → SinkState)
-    → List ℕ → GivenRun W → Type 0 → Type 0
-GivenStreamsPost of words content output opened (Ran ran) Failing = IsUtf8 words
-    × RunStreamsPost of (lines 0 words) content output opened ran.status (created_state of ran.files.file)
+    → List ℕ → Slots → Slots → GivenRun W → Type 0 → Type 0
+GivenStreamsPost of words content output opened lent left (Ran ran) Failing = IsUtf8 words
+    × RunStreamsPost of (lines 0 words) content output opened lent left ran.status (created_state of ran.files.file)
     ran.files.out_of_memory (outcome of of ran.files.report) ran.files.report.out Failing
-GivenStreamsPost of words content output opened (Refused status said) Failing =
-    IsNotRun words status (output 2) (of said)
+GivenStreamsPost of words content output opened lent left (Refused status said) Failing =
+    IsNotRun words status (output 2) (of said) × (left ≡ lent)
 
 abbrev pub status_of : {W : Type 0} → GivenRun W → ℕ
 status_of (Ran ran) = ran.status
 status_of (Refused status said) = status
 
--- There is such an end, of which only the status is known.
+-- There is such an end, over a store that was never used. Only the status is known of it.
 pub record HasGivenRun {W : Type 0} (of : W → SinkState) (words : List ℕ) (content : ℕ → Option (List ℕ))
     (output : ℕ → SinkState) (opened : List ℕ) (status : ℕ) (Failing : Type 0) : Type 0 where
   pub ended : GivenRun W
-  pub post : GivenStreamsPost of words content output opened ended Failing
+  pub left : Slots
+  pub post : GivenStreamsPost of words content output opened empty_store left ended Failing
   pub status_is : status ≡ status_of ended

@@ -7,4 +7,4 @@ use Rattle.ptfiletests.proofs.runs.run_over.Goals as goal
 
 pub returns : goal.returns
 returns c = named_run c.args.files.now c.args.standard.now c.new-named.ensures c.new.ensures.all c.new.ensures.short
-    (ap sink_state c.new-2.ensures) (ap sink_state c.new-3.ensures) c.run_over_files.ensures
+    (ap sink_state c.new-2.ensures) (ap sink_state c.new-3.ensures) c.empty.ensures c.run_over_files.ensures

@@ -9,7 +9,7 @@ use Rattle.ptfiletests.proofs.streams.run_known.Goals as goal
 
 pub returns : goal.returns
 returns c =
-    known_given numbered_state c.args.words.now (bytes_of c.args.streams.now) c.args.opened.now _ _ no_read_fails
+    known_given numbered_state c.args.words.now (bytes_of c.args.streams.now) c.args.opened.now _ _ _ _ no_read_fails
     (ap {B = ℕ → Option (List ℕ)} (λ (host : KnownStreams) number. Some (bytes_of host.streams.now number))
     c.new.ensures)
     c.run_given_streams.ensures

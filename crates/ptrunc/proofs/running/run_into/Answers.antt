@@ -41,7 +41,7 @@ returns-clause-run g c =
     (c.new-3.ensures.is_new (ap (λ r. r.written) c.replace.ensures.value ∙ c.requires.out_is_empty))
     (c.new-5.ensures.is_new (ap (λ r. r.written) c.replace-2.ensures.value ∙ c.requires.messages_are_empty))
     ran.result.file ran.new.files.creates.results ran.new.files.all_new
-    c.new-memory.ensures c.new.ensures.all refl refl refl ran.ensures
+    c.new-memory.ensures c.new.ensures.all c.empty-store.ensures refl refl refl ran.ensures
     c.append_file-out_failed.ensures c.exit_of-exit.result c.exit_of-exit.ensures
     c.new-answer.result c.part.result c.part-2.result c.part.ensures c.part-2.ensures c.new-answer.ensures.parts.0
     c.new-answer.ensures.parts.1 c.new-answer.ensures.status)
