@@ -36,8 +36,8 @@ struct ptext_answer {
 };
 
 /*
- * Writes the words of a list that ends with a null pointer, as that of main, to `into` as all calls below take them: each
- * ends with byte 0. Returns their size. If that is above `room`, not all of them are written.
+ * Writes the words of a list that ends with a null pointer, as that of main, to `into` as all calls below take them:
+ * each ends with byte 0. Returns their size. If that is above `room`, not all of them are written.
  */
 size_t ptext_words(char *const *words, uint8_t *into, size_t room);
 

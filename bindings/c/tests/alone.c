@@ -1,5 +1,5 @@
-/* Calls stream.c alone: what is here in the place of the proved crate counts what memory it gets, and what is freed. And
- * reads and writes that signals interrupt. */
+/* Calls stream.c alone: what is here in the place of the proved crate counts what memory it gets, and what is freed.
+ * And reads and writes that signals interrupt. */
 #define _GNU_SOURCE
 #include "ptext.h"
 

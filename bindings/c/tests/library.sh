@@ -2,7 +2,7 @@
 # Tests the library for C and the Python module over it: the examples, bad arguments, too little room, streams (also with
 # sanitizers, and each request for memory refused), threads, what it exports; and, if it is in build/, that it is
 # installed, found by pkg-config and removed, and that the wheel of `make python` has it.
-# usage: bindings/c/tests/library.sh [FOLDER]      FOLDER has libptext.so, libptext.a and ptrunc.a (build/)
+# usage: bindings/c/tests/library.sh [FOLDER]      FOLDER has ptext, libptext.so, libptext.a and ptrunc.a (build/)
 set -eu
 built=$(realpath "${1:-build}")
 cd "$(dirname "$0")/../../.."

@@ -1,5 +1,5 @@
-/* Calls ptext.c alone: the calls of the proved crate, which are here in its place, get each pointer with its size, and no
- * null pointer, since a slice has an address even if it has no bytes. And lists of words. */
+/* Calls ptext.c alone: the calls of the proved crate, which are here in its place, get each pointer with its size, and
+ * no null pointer, since a slice has an address even if it has no bytes. And lists of words. */
 #include "ptext.h"
 
 #include <stdio.h>

@@ -193,7 +193,8 @@ static void waits_for_nothing(void) {
 
 static void bad_arguments(void) {
     static const uint8_t none[] = {0, 0};
-    const struct ptext_options unopened = {SIZED, .opened = none, .files = 2}, first = {SIZED, .opened = both, .files = 1};
+    const struct ptext_options unopened = {SIZED, .opened = none, .files = 2};
+    const struct ptext_options first = {SIZED, .opened = both, .files = 1};
     const struct ptext_options null = {SIZED, .files = 1}, many = {SIZED, .opened = both, .files = (size_t)1 << 31};
     const struct ptext_options later = {.size = sizeof later + 8, .opened = both, .files = 2};
     reset("", "a\n", "b\n");

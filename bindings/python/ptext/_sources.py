@@ -101,6 +101,5 @@ class Awaited(Pieces):
         async for piece in self._more:
             self.release()
             self._hold(piece)
-            if self._buffer.len:
-                return
+            return
         self._has_ended = True

@@ -340,8 +340,8 @@ def stream(
     memory: int | None = None,
 ) -> Stream | None:
     """Runs a command, the name of the tool first, over streams: yields its output in pieces, or writes it to `out`, a
-    file in binary mode. Inputs are read as they are needed, and may be the output of another command. `async for` awaits
-    the pieces, and lets the event loop go on; for it, inputs may be async, too.
+    file in binary mode. Inputs are read as they are needed, and may be the output of another command. `async for`
+    awaits the pieces, and lets the event loop go on; for it, inputs may be async, too.
 
     After the last piece it raises `Error` if the status is not 0, with the messages; and `MemoryError` if memory ran
     out, or more than `memory` bytes were needed at a time. What an input raises comes through. `close` ends the command."""

@@ -405,7 +405,7 @@ class Streams(unittest.TestCase):
         os.set_blocking(end, False)
         with open(begin, "rb", 0), open(end, "wb", 0) as out:
             with self.assertRaisesRegex(BlockingIOError, "`out` takes no bytes now"):
-                ptext.stream(["cut", "-b", "1-"], stdin=itertools.repeat(b"ab\n" * 1000), out=out)
+                ptext.stream(["cut", "-b", "1-"], stdin=b"ab\n" * 100_000, out=out)
 
     def test_output_that_a_file_may_not_keep(self):
         class Keeps(io.RawIOBase):
@@ -504,7 +504,7 @@ class Files(unittest.TestCase):
         stream = ptext.stream(["tr", "a", "b"], stdin=itertools.repeat(b"a\n" * 10_000))
         with stream.file() as file:
             self.assertEqual(file.read(2), b"b\n")
-        self.assertEqual(list(stream), [])
+        self.assertEqual(next(stream, None), None)
 
 
 class Async(unittest.IsolatedAsyncioTestCase):
@@ -521,6 +521,7 @@ class Async(unittest.IsolatedAsyncioTestCase):
         for number in range(count):
             yield b"%d\n" % (number // 2)
             if number % 100 == 0:
+                yield b""
                 await asyncio.sleep(0)
 
     async def test_each_kind_of_input(self):
@@ -596,6 +597,9 @@ class Async(unittest.IsolatedAsyncioTestCase):
     async def test_cancelled_wait_ends_the_command(self):
         begin, end = os.pipe()
         os.write(end, b"ab\n")
+        self.addCleanup(os.close, begin)
+        # (Then the thread that reads the pipe ends, and with it the run.)
+        self.addCleanup(os.close, end)
         gone = []
 
         async def never():
@@ -605,7 +609,6 @@ class Async(unittest.IsolatedAsyncioTestCase):
             finally:
                 gone.append(True)
 
-        self.addCleanup(os.close, begin)
         for given in (open(begin, "rb", closefd=False), never()):
             async with ptext.stream(["cut", "-b", "1"], stdin=given) as stream:
                 self.assertEqual(await anext_of(stream), b"a\n")
@@ -614,8 +617,6 @@ class Async(unittest.IsolatedAsyncioTestCase):
                 self.assertEqual([piece async for piece in stream], [])
                 stream.close()
         self.assertEqual(gone, [True])
-        # (Now the thread that reads the pipe ends, and with it the run.)
-        os.close(end)
 
     async def test_use_by_two(self):
         begin, end = os.pipe()
