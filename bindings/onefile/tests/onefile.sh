@@ -63,13 +63,13 @@ ends '"$0"'
 ends '{ yes | "$0" tr a b; echo $? >&2; } | head -n 1'
 ends 'ulimit -v 400000; head -c 300000000 /dev/zero | "$0" uniq | wc -c'
 
-if has qemu-s390x s390x-linux-gnu-gcc; then
+if has qemu-s390x s390x-linux-gnu-gcc && [ -e /usr/s390x-linux-gnu/lib/libc.a ]; then
     quiet "gcc compiles it for s390x" s390x-linux-gnu-gcc -w -static -o "$room/s390x.bin" "$source"
     printf '#!/bin/sh\nexec qemu-s390x "%s" "$@"\n' "$room/s390x.bin" >"$room/s390x"
     chmod +x "$room/s390x"
     quiet "random commands, big-endian" python3 tools/compare "$room/s390x" 200
 else
-    left_out "the one file on a big-endian machine (there is no qemu-s390x, or no s390x-linux-gnu-gcc)"
+    left_out "the one file on a big-endian machine (there is no qemu-s390x, or no compiler for s390x)"
 fi
 echo "$count tests of the one file: $bad failed"
 [ "$bad" = 0 ]
