@@ -20,7 +20,7 @@ fail() {
 }
 
 # Nothing that an earlier run made is tested.
-rm -f "$log" crates/ptext/out/ptext* build/libptext* build/ptext-static build/page/ptext.html
+rm -f "$log" crates/ptext/out/ptext* build/libptext* build/ptext-* build/page/ptext.html
 follow "$log" python3 tests/edits.py || fail "a wrong body is missing, or does not show that a contract refuses it"
 status=0
 follow "$log" rt ci || status=$?
