@@ -10,6 +10,8 @@
 # make static               build/ptext-static: the program as one file that needs no shared libraries, with musl where
 #                           it is (Debian's musl-tools) or LIBC=glibc, and build/ptext-by-name: the tools by their own
 #                           names. `make` links them too, where there is gcc
+# make second               build/ptext-second: the program by the toolchain's second compiler, which tests compare with
+#                           build/ptext
 # make lib                  build/libptext.so and build/libptext.a with ptext.h: the tools as a library, for C
 # make install-lib          installs them and the page ptext(3) into PREFIX
 # make python               build/dist: a wheel of the Python module, with the library in it (docs/LIBRARY.md)
@@ -61,7 +63,7 @@ WITH_RT = command -v rt >/dev/null || { echo 'there is no rt in PATH: it is part
     says what can be had without it (if it is unpacked: export PATH=/opt/rattle/bin:$$PATH)' >&2; exit 1; }
 AGAINST ?= system
 
-.PHONY: all try check must-fail check-program test static lib install-lib python page node bench compare definitions \
+.PHONY: all try check must-fail check-program test static second lib install-lib python page node bench compare definitions \
     docs install is-built install-tools uninstall dist deb clean help
 
 all: build/ptext
@@ -100,7 +102,8 @@ check-program:
 
 static: build/ptext-static
 
-build/ptext-static: build/ptext $(wildcard native/*.c) $(if $(LIBC),as-asked)
+NATIVE := $(wildcard native/*.c)
+build/ptext-static: build/ptext $(NATIVE) $(if $(LIBC),as-asked)
 	python3 tools/builder static x86_64 $(LIBC)
 
 .PHONY: as-asked
@@ -108,12 +111,18 @@ as-asked:
 
 lib: build/libptext.a
 
-# (The tests take build/libptext.a as it is, too.)
+# (The tests take these as they are, too.)
 ifndef PTEXT_AS_BUILT
 build/libptext.a: bindings/c/ptext.c bindings/c/stream.c bindings/c/ptext.h $(BUILDER) $(SOURCES)
 	@$(WITH_RT)
 	python3 tools/builder library
+
+build/ptext-second: build/ptext $(BUILDER) $(NATIVE)
+	@$(WITH_RT)
+	python3 tools/builder second
 endif
+
+second: build/ptext-second
 
 install-lib: build/libptext.a
 	@python3 tools/install.py library $(INSTALL_TO)

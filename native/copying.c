@@ -1,6 +1,6 @@
 /* memcpy and memmove for a C library whose own are slow for a few bytes, as those of musl for x86-64, which halve the
- * speed of the program on short lines. The compiler makes vector instructions of these copies of fixed size. (It must not
- * make calls of memcpy of them: -fno-builtin -fno-tree-loop-distribute-patterns.) tests/copying.c tries them.
+ * speed of the program on short lines. The compiler makes vector instructions of these copies of fixed size. (It must
+ * not make calls of memcpy of them: -fno-builtin -fno-tree-loop-distribute-patterns.) tests/copying.c tries them.
  */
 #include <stddef.h>
 #include <stdint.h>

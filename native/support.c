@@ -1,54 +1,18 @@
-/* What the object file of the program asks of C beside the C library: memory, errno, the words, and the call of `main`.
- * With this it is linked by any C compiler, for each processor for which it was compiled, and with any C library; linked
- * with -DBY_NAME, it is a tool by its own name. (The toolchain's own archives, c/liblibc_c.a and c/libos_c.a, are for
- * x86-64 and the GNU C library only.)
+/* What the object file of the program asks of C beside the C library and heap.c: errno, the words, and the call of
+ * `main`. With these it is linked by any C compiler, for each processor for which it was compiled, and with any C
+ * library; with -DBY_NAME, it is a tool by its own name. (The toolchain's archives, c/liblibc_c.a and c/libos_c.a, are
+ * for x86-64 and the GNU C library only.)
  *
- * The proofs rest on what the toolchain states of these functions, in rattle/libc/src/heap.rt and rattle/os/src/c.rt. It
- * stands above each in its own words, without the notation. Nothing proves that they do it: read them.
+ * The proofs rest on what the toolchain states of these functions, in rattle/os/src/c.rt. It stands above each in its
+ * own words, without the notation. Nothing proves that they do it: read them.
  */
 #define _GNU_SOURCE
 #include <errno.h>
 #include <signal.h>
-#include <stdbool.h>
 #include <stddef.h>
 #include <stdint.h>
-#include <stdlib.h>
 #include <string.h>
 #include <unistd.h>
-
-_Static_assert(sizeof(size_t) == 8, "the program is compiled for addresses of 64 bits");
-
-/* ---- memory */
-
-/* Whether there is memory, and where. The address is not null either way. */
-struct tried {
-    bool ok;
-    void *at;
-};
-
-static char none;
-
-static struct tried tried(void *at) {
-    return (struct tried){at != NULL, at != NULL ? at : &none};
-}
-
-/* "Tries to get new memory for a value, whose size and alignment the caller passes. Nothing says when it fails." The
- * alignment divides 16, as malloc gives it, and the size is below 2^63. (malloc may return null for no bytes.) */
-struct tried rattle_alloc(size_t size, size_t align) {
-    return tried(malloc(size ? size : align));
-}
-
-/* "Tries to make the block at `at` one of `size` bytes, whose first `kept` bytes are as they were. It may move. Where it
- * fails, the block is as it was." */
-struct tried rattle_realloc(void *at, size_t kept, size_t size, size_t align) {
-    (void)kept;
-    return tried(realloc(at, size ? size : align));
-}
-
-/* "Frees what either answered." */
-void rattle_dealloc(void *at) {
-    free(at);
-}
 
 /* ---- errno, of which nothing is stated */
 
@@ -71,8 +35,8 @@ void rattle_set_errno(int error) {
 static char **words;
 static size_t count;
 
-/* "Puts argument `number` at the start of `into` and answers its length, -1 where there is no such argument, or -2 where
- * it does not fit, and then `into` is full." */
+/* "Puts argument `number` at the start of `into` and answers its length, -1 where there is no such argument, or -2
+ * where it does not fit, and then `into` is full." */
 ptrdiff_t rattle_arg(size_t number, uint8_t *into, size_t room) {
     if (number >= count)
         return -1;
@@ -112,8 +76,8 @@ ssize_t __write(int descriptor, const void *bytes, size_t size) {
 #ifdef __x86_64__
 #include <cpuid.h>
 
-/* What the processor has: leaf 0 is CPUID 1, and leaf 2 is CPUID 0x80000001. (All that x86-64-v2 needs can be used where
- * it is found.) */
+/* What the processor has: leaf 0 is CPUID 1, and leaf 2 is CPUID 0x80000001. (All that x86-64-v2 needs can be used
+ * where it is found.) */
 struct cpuid_feature {
     unsigned found[4], usable[4];
 };

@@ -47,7 +47,7 @@ if [ -e crates/ptext/out/ptext.o ]; then
     mv build/ptext.o.new build/ptext.o
 fi
 unset MAKEFLAGS MFLAGS MAKELEVEL
-for target in static lib page; do
+for target in static lib page second; do
     follow "$log" make --no-print-directory "$target" || fail "make $target"
 done
 follow "$log" sh tests/built.sh build/ptext || fail "a test of what was built"

@@ -64,6 +64,9 @@ if is_current build/ptext-static "make static"; then
         test_of "the tools by their own names" python3 tests/by_name.py "$file" "$program"
     done
 fi
+if is_current build/ptext-second "make second"; then
+    test_of "the second compiler" python3 tests/witness.py "$program" build/ptext-second 20000
+fi
 sed -n 's/^left out: //p' "$room/log" | sort -u >"$room/left.out"
 echo "all tests took $(($(date +%s) - began)) s"
 if [ -s "$room/left.out" ]; then

@@ -5,6 +5,7 @@
   python3 tools/builder static [TARGET [LIBC]]     the program as one file that needs no shared libraries, ptext-static,
                                                    and the tools by their own names, ptext-by-name
   python3 tools/builder library                    the library for C, libptext.a and libptext.so
+  python3 tools/builder second                     the program by the toolchain's second compiler, ptext-second
   python3 tools/builder page                       the tools in a browser, page/ptext.html
 
 TARGET is a processor, x86_64 or aarch64; LIBC is musl or glibc (without it musl, where it is there).
@@ -22,7 +23,7 @@ from linking import GLIBC, MUSL, PROCESSORS, Processor
 from project import TOP, Failed, find_kit, run_script, say
 
 # What is built, and whether it is built for a processor and with a C library.
-BUILT = {"program": True, "static": True, "library": False, "page": False}
+BUILT = {"program": True, "static": True, "library": False, "second": True, "page": False}
 
 
 def main():

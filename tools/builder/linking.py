@@ -1,4 +1,4 @@
-"""Links the object file of the program by a C compiler, with native/support.c in place of the toolchain's two archives,
+"""Links the object file of the program by a C compiler, with the C of native/ in place of the toolchain's two archives,
 which are for x86-64 and the GNU C library only: as the program itself, or as a tool by its own name; for each processor
 of PROCESSORS; with the shared GNU C library, or with a static one.
 
@@ -78,11 +78,11 @@ class Processor:
         """Links an object file of the program, `linked`, into a program that takes its words as they are, or that is a
         tool by its own name."""
         own, before, after = self.make_words(library)
-        compiled = [f"{place}/support.o"]
-        named = ["-DBY_NAME"] if by_name else []
-        run([self.compiler, *FLAGS, *own, *named, "-c", "-o", compiled[0], f"{TOP}/native/support.c"], place)
+        parts = {"heap": [], "support": ["-DBY_NAME"] if by_name else []}
         if library == MUSL and self.name == "x86_64":
-            compiled.append(f"{place}/copying.o")
-            run([self.compiler, *FLAGS, *OF_COPYING, *own, "-c", "-o", compiled[1], f"{TOP}/native/copying.c"], place)
+            parts["copying"] = OF_COPYING
+        for name, words in parts.items():
+            run([self.compiler, *FLAGS, *words, *own, "-c", "-o", f"{name}.o", f"{TOP}/native/{name}.c"], place)
+        compiled = [f"{name}.o" for name in parts]
         words = [self.compiler, "-s", "-Wl,--wrap=main", "-Wl,--gc-sections", "-o", into]
         run([*words, *before, *compiled, linked, *after], place)

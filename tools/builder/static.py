@@ -44,11 +44,17 @@ def compile_object(kit, place, room, crates, processor, into, backend="llvm"):
     run([f"{kit}/bin/rattle", "build", *words], folder)
 
 
-def make_object(kit, place, processor):
-    """Makes the object file for a processor."""
+def find_room(place):
+    """The crates of the program, and a folder in which those below it are proved: this one, if the gate has just done
+    that in it, or a copy."""
     libraries = Crates(PROGRAM, False)
     crates = libraries if is_in_gate(libraries) else Crates(PROGRAM, True)
-    room = prove(crates, place)
+    return crates, prove(crates, place)
+
+
+def make_object(kit, place, processor):
+    """Makes the object file for a processor."""
+    crates, room = find_room(place)
     made = f"{room}/crates/{PROGRAM}/out/{PROGRAM}.o"
     if not processor.is_own or not os.path.exists(made):
         made = f"{place}/{PROGRAM}.o"
@@ -57,7 +63,7 @@ def make_object(kit, place, processor):
 
 
 def link_all(place, processor, wanted=""):
-    """Links the object file with the shared C library, and with the static one that is wanted, or that is there. Returns
+    """Links the object file with the shared C library, and with the static one that is wanted or there. Returns
     the name of the latter."""
     folder, linked = processor.folder, f"{TOP}/{processor.folder}/{PROGRAM}.o"
     library = processor.find_static_library(wanted)
@@ -77,13 +83,15 @@ def build(kit, place, processor, wanted):
     processor.check_compiler("make static")
     if not processor.find_static_library(wanted):
         packages = "musl-tools, or gcc libc6-dev" if processor.is_own else "libc6-dev-arm64-cross"
-        raise Failed(f"make static needs a static C library{wanted and f', {wanted}'} (on Debian: apt install {packages})")
+        which = f", {wanted}" if wanted else ""
+        raise Failed(f"make static needs a static C library{which} (on Debian: apt install {packages})")
     lacking = [name for name in ARCHIVES if not os.path.exists(f"{kit}/{name}")]
     if lacking:
         raise Failed(f"the toolchain in {kit} has no {lacking[0]}: it is another kit than the README names")
     if not processor.is_own or not is_of_program(kit, place):
-        say(f"making the object file of the program for {processor.name}: some two minutes, once its libraries are proved")
+        say(f"making the object file for {processor.name}: some two minutes, once the libraries are proved")
         make_object(kit, place, processor)
     library = link_all(place, processor, wanted)
-    say(f"linked with {'musl' if library != GLIBC else 'the static GNU C library (musl starts faster: musl-tools)'}")
+    slower = " (with musl it starts faster: musl-tools)" if library == GLIBC else ""
+    say(f"linked with {library}{slower}")
     return f"{processor.folder}/{PROGRAM}-static"
