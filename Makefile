@@ -7,7 +7,11 @@
 #                           built from what it proved (needs gcc and libc6-dev). It names what it leaves out
 # make must-fail            tries the wrong bodies that the gate leaves out: before a release
 # make check-program        all tests of a built program (PROGRAM=build/ptext): nothing is proved, and no toolchain needed
-# make static               build/ptext-static: the program as one file that needs no shared libraries
+# make static               build/ptext-static: the program as one file that needs no shared libraries, with musl where
+#                           it is (Debian's musl-tools) or LIBC=glibc, and build/ptext-by-name: the tools by their own
+#                           names. `make` links them too, where there is gcc
+# make second               build/ptext-second: the program by the toolchain's second compiler, which tests compare with
+#                           build/ptext
 # make lib                  build/libptext.so and build/libptext.a with ptext.h: the tools as a library, for C
 # make install-lib          installs them and the page ptext(3) into PREFIX
 # make python               build/dist: a wheel of the Python module, with the library in it (docs/LIBRARY.md)
@@ -22,13 +26,12 @@
 #                           with a model in Python, the system's tools, and the built program if there is one
 # make docs                 writes docs/PROMISE.md, the page of the definitions, from crates/*/specs
 # make install PREFIX=..    installs the program, its pages and completion into PREFIX (/usr/local), below DESTDIR
-#                           (build/ptext-static if `make static` made it of build/ptext as it is, unless STATIC=no)
+#                           (build/ptext-static if it was linked of build/ptext as it is, unless STATIC=no)
 # make install-tools        adds PREFIX/libexec/ptext/bin with each tool by its own name, a folder to put into PATH
 # make uninstall PREFIX=..  takes away exactly what these two and install-lib installed
-# make dist                 build/dist: an archive of the source, one of the program, and their checksums. All has to be
-#                           committed; with CHANGED=yes the archives are made all the same, and say so
-# make dist-static          build/dist: an archive of the program without shared libraries, with the license of the C
-#                           library, and the parts to link it with another one
+# make dist                 build/dist: an archive of the source, one of the program (the static one with musl, if it was
+#                           linked), and their checksums. All has to be committed; with CHANGED=yes the archives are
+#                           made all the same, and say so
 # make deb                  build/dist: the Debian packages ptext and ptext-tools, by dpkg-buildpackage and debhelper. It
 #                           tests the program first (with DEB_BUILD_OPTIONS=nocheck it does not)
 # make clean                removes all that was built, and what checks kept
@@ -55,12 +58,14 @@ PROGRAM ?= build/ptext
 # The files from which the program and the library are built.
 SOURCES := HANDLES crates.txt $(shell find crates -name out -prune -o -name 'must-fail*' -prune -o -type f -print)
 BUILDER := tools/project.py $(wildcard tools/builder/*.py)
+# The C library of the static program: musl or glibc. Without one it is musl, if it is there.
+LIBC =
 WITH_RT = command -v rt >/dev/null || { echo 'there is no rt in PATH: it is part of the toolchain, of which the README \
     says what can be had without it (if it is unpacked: export PATH=/opt/rattle/bin:$$PATH)' >&2; exit 1; }
 AGAINST ?= system
 
-.PHONY: all try check must-fail check-program test static lib install-lib python page node onefile bench compare \
-    definitions docs install is-built install-tools uninstall dist dist-static deb clean help
+.PHONY: all try check must-fail check-program test static second lib install-lib python page node onefile bench \
+    compare definitions docs install is-built install-tools uninstall dist deb clean help
 
 all: build/ptext
 	@echo '$$ echo abcd | build/ptext cut -c 3-,1' && echo abcd | build/ptext cut -c 3-,1
@@ -98,17 +103,27 @@ check-program:
 
 static: build/ptext-static
 
-build/ptext-static: build/ptext
-	python3 tools/builder static
+NATIVE := $(wildcard native/*.c)
+build/ptext-static: build/ptext $(NATIVE) $(if $(LIBC),as-asked)
+	python3 tools/builder static x86_64 $(LIBC)
+
+.PHONY: as-asked
+as-asked:
 
 lib: build/libptext.a
 
-# (The tests take build/libptext.a as it is, too.)
+# (The tests take these as they are, too.)
 ifndef PTEXT_AS_BUILT
 build/libptext.a: bindings/c/ptext.c bindings/c/stream.c bindings/c/ptext.h $(BUILDER) $(SOURCES)
 	@$(WITH_RT)
 	python3 tools/builder library
+
+build/ptext-second: build/ptext $(BUILDER) $(NATIVE)
+	@$(WITH_RT)
+	python3 tools/builder second
 endif
+
+second: build/ptext-second
 
 install-lib: build/libptext.a
 	@python3 tools/install.py library $(INSTALL_TO)
@@ -174,9 +189,6 @@ uninstall:
 
 dist: build/ptext
 	@python3 tools/dist.py archives build/dist $(if $(CHANGED),--changed)
-
-dist-static: build/ptext-static
-	@python3 tools/dist.py static build/dist
 
 deb: build/ptext
 	@python3 tools/dist.py deb build/dist

@@ -7,6 +7,7 @@
   bench/run.py PTEXT tool                  the mean of each tool (means.py)
   bench/run.py PTEXT length                by the length of a line (lengths.py)
   bench/run.py PTEXT work                  by work (works.py)
+  bench/run.py PTEXT start                 the time of a start, by each way to call it (starts.py)
 
 Each case gives both the same input, in turn and five times, and the best of each counts. The outputs are compared
 first. Where valgrind is there, the instructions of ptext in user space are counted, too: they are the same on every
@@ -24,10 +25,11 @@ sys.path.insert(1, f"{os.path.dirname(HERE)}/tools")
 
 import lengths
 import means
+import starts
 import works
 from project import run_script
 
-PARTS = {"tool": means.run, "length": lengths.run, "work": works.run}
+PARTS = {"tool": means.run, "length": lengths.run, "work": works.run, "start": starts.run}
 
 
 def keep_table(path, part, text):

@@ -20,7 +20,7 @@ fail() {
 }
 
 # Nothing that an earlier run made is tested.
-rm -f "$log" crates/ptext/out/ptext* build/libptext* build/ptext-static build/page/ptext.html build/onefile/*
+rm -f "$log" crates/ptext/out/ptext* build/libptext* build/ptext-* build/page/ptext.html build/onefile/*
 follow "$log" python3 tests/edits.py || fail "a wrong body is missing, or does not show that a contract refuses it"
 status=0
 follow "$log" rt ci || status=$?
@@ -47,7 +47,7 @@ if [ -e crates/ptext/out/ptext.o ]; then
     mv build/ptext.o.new build/ptext.o
 fi
 unset MAKEFLAGS MFLAGS MAKELEVEL
-for target in static lib page $(has wasm-opt wasm2c && echo onefile); do
+for target in static lib page second $(has wasm-opt wasm2c && echo onefile); do
     follow "$log" make --no-print-directory "$target" || fail "make $target"
 done
 follow "$log" sh tests/built.sh build/ptext || fail "a test of what was built"

@@ -66,6 +66,12 @@ elif ! has wasm-opt wasm2c; then
 fi
 if is_current build/ptext-static "make static"; then
     test_of "the static program" sh tests/static.sh build/ptext-static
+    for file in build/ptext-by-name build/ptext-by-name-static; do
+        test_of "the tools by their own names" python3 tests/by_name.py "$file" "$program"
+    done
+fi
+if is_current build/ptext-second "make second"; then
+    test_of "the second compiler" python3 tests/witness.py "$program" build/ptext-second 20000
 fi
 sed -n 's/^left out: //p' "$room/log" | sort -u >"$room/left.out"
 echo "all tests took $(($(date +%s) - began)) s"

@@ -1,7 +1,7 @@
 #!/bin/sh
-# Tests the installation: into an empty folder, the program and each tool by its name, the page and the completion of
-# each, and that nothing is left behind; and that also below another root, into folders of other names, and beside files
-# that were there before.
+# Tests the installation: into an empty folder, the program and each tool by its name, as links to one file and as
+# scripts, the page and the completion of each, and that nothing is left behind; and that also below another root, into
+# folders of other names, and beside files that were there before.
 # usage: tests/install.sh (the program is built)
 set -u
 top=$(cd "$(dirname "$0")/.." && pwd)
@@ -28,18 +28,45 @@ listed() {
     (cd "$1" && find . | sort | tr '\n' ' ')
 }
 
+# named FOLDER: tests the tools by their own names in this folder, and that of the program
+named() {
+    bin=$1/libexec/ptext/bin
+    is "the tools by name" "comm cut join paste tr uniq" "$(ls "$bin" | tr '\n' ' ' | sed 's/ $//')"
+    for words in 'cut -c 1' 'paste -s -' 'uniq -c' 'tr a-b x' 'comm - none' 'join - none' 'cut -x' 'tr a'; do
+        # The words of a row have no blanks of their own.
+        set -- "$1" $words
+        name=$2
+        is "$words" "$(shift && answer "$room/empty/bin/ptext" "$@")" "$(shift 2 && answer "$bin/$name" "$@")"
+    done
+    is "a value with blanks" "a b" "$(printf 'a b\n' | "$bin/cut" -d 'x' -f '1 2')"
+    is "cut by name" "a" "$(printf 'ab\n' | PATH=$bin:$PATH cut -c 1)"
+    is "a link to it" "a" "$(ln -sf "$bin/cut" "$room/cut" && printf 'ab\n' | "$room/cut" -c 1)"
+}
+
+# (A tree of the source, with a program that no C compiler linked once more.)
+mkdir -p "$room/tree/build"
+tar -C "$top" -cf - --exclude='crates/*/out' Makefile VERSION HANDLES crates.txt crates docs man completion debian \
+    tools native bindings | tar -xf - -C "$room/tree"
+cp "$top/build/ptext" "$room/tree/build/ptext"
+
 mkdir "$room/empty" "$room/root" "$room/used"
+make -s -C "$room/tree" PTEXT_AS_BUILT=yes install-tools PREFIX="$room/scripts" DESTDIR= >"$room/said" 2>&1 ||
+    cat "$room/said"
 install install-tools PREFIX="$room/empty" DESTDIR=
-bin=$room/empty/libexec/ptext/bin
-is "the tools by name" "comm cut join paste tr uniq" "$(ls "$bin" | tr '\n' ' ' | sed 's/ $//')"
-for words in 'cut -c 1' 'paste -s -' 'uniq -c' 'tr a-b x' 'comm - none' 'join - none' 'cut -x' 'tr a'; do
-    # The words of a row have no blanks of their own.
-    set -- $words
-    name=$1
-    is "$words" "$(answer "$room/empty/bin/ptext" "$@")" "$(shift && answer "$bin/$name" "$@")"
-done
-is "a value with blanks" "a b" "$(printf 'a b\n' | "$bin/cut" -d 'x' -f '1 2')"
-is "cut by name" "a" "$(printf 'ab\n' | PATH=$bin:$PATH cut -c 1)"
+is "scripts, where no C compiler linked the tools" "exec $room/scripts/bin/ptext cut \"\$@\"" \
+    "$(tail -n 1 "$room/scripts/libexec/ptext/bin/cut")"
+named "$room/scripts"
+make -s -C "$room/tree" uninstall PREFIX="$room/scripts" DESTDIR= >"$room/said"
+is "nothing is left of them" "" "$(ls -Ad "$room/scripts" 2>/dev/null)"
+if [ -x "$top/build/ptext-by-name" ]; then
+    is "one file with six names" "6 ../tool" "$(for tool in comm cut join paste tr uniq; do
+        readlink "$room/empty/libexec/ptext/bin/$tool"; done | uniq -c | sed 's/^ *//')"
+    is "by no tool's name" "ptext: first word: cut, paste, join, comm, uniq or tr
+status 2" "$(answer "$room/empty/libexec/ptext/tool" -c 1)"
+else
+    needed "the tools as one file (build/ptext-by-name is not there: make static, which needs gcc, links it)"
+fi
+named "$room/empty"
 for page in ptext.1 ptext-comm.1 ptext-cut.1 ptext-join.1 ptext-parts.1 ptext-paste.1 ptext-tr.1 ptext-uniq.1 \
     ptext-replacing.7; do
     is "page $page" yes "$([ -s "$room/empty/share/man/man${page##*.}/$page" ] && echo yes)"
@@ -66,7 +93,8 @@ install uninstall PREFIX="$room/empty" DESTDIR=
 is "nothing is left" "" "$(ls -A "$room/empty")"
 
 install install install-tools PREFIX=/usr DESTDIR="$room/root"
-is "no root in a script" 'exec /usr/bin/ptext uniq "$@"' "$(tail -n 1 "$room/root/usr/libexec/ptext/bin/uniq")"
+is "no root in a file" "" "$(grep -rl "$room" "$room/root")"
+is "a tool below a root" b "$(echo ab | "$room/root/usr/libexec/ptext/bin/cut" -c 2)"
 install uninstall PREFIX=/usr DESTDIR="$room/root"
 is "nothing is left below a root" "" "$(ls -A "$room/root")"
 
@@ -126,7 +154,7 @@ pages in man, completion for bash, zsh and fish, $room/parts.of/opt/data/ptext/p
 install install-tools "$@" INSTALL_PROGRAM='install -m 511'
 is "the mode of INSTALL_PROGRAM" 511 "$(stat -c %a "$room/parts.of/usr/progs/ptext")"
 is "its program, with its symbols" same "$(cmp -s "$top/build/ptext" "$room/parts.of/usr/progs/ptext" && echo same)"
-is "a tool in another libexec" 'exec /usr/progs/ptext uniq "$@"' "$(tail -n 1 "$room/parts.of/usr/lib/ptext/bin/uniq")"
+is "a tool in another libexec" yes "$([ -x "$room/parts.of/usr/lib/ptext/bin/uniq" ] && echo yes)"
 is "the folders" "opt opt/data usr usr/lib usr/man usr/progs " \
     "$(cd "$room/parts.of" && find . -mindepth 1 -maxdepth 2 | sed 's|^[.]/||' | sort | tr '\n' ' ')"
 install uninstall "$@"
@@ -138,28 +166,33 @@ is "an empty folder" "mandir is empty. Nothing was done." \
 is "nothing is left of both" "" "$(ls -A "$room/parts.of")"
 set --
 
-# The program without shared libraries is taken if it is not older than the other one, unless STATIC=no. (Here it is the
-# other one with one more line.)
+# The program without shared libraries is taken if it is not older than the other one, unless STATIC=no, with the license
+# of its C library; and so is the file of the tools. (Here they are the other one with one more line, and with two.)
 if [ -f /usr/share/common-licenses/LGPL-2.1 ]; then
-    mkdir -p "$room/tree/build" "$room/static"
-    tar -C "$top" -cf - --exclude='crates/*/out' Makefile VERSION HANDLES crates.txt crates docs man completion \
-        python tools |
-        tar -xf - -C "$room/tree"
-    cp "$top/build/ptext" "$room/tree/build/ptext"
+    mkdir "$room/static"
     { cat "$top/build/ptext" && echo; } >"$room/tree/build/ptext-static"
+    { cat "$top/build/ptext" && echo && echo; } >"$room/tree/build/ptext-by-name-static"
     set -- PTEXT_AS_BUILT=yes PREFIX="$room/static" DESTDIR= INSTALL_PROGRAM='install -m 755'
-    for wanted in static-yes dynamic-no dynamic-; do
-        make -s -C "$room/tree" install "$@" STATIC="${wanted#*-}" >"$room/said"
-        [ "${wanted%-*}" = static ] && other=-static || other=
+    for wanted in static-yes-musl static-yes-glibc dynamic-no-musl dynamic--musl; do
+        echo "${wanted##*-}" >"$room/tree/build/ptext-static.libc"
+        given=${wanted#*-}
+        make -s -C "$room/tree" install install-tools "$@" STATIC="${given%-*}" >"$room/said"
+        [ "${wanted%%-*}" = static ] && other=-static || other=
         is "the program that is taken ($wanted)" same \
             "$(cmp -s "$room/tree/build/ptext$other" "$room/static/bin/ptext" && echo same)"
         is "it says which ($wanted)" 1 "$(grep -c "bin/ptext (of build/ptext$other[),]" "$room/said")"
-        [ "$other" = "" ] ||
-            is "the license of its C library" yes \
-                "$(grep -q 'GNU LESSER GENERAL' "$room/static/share/ptext/NOTICES" && echo yes)"
+        is "the tools that are taken ($wanted)" "${other:+same}" "$(cmp -s "$room/tree/build/ptext-by-name-static" \
+            "$room/static/libexec/ptext/tool" && echo same)"
+        case $wanted in
+            static-*-glibc) license='GNU LESSER GENERAL' ;;
+            static-*-musl) license='Rich Felker' ;;
+            *) license= ;;
+        esac
+        [ "$license" = "" ] || is "the license of its C library ($wanted)" yes \
+            "$(grep -q "$license" "$room/static/share/ptext/NOTICES" && echo yes)"
         make -s -C "$room/tree" uninstall PREFIX="$room/static" DESTDIR= >/dev/null
         is "nothing is left of it ($wanted)" "" "$(ls -A "$room/static")"
-        touch -d 2001-01-01 "$room/tree/build/ptext-static"
+        [ "$given" != no-musl ] || touch -d 2001-01-01 "$room/tree/build/ptext-static"
     done
     set --
 fi
@@ -232,7 +265,7 @@ as=
 [ "$(id -u)" = 0 ] && as='setpriv --reuid=65534 --regid=65534 --clear-groups'
 # (Nobody may not be able to read this folder.)
 mkdir -p "$room/readable"
-tar -C "$top" -cf - tools man docs completion python VERSION crates/ptopts/src/tool.rt build/ptext |
+tar -C "$top" -cf - tools man docs completion bindings VERSION crates/ptopts/src/tool.rt build/ptext |
     tar -xf - -C "$room/readable"
 chmod -R a+rX "$room/readable"
 for python in python3 /usr/bin/python3; do

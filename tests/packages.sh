@@ -31,19 +31,24 @@ dist() {
 
 dist "$room/one" >"$room/said"
 (umask 077 && cd / && dist "$room/two" >"$room/said")
-for file in "ptext-$version.tar.gz" "ptext-$version-linux-x86_64.tar.gz" SHA256SUMS; do
+# (There is one of the program for each processor for which it is built.)
+programs=$(for name in x86_64 aarch64; do
+    at=${name#x86_64}
+    [ ! -e "$top/build/${at:+$at/}ptext" ] || echo "ptext-$version-linux-$name.tar.gz"
+done)
+for file in "ptext-$version.tar.gz" $programs SHA256SUMS; do
     same "$file, made twice" "$room/one/$file" "$room/two/$file"
 done
 is "checksums" "" "$(cd "$room/one" && sha256sum --quiet -c SHA256SUMS 2>&1)"
-is "nothing else is made" "SHA256SUMS ptext-$version-linux-x86_64.tar.gz ptext-$version.tar.gz " \
-    "$(ls -A "$room/one" | LC_ALL=C sort | tr '\n' ' ')"
+is "nothing else is made" "$(echo SHA256SUMS $(printf '%s\n' $programs | LC_ALL=C sort) ptext-$version.tar.gz)" \
+    "$(echo $(ls -A "$room/one" | LC_ALL=C sort))"
 
 mkdir "$room/source" "$room/program"
 tar -xzf "$room/one/ptext-$version.tar.gz" -C "$room/source" --strip-components=1
 tar -xzf "$room/one/ptext-$version-linux-x86_64.tar.gz" -C "$room/program" --strip-components=1
 commit=$(cat "$room/program/COMMIT")
 is "what is said" \
-    "made $room/two/ptext-$version.tar.gz, ptext-$version-linux-x86_64.tar.gz and SHA256SUMS, of commit $commit" \
+    "made $room/two/ptext-$version.tar.gz$(printf ', %s' $programs) and SHA256SUMS, of commit $commit" \
     "$(cat "$room/said")"
 if [ -e "$top/.git" ] && command -v git >/dev/null; then
     is "the commit" "$(git -c safe.directory="$top" -C "$top" rev-parse HEAD)" "${commit% changed}"
@@ -80,28 +85,27 @@ for library in $(sed -n 's/^pt[a-z]*: *//p' "$top/crates.txt" | tr ' ' '\n' | gr
     done
 done
 
-# The archive of the static program has all that the other one has, and what its license asks for. SHA256SUMS beside the
-# archives has all of them.
-if [ -x "$top/build/ptext-static" ] && [ -f "$top/build/ptext.o" ] && has rt; then
-    python3 "$top/tools/dist.py" static "$room/one" >"$room/said" 2>&1 || { cat "$room/said"; bad=$((bad + 1)); }
-    static=ptext-$version-linux-x86_64-static
-    mkdir "$room/static"
-    tar -xzf "$room/one/$static.tar.gz" -C "$room/static" --strip-components=1
-    is "what the static archive has besides" "relink/README relink/liblibc_c.a relink/libos_c.a relink/ptext.o " \
-        "$(for folder in program static; do (cd "$room/$folder" && find . -type f | sed 's|^[.]/||'); done |
-            LC_ALL=C sort | uniq -u | tr '\n' ' ')"
-    is "its checksums" "" "$(cd "$room/static" && sha256sum --quiet -c SHA256SUMS 2>&1)"
-    same "its program" "$room/static/bin/ptext" "$top/build/ptext-static"
-    is "NOTICES of it name the C library" yes "$(grep -q "GNU C Library" "$room/static/NOTICES" && echo yes)"
-    is "a tool of it by its own name" '1 a' "$(echo a | "$room/static/libexec/ptext/bin/uniq" -c)"
-    gcc -static -s -o "$room/linked" "$room/static/relink/ptext.o" "$room/static/relink/libos_c.a" \
-        "$room/static/relink/liblibc_c.a"
-    is "it can be linked anew" acd "$(echo abcd | "$room/linked" cut -c 3-,1)"
-    is "the checksums beside the archives" "3 OK" \
-        "$(cd "$room/one" && echo "$(wc -l <SHA256SUMS) $(sha256sum --quiet -c SHA256SUMS >/dev/null 2>&1 && echo OK)")"
+# The archive has the static program, if it was linked with musl: one with the GNU C library would have to come with what
+# links it anew. So have the tools by their own names.
+if [ "$(cat "$top/build/ptext-static.libc" 2>/dev/null)" = musl ]; then
+    same "its program" "$room/program/bin/ptext" "$top/build/ptext-static"
+    same "its tools" "$room/program/libexec/ptext/tool" "$top/build/ptext-by-name-static"
+    is "they need no shared libraries" "" "$(readelf -lW "$room/program/bin/ptext" "$room/program/libexec/ptext/tool" |
+        grep INTERP)"
+    is "NOTICES name their C library" yes "$(grep -q 'the C library musl' "$room/program/NOTICES" && echo yes)"
 else
-    left_out "the archive of the static program (make static builds it; the toolchain has what is linked with it)"
+    left_out "the archive with a static program (musl-tools is not there, or make static was not run)"
 fi
+# Without what a C compiler linked, it has the program of the toolchain, and scripts.
+mkdir -p "$room/source/build" "$room/scripts"
+cp "$top/build/ptext" "$room/source/build"
+python3 "$room/source/tools/dist.py" archives "$room/of.scripts" >"$room/said" 2>&1 || cat "$room/said"
+rm -r "$room/source/build"
+tar -xzf "$room/of.scripts/ptext-$version-linux-x86_64.tar.gz" -C "$room/scripts" --strip-components=1
+is "a tool as a script" '1 a' "$(echo a | "$room/scripts/libexec/ptext/bin/uniq" -c)"
+ln -s "$room/scripts/libexec/ptext/bin/uniq" "$room/script.link"
+is "and through a link" '1 b' "$(echo b | "$room/script.link" -c)"
+is "it is a script" '#!/bin/sh' "$(head -n 1 "$room/scripts/libexec/ptext/bin/uniq")"
 
 # The commands of INSTALL.md.
 lines() {
@@ -231,7 +235,7 @@ elif command -v dpkg-buildpackage >/dev/null && command -v dh >/dev/null; then
     mkdir "$room/a b"
     (umask 077 && cd / && TMPDIR="$room/a b" python3 "$top/tools/dist.py" deb "$room/two") >"$room/said" 2>&1
     wait $! || { cat "$room/said.one"; echo "FAILED: make deb, so its packages are not looked into"; exit 1; }
-    deb=ptext_$version-1_amd64.deb tools=ptext-tools_$version-1_all.deb
+    deb=ptext_$version-1_amd64.deb tools=ptext-tools_$version-1_amd64.deb
     list=ptext_$version-1_amd64
     is "what it says" "made in $room/two: $tools, $list.buildinfo, $list.changes, $deb" "$(cat "$room/said")"
     for file in "$deb" "$tools"; do
@@ -253,7 +257,8 @@ elif command -v dpkg-buildpackage >/dev/null && command -v dh >/dev/null; then
         if command -v readelf >/dev/null; then
             is "it is stripped" "" "$(readelf -S "$usr/bin/ptext" | grep -F .symtab)"
         fi
-        is "its tools by name" 'exec /usr/bin/ptext uniq "$@"' "$(tail -n 1 "$usr/libexec/ptext/bin/uniq")"
+        is "its tools by name" '1 a' "$(echo a | "$usr/libexec/ptext/bin/uniq" -c)"
+        is "they are stripped" "" "$(readelf -S "$usr/libexec/ptext/tool" | grep -F .symtab)"
         for name in cut paste join comm uniq tr; do
             same "the page of $name" "$usr/libexec/ptext/man/man1/$name.1.gz" "$usr/share/man/man1/ptext-$name.1.gz"
             is "$name in fish" yes "$([ -s "$usr/share/fish/vendor_completions.d/$name.fish" ] && echo yes)"

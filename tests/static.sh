@@ -1,6 +1,7 @@
 #!/bin/sh
 # Tests the program without shared libraries: that it names none; as nobody, in a folder that it sees as the root and
-# that contains nothing else than its inputs; and then all of tests/program.sh.
+# that contains nothing else than its inputs; the moves of bytes that are its own; and then all of tests/program.sh and
+# tests/calls.sh.
 # usage: tests/static.sh PROGRAM
 set -u
 program=$(realpath "${1:?which program?}")
@@ -53,4 +54,10 @@ else
     answers "cut: unknown option in -q${newline}status 2" cut -q
     echo "$((count - bad)) of $count checks without shared libraries as wanted"
 fi
-sh program.sh "$program" && [ "$bad" = 0 ]
+if has gcc; then
+    gcc -std=c11 -O3 -fno-builtin -fno-tree-loop-distribute-patterns -o "$room/copying" copying.c && "$room/copying" ||
+        bad=$((bad + 1))
+else
+    left_out "moves of bytes (there is no gcc)"
+fi
+sh program.sh "$program" && sh calls.sh "$program" && [ "$bad" = 0 ]

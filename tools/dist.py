@@ -3,11 +3,11 @@
 list of the packages has not: it names the time and the environment.)
 
   python3 tools/dist.py archives FOLDER [--changed]   ptext-VERSION.tar.gz, the source;
-                                                      ptext-VERSION-linux-x86_64.tar.gz, the stripped program with its
-                                                      pages, docs and completion, and the tools by their own names
-  python3 tools/dist.py static FOLDER                 ptext-VERSION-linux-x86_64-static.tar.gz: the same with the program
-                                                      without shared libraries (make static), and what the license of the
-                                                      C library asks for, to link it anew
+                                                      ptext-VERSION-linux-x86_64.tar.gz, the program with its pages, docs
+                                                      and completion, and the tools by their own names: the static one,
+                                                      if it was linked with musl, and else the one that needs the shared
+                                                      C library; and the same for each other processor for which
+                                                      `make static TARGET=..` linked it
   python3 tools/dist.py node FOLDER                   ptext-VERSION.tgz, the package for node (make page), as npm packs
                                                       it
   python3 tools/dist.py onefile FOLDER                ptext-VERSION-onefile.tar.xz: the program as one file in C, with
@@ -35,10 +35,9 @@ import tempfile
 
 sys.dont_write_bytecode = True
 
-from install import LGPL, call_git, find_source_id, list_files, list_files_of_tools, make_notice_of_c_library
-from install import read_bytes, read_lines
+from install import BUILD, Program, call_git, find_source_id, list_files, list_files_of_tools, read_bytes, read_lines
 from names import NAMES
-from project import ARCHIVES, TOP, Failed, find_kit, read_version, run_script
+from project import TOP, Failed, read_version, run_script
 
 VERSION = read_version()
 # The time that every file bears, in seconds: that of this version, if SOURCE_DATE_EPOCH names no other.
@@ -79,15 +78,6 @@ The program contains code of others: NOTICES has the licenses. SHA256SUMS has th
 (`sha256sum -c SHA256SUMS`), and COMMIT names the commit of the source.
 """
 
-
-# How whoever gets the static program links it with another C library, as the license of that library demands.
-RELINK = """# To link the program anew
-
-The program contains the GNU C library (LGPL-2.1 or later; its license is in NOTICES). To link it with another version of
-that library, in this folder:
-
-    gcc -static -s -o ../bin/ptext ptext.o {archives}
-"""
 
 ONE_FILE = """# ptext as one file
 
@@ -144,17 +134,22 @@ def find_changes(members):
 
 
 def write_archive(path, front, members, commit):
-    """An archive of members, each a name, a mode and bytes, below the folder `front`."""
+    """An archive of members, each a name, a mode and bytes, below the folder `front`. (A link has no mode, and the name
+    to which it leads.)"""
     members = [*members, ("COMMIT", 0o644, f"{commit}\n".encode())]
-    members.append(("SHA256SUMS", 0o644, make_sums(members).encode()))
+    members.append(("SHA256SUMS", 0o644, make_sums(member for member in members if member[1] is not None).encode()))
     is_xz = path.endswith(".xz")
     with open(path, "wb") as raw, lzma.open(raw, "wb") if is_xz else gzip.GzipFile("", "wb", 9, raw, mtime=0) as packed:
         with tarfile.open(mode="w", fileobj=packed, format=tarfile.USTAR_FORMAT) as packing:
             for name, mode, text in sorted(members):
                 about = tarfile.TarInfo(f"{front}/{name}")
-                about.size, about.mode, about.mtime = len(text), mode, TIME
-                about.uname = about.gname = "root"
-                packing.addfile(about, io.BytesIO(text))
+                about.mtime, about.uname, about.gname = TIME, "root", "root"
+                if mode is None:
+                    about.type, about.linkname, about.mode = tarfile.SYMTYPE, text, 0o777
+                    packing.addfile(about)
+                else:
+                    about.size, about.mode = len(text), mode
+                    packing.addfile(about, io.BytesIO(text))
 
 
 def make_source_members():
@@ -164,12 +159,15 @@ def make_source_members():
     return [(path, find_mode(f"{TOP}/{path}"), read_bytes(f"{TOP}/{path}")) for path in find_source_files()]
 
 
-def make_program_members(commit, program=None, notices=b""):
-    """The program (that of build/, stripped, or this one) as `make install install-tools` installs it, the docs that
-    its README names, and how to remove it."""
-    installed = [*list_files(BELOW, commit), *list_files_of_tools(BELOW, make_script, commit)]
-    if program is not None:
-        installed = [(name, mode, program if name == "bin/ptext" else text) for name, mode, text in installed]
+def find_program(folder):
+    """The program that an archive has. (One with the GNU C library in it would need parts to link it anew.)"""
+    static = Program(folder, True)
+    return static if static.path and static.libc == "musl" else Program(folder, False)
+
+
+def make_program_members(commit, program):
+    """The program as `make install install-tools` installs it, the docs that its README names, and how to remove it."""
+    installed = [*list_files(BELOW, program, commit), *list_files_of_tools(BELOW, program, make_script, commit)]
     names = "".join(f"{name}\n" for name in sorted([*(name for name, _, _ in installed), "share/ptext/files"]))
     docs = [f"docs/{name}" for name in os.listdir(f"{TOP}/docs") if name.endswith((".md", ".svg"))]
     read = ["README.md", "CHANGELOG.md", "CONTRIBUTING.md", "LICENSE-MIT", "LICENSE-APACHE", *docs]
@@ -179,7 +177,7 @@ def make_program_members(commit, program=None, notices=b""):
         *installed,
         ("share/ptext/files", 0o644, names.encode()),
         ("INSTALL.md", 0o644, INSTALL.replace("{folders}", " ".join(own)).encode()),
-        ("NOTICES", 0o644, read_bytes(f"{TOP}/debian/copyright") + notices),
+        ("NOTICES", 0o644, read_bytes(f"{TOP}/debian/copyright")),
         *((name, 0o644, read_bytes(f"{TOP}/{name}")) for name in read),
     ]
 
@@ -244,35 +242,17 @@ def make_archives(folder, is_changed):
     if not is_changed:
         refuse_changes(changed)
     commit = find_commit(changed)
-    named, built = f"ptext-{VERSION}", f"ptext-{VERSION}-linux-x86_64"
+    named = f"ptext-{VERSION}"
+    folders = {"x86_64": BUILD, "aarch64": f"{BUILD}/aarch64"}
+    built = {f"{named}-linux-{name}": at for name, at in folders.items() if os.path.isfile(f"{at}/ptext")}
     with tempfile.TemporaryDirectory() as room:
         write_archive(f"{room}/{named}.tar.gz", named, source, commit)
-        write_archive(f"{room}/{built}.tar.gz", built, make_program_members(commit), commit)
+        for name, at in built.items():
+            write_archive(f"{room}/{name}.tar.gz", name, make_program_members(commit, find_program(at)), commit)
         put_all(room, folder)
     write_sums(folder)
-    print(f"made {folder}/{named}.tar.gz, {built}.tar.gz and SHA256SUMS, of commit {commit}")
-
-
-def make_static(folder):
-    """The archive of the static program."""
-    needed = [f"{TOP}/build/ptext-static", f"{TOP}/build/ptext.o", LGPL]
-    lacking = [path for path in needed if not os.path.isfile(path)]
-    if lacking:
-        raise Failed(f"there is no {lacking[0]} (make static builds the program). No archive was made.")
-    kit, commit = find_kit(), find_commit(find_changes(make_source_members()))
-    named = f"ptext-{VERSION}-linux-x86_64-static"
-    notices = b"\n" + make_notice_of_c_library("relink/ has what is needed to link it with another.")
-    links = [f"{TOP}/build/ptext.o", *(f"{kit}/{name}" for name in ARCHIVES)]
-    members = [
-        *make_program_members(commit, read_bytes(f"{TOP}/build/ptext-static"), notices),
-        *((f"relink/{os.path.basename(path)}", 0o644, read_bytes(path)) for path in links),
-        ("relink/README", 0o644, RELINK.format(archives=" ".join(map(os.path.basename, ARCHIVES))).encode()),
-    ]
-    with tempfile.TemporaryDirectory() as room:
-        write_archive(f"{room}/{named}.tar.gz", named, members, commit)
-        put_all(room, folder)
-    write_sums(folder)
-    print(f"made {folder}/{named}.tar.gz and SHA256SUMS, of commit {commit}")
+    made = "".join(f", {name}.tar.gz" for name in built)
+    print(f"made {folder}/{named}.tar.gz{made} and SHA256SUMS, of commit {commit}")
 
 
 def make_node(folder):
@@ -323,8 +303,11 @@ def copy_source(top):
         os.chmod(f"{top}/{name}", mode)
         os.utime(f"{top}/{name}", (TIME, TIME))
     os.mkdir(f"{top}/build")
-    shutil.copyfile(f"{TOP}/build/ptext", f"{top}/build/ptext")
-    os.chmod(f"{top}/build/ptext", 0o755)
+    program = Program(BUILD, False)
+    for path in (program.path, program.by_name):
+        if path:
+            shutil.copyfile(path, f"{top}/build/{os.path.basename(path)}")
+            os.chmod(f"{top}/build/{os.path.basename(path)}", 0o755)
 
 
 def make_packages(folder):
@@ -352,7 +335,6 @@ def main():
     words = [word for word in sys.argv[1:] if word != "--changed"]
     does = {
         "archives": lambda folder: make_archives(folder, "--changed" in sys.argv),
-        "static": make_static,
         "node": make_node,
         "onefile": make_onefile,
         "deb": make_packages,

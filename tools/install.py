@@ -11,8 +11,9 @@ The names are those of other projects: bindir (PREFIX/bin), libexecdir (PREFIX/l
 (datadir/man), libdir (PREFIX/lib), includedir (PREFIX/include) and INSTALL_PROGRAM, the command that puts the program
 in its place (without one, it is stripped).
 
-The program is build/ptext-static, which starts faster, if `make static` made it of build/ptext as it is, and otherwise
-build/ptext. With STATIC=no it is build/ptext in any case.
+The program is build/ptext-static, which starts faster, if it was linked of build/ptext as it is, and otherwise
+build/ptext. With STATIC=no it is build/ptext in any case. The tools by their own names are one file, linked of the same
+object file in the same way, with six names; where no C compiler linked it, each is a script that starts the program.
 
 Each file and each folder that was made is noted in datadir/ptext/installed. Every path that is written to begins with
 DESTDIR, but no file contains it. If something cannot be written, the earlier state is restored.
@@ -52,12 +53,21 @@ OTHERS_OF_TOOLS = [
     *((f"fish/vendor_completions.d/{name}.fish", 0o644, "completion/ptext-tools.fish") for name in NAMES),
 ]
 VARIABLES = ("bindir", "libexecdir", "datadir", "mandir", "libdir", "includedir", "INSTALL_PROGRAM", "STATIC")
-# The program that needs the system's C library, and the one that contains one.
-DYNAMIC, STATIC = f"{TOP}/build/ptext", f"{TOP}/build/ptext-static"
+BUILD = f"{TOP}/build"
 # The licenses of this source and of the code that is linked with it, as archives have them too.
 LICENSES = [("LICENSE-MIT",) * 2, ("LICENSE-APACHE",) * 2, ("NOTICES", "debian/copyright")]
 # The license of the C library, where Debian keeps it.
 LGPL = "/usr/share/common-licenses/LGPL-2.1"
+NOTICE_OF_GLIBC = b"""
+Files: bin/ptext
+ libexec/ptext/tool
+Copyright: the contributors of the GNU C Library
+License: LGPL-2.1+
+Comment: The program is linked with the static C library of Debian (libc6-dev).
+ The source of ptext links it with another, by `make static`. The license
+ follows.
+
+"""
 
 
 def read_bytes(file):
@@ -78,22 +88,36 @@ def strip_program(program):
         return read_bytes(program if did.returncode else f"{room}/program")
 
 
+def find_current(path):
+    """A file that was linked of the program beside it, if it is there and no older."""
+    program = f"{os.path.dirname(path)}/ptext"
+    is_there = os.path.isfile(path) and os.path.isfile(program)
+    return path if is_there and os.path.getmtime(path) >= os.path.getmtime(program) else None
+
+
+class Program:
+    """The program of a folder, build/ or one below it, as it is handed on: the static one, or that with the shared C
+    library."""
+
+    def __init__(self, folder, is_static):
+        kind = "-static" if is_static else ""
+        self.is_static, self.path = is_static, find_current(f"{folder}/ptext{kind}")
+        # the tools by their own names as one file, if a C compiler linked it
+        self.by_name = find_current(f"{folder}/ptext-by-name{kind}")
+        self.libc = "".join(read_lines(f"{folder}/ptext-static.libc")) if is_static else ""
+
+    def make_notices(self):
+        """The licenses of what a static program contains."""
+        notices = read_bytes(f"{TOP}/debian/copyright")
+        return notices if self.libc == "musl" else notices + NOTICE_OF_GLIBC + read_bytes(LGPL)
+
+
 def find_program(given):
     """The program to install: the static one if there is one of build/ptext as it is, and the license of the C library
     that it contains is there too."""
-    if given == "no" or not all(os.path.isfile(path) for path in (DYNAMIC, STATIC, LGPL)):
-        return DYNAMIC
-    return STATIC if os.path.getmtime(STATIC) >= os.path.getmtime(DYNAMIC) else DYNAMIC
-
-
-def make_notice_of_c_library(relinked):
-    """The notice that goes with the static program, whose C library can be replaced as this text says."""
-    return (
-        b"Files: bin/ptext\nCopyright: the contributors of the GNU C Library\nLicense: LGPL-2.1+\n"
-        b"Comment: The program is linked with the static C library of Debian (libc6-dev).\n"
-        + f" {relinked} The license follows.\n\n".encode()
-        + read_bytes(LGPL)
-    )
+    static = Program(BUILD, True)
+    is_licensed = static.libc == "musl" or os.path.isfile(LGPL)
+    return static if given != "no" and static.path and is_licensed else Program(BUILD, False)
 
 
 def call_git(*words):
@@ -213,7 +237,7 @@ class Place:
             # (A write that fails, as on a full disk, does not name the file itself.)
             raise OSError(why.errno, why.strerror, path if why.filename is None else why.filename) from why
         if self.install_program and path == f"{self.destdir}{self.folders['bindir']}/ptext":
-            did = subprocess.run([*shlex.split(self.install_program), self.program, new], check=False)
+            did = subprocess.run([*shlex.split(self.install_program), self.program.path, new], check=False)
             if did.returncode:
                 raise OSError(0, f"{self.install_program} failed", path)
         if os.path.lexists(path):
@@ -246,11 +270,12 @@ def list_pages():
     return sorted([manual.NAME, *(name for name in os.listdir(f"{TOP}/man") if not name.endswith(".3"))])
 
 
-def list_files(where, commit=None, program=DYNAMIC):
-    """The files to install into these folders: the path, the mode, and the bytes."""
+def list_files(where, program, commit=None):
+    """The files to install into these folders: the path, the mode, and the bytes; a link has no mode, and the name to
+    which it leads."""
     pages = list_pages()
     return [
-        (f"{where['bindir']}/ptext", 0o755, strip_program(program)),
+        (f"{where['bindir']}/ptext", 0o755, strip_program(program.path)),
         (f"{where['bindir']}/ptext-parts", 0o755, read_bytes(f"{TOP}/{PARTS}")),
         *((f"{where['mandir']}/man{name[-1]}/{name}", 0o644, make_page(name, commit)) for name in pages),
         *((f"{where['datadir']}/{name}", mode, read_bytes(f"{TOP}/{source}")) for name, mode, source in OTHERS),
@@ -259,18 +284,25 @@ def list_files(where, commit=None, program=DYNAMIC):
 
 def list_files_of_program(where, program):
     """The files of `make install`, with the license of the C library if the program contains it."""
-    if program != STATIC:
-        return list_files(where)
-    notice = make_notice_of_c_library("The source of ptext links it with another, by `make static`.")
-    return [*list_files(where, program=program), (f"{where['datadir']}/ptext/NOTICES", 0o644, notice)]
+    notices = [(f"{where['datadir']}/ptext/NOTICES", 0o644, program.make_notices())] if program.is_static else []
+    return [*list_files(where, program), *notices]
 
 
-def list_files_of_tools(where, make_tool=make_script, commit=None):
+def list_tools(where, program, make_tool):
+    """Each tool by its own name: a link to one file, or a script where there is none."""
+    beside = f"{where['libexecdir']}/ptext"
+    if not program.by_name:
+        return [(f"{beside}/bin/{name}", 0o755, make_tool(where["bindir"], name)) for name in NAMES]
+    links = [(f"{beside}/bin/{name}", None, "../tool") for name in NAMES]
+    return [(f"{beside}/tool", 0o755, read_bytes(program.by_name)), *links]
+
+
+def list_files_of_tools(where, program, make_tool=make_script, commit=None):
     """The files with which each tool has its own name: a folder for PATH, and beside it one in which `man` then finds
     the pages first."""
     beside = f"{where['libexecdir']}/ptext"
     return [
-        *((f"{beside}/bin/{name}", 0o755, make_tool(where["bindir"], name)) for name in NAMES),
+        *list_tools(where, program, make_tool),
         *((f"{beside}/man/man1/{name}.1", 0o644, make_page(f"ptext-{name}.1", commit)) for name in NAMES),
         *((f"{where['datadir']}/{name}", mode, read_bytes(f"{TOP}/{path}")) for name, mode, path in OTHERS_OF_TOOLS),
     ]
@@ -327,16 +359,16 @@ def describe_folder(place, name):
 def install(place):
     put_all(place, lambda where: list_files_of_program(where, place.program))
     datadir = describe_folder(place, "datadir")
-    license_at = f", with the license of its C library in {datadir}/ptext/NOTICES" if place.program == STATIC else ""
+    license_at = f", with the license of its C library in {datadir}/ptext/NOTICES" if place.program.is_static else ""
     print(
         f"installed in {place.root}: {describe_folder(place, 'bindir')}/ptext "
-        f"(of {os.path.relpath(place.program, TOP)}{license_at}) and ptext-parts, {len(list_pages())} pages in "
+        f"(of {os.path.relpath(place.program.path, TOP)}{license_at}) and ptext-parts, {len(list_pages())} pages in "
         f"{describe_folder(place, 'mandir')}, completion for bash, zsh and fish, {datadir}/ptext/ptext-slurm.sh"
     )
 
 
 def install_tools(place):
-    put_all(place, list_files_of_tools)
+    put_all(place, lambda where: list_files_of_tools(where, place.program))
     file = shlex.quote(f"{place.folders['datadir']}/{OTHERS_OF_TOOLS[0][0]}")
     print(f"to complete them in bash, ~/.bash_completion needs: . {file}")
     print(f"installed in {place.destdir}{place.folders['libexecdir']}/ptext/bin: {', '.join(NAMES)}")
@@ -383,7 +415,7 @@ def main():
             return f"{name} is empty. Nothing was done."
         if value.startswith("~"):
             return f"{name} begins with ~, which the shell did not expand: write $HOME. Nothing was done."
-    if words[0] == "install" and not os.path.isfile(DYNAMIC):
+    if words[0] == "install" and not os.path.isfile(f"{BUILD}/ptext"):
         return "there is no build/ptext: run make first. Nothing was installed."
     does[words[0]](Place(words[1], (words[2:] or [""])[0], given))
     return 0
