@@ -162,7 +162,8 @@ fn words_that_are_not_run_are_reported(rt: HostRuntime) {
     let second = FailingAlloc::after(rt.alloc(), 0);
     let first = FailingAlloc::after(&second, 0);
     let host = KnownStreams::new(rt.alloc(), &[b"a\n"]);
-    let ended = run_given_streams(&first, &host, b"cut\0-c1\0", b"");
+    let mut store = Store::empty(rt.alloc());
+    let ended = run_given_streams(&first, &mut store, &host, b"cut\0-c1\0", b"");
     assert_refused(&rt, &ended, 4, b"ptext: out of memory\n");
 }
 
@@ -203,7 +204,8 @@ fn a_failed_read_is_reported(rt: HostRuntime) {
             bytes: b"a\nb\nc\n",
             ok_calls,
         };
-        let ended = run_given_streams(rt.alloc(), &host, b"cut\0-c1\0", b"");
+        let mut store = Store::empty(rt.alloc());
+        let ended = run_given_streams(rt.alloc(), &mut store, &host, b"cut\0-c1\0", b"");
         assert_ran(&rt, &ended, 1, out, b"cut: standard input: read failed\n");
     }
 }
