@@ -1,7 +1,8 @@
 -- The loop over the words: the options so far and the parse of the remaining words are the parse of all words
 -- (`ArgsRead`). The steps of the loop: a word of options is read, or has a fault; and fewer words are left.
 use Rattle.ptopts.proofs
-use proofs.Common.{Bool, Bor, Err, Fault, GroupPost, List, None, OnSome, Option, ParsedOption, Some, Token, Tool, [], ap}
+use proofs.Common.{Bool, Bor, Err, Fault, GroupPost, List, None, OnSome, Option, ParsedOption, Some, Token, Tool, []}
+use proofs.Common.{ap}
 use proofs.Common.{append_assoc, arith, drop, false, is_end_of_options, is_option_arg, length, ok_unless}
 use proofs.Common.{options_of_tokens, parse_fault, parsed_args, parsed_args_from, refl, slice_get, sym, takes_next}
 use proofs.Common.{tokens_of, true, usual, words_view, ℕ, ◌++◌, ◌<◌, ◌∙◌, ◌∷◌, ◌≡◌}
@@ -52,7 +53,8 @@ module _ (tool : Tool) (words : List (List ℕ)) (os : List ParsedOption) (word 
       → ArgsRead tool words os (word ∷ more) → IsFault found (read_words tool [] None words)
   group_fails None fails read = tt
   group_fails (Some e) fails read = read.is ∙ ap (told tool os) parsed
-      ∙ told_fails tool os (tokens_of tool word next) (parsed_args_from tool (takes_next tool (drop 1 word)) more) e fails
+      ∙ told_fails tool os (tokens_of tool word next)
+      (parsed_args_from tool (takes_next tool (drop 1 word)) more) e fails
 
   pub group_read : (new : List ParsedOption) (left : List (List ℕ)) (taken : Bool)
       → GroupPost tool word next os new taken → left ≡ words_after_value taken more

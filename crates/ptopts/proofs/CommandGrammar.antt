@@ -1,9 +1,12 @@
 -- Words are read as the grammar spells them (`read_as_spelled`), and specify a command exactly if it gives them options
 -- and operands that the tool allows: each fault is a condition that is not met.
 use Rattle.ptopts.proofs
-use proofs.Common.{Command, Err, Fault, IsTrue, List, None, Ok, Option, ParsedOption, ReadingMatchesGrammar, Result, Some}
-use proofs.Common.{Spells, Tool, Valid, [], ap, append-nil, append_assoc, arith, command_of_args, command_of_tool, false}
-use proofs.Common.{first_some, is_repeated, is_some, map, ok_unless, options, parse_fault, parsed_args, refl, subst, sym}
+use proofs.Common.{Command, Err, Fault, IsTrue, List, None, Ok, Option, ParsedOption, ReadingMatchesGrammar, Result}
+use proofs.Common.{Some}
+use proofs.Common.{Spells, Tool, Valid, [], ap, append-nil, append_assoc, arith, command_of_args, command_of_tool}
+use proofs.Common.{false}
+use proofs.Common.{first_some, is_repeated, is_some, map, ok_unless, options, parse_fault, parsed_args, refl, subst}
+use proofs.Common.{sym}
 use proofs.Common.{tool_of_name, ℕ, ◌++◌, ◌∙◌, ◌∷◌, ◌≡◌}
 use proofs.ParsedIsSpelled.{options-map, spelled_if_fine}
 use proofs.ReadWords.{read_is_told}

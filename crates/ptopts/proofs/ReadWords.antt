@@ -38,7 +38,8 @@ told_fault tool before token p fault is = rw is refl
 flag_has_no_fault : (tool : Tool) (before : List ParsedOption) (l : ℕ) → token_fault tool before (Valid (flag l)) ≡ None
 flag_has_no_fault tool before l = refl
 
-twice_fault : (tool : Tool) (word : List ℕ) (l : ℕ) (rest : List ℕ) (next : Option (List ℕ)) (before : List ParsedOption)
+twice_fault : (tool : Tool) (word : List ℕ) (l : ℕ) (rest : List ℕ) (next : Option (List ℕ))
+    (before : List ParsedOption)
     → takes_value tool l ≡ true → is_repeated tool before l ≡ true
     → token_fault tool before (value_token tool word l rest next) ≡ Some (Twice l)
 twice_fault tool word l [] None before t r = rw (t, r) refl
@@ -76,7 +77,8 @@ module _ (tool : Tool) (word : List ℕ) (before : List ParsedOption) (words : L
       → is_repeated tool before l ≡ true → AreTold (l ∷ rest)
   twice_told l rest n t r =
       let left : and_then (read_letters tool word before (l ∷ rest))
-      (λ (read : List ParsedOption × Option ℕ). read_words tool read.0 read.1 words) ≡ Err (Twice l) = rw (n, t, r) refl in
+      (λ (read : List ParsedOption × Option ℕ). read_words tool read.0 read.1 words) ≡ Err (Twice l) =
+      rw (n, t, r) refl in
       let tokens : tokens_in tool word (slice_get words 0) (l ∷ rest)
       ≡ value_token tool word l rest (slice_get words 0) ∷ [] = rw n refl in
       left ∙ told_fault tool before (value_token tool word l rest (slice_get words 0))
@@ -120,8 +122,11 @@ word_told : (tool : Tool) (word : List ℕ) (words : List (List ℕ)) → ((take
     → IsTold tool (word ∷ words) false
 word_told tool word words more before =
     ⊎_elim (λ (ends : is_end_of_options word ≡ true). rw ends (all_read before words))
-    (λ (ends : is_end_of_options word ≡ false). ⊎_elim (λ (dashed : is_option_arg word ≡ true). rw (ends, dashed) (letters_told tool word (drop 1 word) before words more))
-    (λ (plain : is_option_arg word ≡ false). rw (ends, plain) (all_read before (word ∷ words))) (cases_Bool (is_option_arg word)))
+    (λ (ends : is_end_of_options word ≡ false).
+    ⊎_elim (λ (dashed : is_option_arg word ≡ true).
+    rw (ends, dashed) (letters_told tool word (drop 1 word) before words more))
+    (λ (plain : is_option_arg word ≡ false). rw (ends, plain) (all_read before (word ∷ words)))
+    (cases_Bool (is_option_arg word)))
     (cases_Bool (is_end_of_options word))
 
 words_told : (tool : Tool) (words : List (List ℕ)) (taken : Bool) → IsTold tool words taken
