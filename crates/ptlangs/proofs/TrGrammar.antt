@@ -22,7 +22,8 @@ use specs.Laws.TrElements.{AreElements, ByEscape, ByItself, DenotesByte, HasBrac
 use specs.Laws.TrElements.{StartsElement, StartsInvalid}
 use specs.Laws.TrReading.{after_plain, after_run, after_two, bracketed_at, char_or_range, equivalence_with_byte}
 use specs.Laws.TrReading.{class_at, class_with_name, elements_after, equivalence_after_equals, equivalence_at}
-use specs.Laws.TrReading.{first_set_element, or_char, plain_run, range_to, repeat_after_byte, repeat_after_star, repeat_at}
+use specs.Laws.TrReading.{first_set_element, or_char, plain_run, range_to, repeat_after_byte, repeat_after_star}
+use specs.Laws.TrReading.{repeat_at}
 use specs.TrElements.{repeat_count}
 use specs.Laws.TrReading.{single_or_range, with_rest}
 use specs.Private.TrParsing.{enclosed_at, first_byte}
@@ -274,8 +275,8 @@ starts_as u us e = subst (StartsAs _) e (by_form _ refl)
     by_form None f = char_starts u us (bracketed_at-none _ f)
     by_form (Some (p, rest)) f = InBrackets _ p rest (subst (StartsFound _) f (bracketed_starts (u ∷ us)))
 
-pub first_set_element-found : (us : List SetChar) (p : SetElement) (rest : List SetChar) → bracketed_at us ≡ Some (p, rest)
-    → first_set_element us ≡ Ok (p, rest)
+pub first_set_element-found : (us : List SetChar) (p : SetElement) (rest : List SetChar)
+    → bracketed_at us ≡ Some (p, rest) → first_set_element us ≡ Ok (p, rest)
 first_set_element-found = grind arith
 
 first_set_element-StartsElement : (us : List SetChar) (p : SetElement) (rest : List SetChar)

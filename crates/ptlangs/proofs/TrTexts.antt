@@ -3,8 +3,10 @@
 use Rattle.ptlangs.proofs
 use Rattle.ptlangs.specs
 use proofs.Common.{Bool, Err, List, None, Ok, Option, Result, Segment, SetChar, SetElement, SetFaultKind, SetRole, Some}
-use proofs.Common.{CharClass, [], and_then, ap, arith, chars, chars_after, cons_ok, drop, eqb, eqb-true, false, is_fill, length, ltb-true}
-use proofs.Common.{ok_map, refl, result_ok, segments, sequence, set_elements, string_segments, subst, suc, sym, true, usual}
+use proofs.Common.{CharClass, [], and_then, ap, arith, chars, chars_after, cons_ok, drop, eqb, eqb-true, false, is_fill}
+use proofs.Common.{length, ltb-true}
+use proofs.Common.{ok_map, refl, result_ok, segments, sequence, set_elements, string_segments, subst, suc, sym, true}
+use proofs.Common.{usual}
 use proofs.Common.{zero, ℕ, ◌++◌, ◌<◌, ◌||◌, ◌∙◌, ◌∷◌, ◌≡◌, ◌≢◌, ◌≤◌}
 use proofs.TrGrammar.{IsProperSuffix, StartsElement-front, after_backslash-octal, after_plain-other, chars-cons}
 use proofs.TrGrammar.{chars-plain, chars-some, first_set_element-first, first_set_element-found, plain_run-chars}
@@ -21,7 +23,8 @@ use specs.Private.TrParsing.{first_byte}
 use specs.TrChars.{byte_of_escape, escaped_char, first_char, is_octal_digit, octal_run}
 use specs.TrClasses.{class_named}
 use specs.TrElements.{after, alone_or_range, before, class_form, equivalence_form, equivalent_in, fills, first_segment}
-use specs.TrElements.{form_at, range_up_to, read_segments, read_string, repeat_count, repeat_form, repeated, repeated_in}
+use specs.TrElements.{form_at, range_up_to, read_segments, read_string, repeat_count, repeat_form, repeated}
+use specs.TrElements.{repeated_in}
 use specs.TrElements.{run}
 use specs.declared.faults.SetFaultKind.TheVariants.{Octal, UnknownClass}
 use specs.declared.tr.elements.SetElement.TheVariants as element
@@ -58,7 +61,8 @@ escape_first [] = refl
 escape_first (c ∷ text) = ⊎_elim
     (λ (is : is_octal_digit c ≡ true).
     let digits = octal_run (c ∷ text) in
-    large_octal (digits_value 8 digits) (chars (92 ∷ c ∷ text)) (drop (length digits) (c ∷ text)) (escaped_char (c ∷ text))
+    large_octal (digits_value 8 digits) (chars (92 ∷ c ∷ text)) (drop (length digits) (c ∷ text))
+    (escaped_char (c ∷ text))
     (rw (escaped_octal c text is) refl)
     (chars-cons 92 (c ∷ text) ∙ rw (after_backslash-octal (c ∷ text) (omega arith) is) refl))
     (λ (is : is_octal_digit c ≡ false). rw (escaped_other c text is) (grind (arith, chars-cons)))
@@ -78,7 +82,8 @@ same_mark c text n = grind (arith, chars-plain)
 mark_after : (c : ℕ) (text : List ℕ) → c ≢ 92 → after_plain c (chars text) ≡ option_map chars (after (c ∷ []) text)
 mark_after c [] n = refl
 mark_after c (b ∷ text) n = ⊎_elim
-    (λ (is : eqb b c ≡ true). subst (λ x. after_plain c (chars (x ∷ text)) ≡ option_map chars (after (c ∷ []) (x ∷ text)))
+    (λ (is : eqb b c ≡ true).
+    subst (λ x. after_plain c (chars (x ∷ text)) ≡ option_map chars (after (c ∷ []) (x ∷ text)))
     (sym (eqb-true b c is)) (same_mark c text n))
     (λ (is : eqb b c ≡ false). rw (is, after_plain-other b c text (grind arith)) refl) (cases_Bool (eqb b c))
 
@@ -175,10 +180,12 @@ class_closed role has_fill c name (Some rest) =
 
 class_named_by : (role : SetRole) (has_fill : Bool) (name rest : List ℕ)
     → IsForm role has_fill (class_with_name name (chars rest))
-    (if is_empty name then None else before (58 ∷ 93 ∷ []) (ok_or (option_map part.Class (class_named name)) UnknownClass, rest))
+    (if is_empty name then None
+    else before (58 ∷ 93 ∷ []) (ok_or (option_map part.Class (class_named name)) UnknownClass, rest))
 class_named_by role has_fill [] rest = refl
 class_named_by role has_fill (c ∷ name) rest =
-    rw (marks_after 58 93 rest (omega arith) (omega arith)) (class_closed role has_fill c name (after (58 ∷ 93 ∷ []) rest))
+    rw (marks_after 58 93 rest (omega arith) (omega arith))
+    (class_closed role has_fill c name (after (58 ∷ 93 ∷ []) rest))
 
 class_marked : (role : SetRole) (has_fill : Bool) (colon : Option (List ℕ))
     → IsForm role has_fill (option_and_then class_after_colon (option_map chars colon))
@@ -241,7 +248,8 @@ inside_is role has_fill text = either_form role has_fill _ _ _ _ (repeat_is role
 bracket_marked : (role : SetRole) (has_fill : Bool) (bracket : Option (List ℕ))
     → IsForm role has_fill (option_and_then bracketed_inside (option_map chars bracket))
     (option_and_then (λ (inside : List ℕ).
-    option_or (repeat_form role has_fill inside) (option_or (class_form inside) (equivalence_form role inside))) bracket)
+    option_or (repeat_form role has_fill inside) (option_or (class_form inside) (equivalence_form role inside)))
+    bracket)
 bracket_marked role has_fill None = refl
 bracket_marked role has_fill (Some inside) = inside_is role has_fill inside
 

@@ -1,6 +1,6 @@
 -- The segments of a string of `tr`: single characters, ranges, and the bracketed forms `[x*n]`, `[:class:]` and `[=x=]`
--- (POSIX.1-2017, XCU, `tr`, "EXTENDED DESCRIPTION"). A character that begins with a backslash is never part of a form or
--- the dash of a range, since the text is compared with their bytes.
+-- (POSIX.1-2017, XCU, `tr`, "EXTENDED DESCRIPTION"). A character that begins with a backslash is never part of a form
+-- or the dash of a range, since the text is compared with their bytes.
 use Rattle.std.specs.Prelude.{ℕ, zero, suc, ◌==◌, ◌||◌, List, [], ◌∷◌, Bool, true, false, Option, Some, None}
 use Rattle.std.specs.Prelude.{Result, Ok, Err, if◌then◌else◌, nat_le, nat_lt, length, drop, take_while, codes}
 use Rattle.std.specs.Prelude.{option_map, ok_or, unwrap_or}
@@ -14,7 +14,8 @@ use Rattle.ptlangs.specs.Numbers.{and_then, is_empty}
 use Rattle.ptlangs.specs.TrChars.{first_char, is_octal_digit}
 use Rattle.ptlangs.specs.TrClasses.{class_named}
 use Rattle.ptlangs.specs.declared.faults.SetFaultKind.{SetFaultKind}
-use Rattle.ptlangs.specs.declared.faults.SetFaultKind.TheVariants.{Descending, Empty, EquivPlace, RepeatPlace, RepeatSize}
+use Rattle.ptlangs.specs.declared.faults.SetFaultKind.TheVariants.{Descending, Empty, EquivPlace, RepeatPlace}
+use Rattle.ptlangs.specs.declared.faults.SetFaultKind.TheVariants.{RepeatSize}
 use Rattle.ptlangs.specs.declared.faults.SetFaultKind.TheVariants.{SecondFill, UnknownClass}
 use Rattle.ptlangs.specs.declared.tr.segments.Segment.{Segment}
 use Rattle.ptlangs.specs.declared.tr.segments.Segment.TheVariants.{Class, Fill, Range, Repeat}
@@ -94,7 +95,8 @@ equivalence_form role text =
 abbrev pub form_at : SetRole → Bool → List ℕ → Option (Result Segment SetFaultKind × List ℕ)
 form_at role has_fill text =
     option_and_then
-    (λ inside. option_or (repeat_form role has_fill inside) (option_or (class_form inside) (equivalence_form role inside)))
+    (λ inside.
+    option_or (repeat_form role has_fill inside) (option_or (class_form inside) (equivalence_form role inside)))
     (after (codes "[") text)
 
 -- ---- segments

@@ -237,8 +237,8 @@ command_view (parsed.Tr plan inputs) = with_inputs (RunTr (byte_map_of plan)) in
 
 -- ---- words, from left to right, up to the first fault
 
--- The options of a word, after those before: the letters after its dash are read in turn. A letter with a value takes the
--- rest of the word. If that is empty, it takes the next word: then it is the second part of the result.
+-- The options of a word, after those before: the letters after its dash are read in turn. A letter with a value takes
+-- the rest of the word. If that is empty, it takes the next word: then it is the second part of the result.
 abbrev pub read_letters : Tool → List ℕ → List ParsedOption → List ℕ
     → Result (List ParsedOption × Option ℕ) Fault
 read_letters tool word before [] = Ok (before, None)

@@ -112,7 +112,8 @@ module _ (standard : SourceState) (content : ℕ → List ℕ → Option Content
         by_result : (read : Result (List ParsedOption × List (List ℕ)) Fault)
             → IsUnread (and_then read (λ (o : List ParsedOption × List (List ℕ)).
             ok_unless (check tool o) (made tool o.0 o.1)))
-        by_result (Ok (os, operands)) = of_fault (made tool os operands) (check tool (os, operands)) (unread os operands)
+        by_result (Ok (os, operands)) =
+            of_fault (made tool os operands) (check tool (os, operands)) (unread os operands)
         by_result (Err fault) = λ are some none. refl
 
     -- Each tool but `uniq`, the fifth, writes to standard output.

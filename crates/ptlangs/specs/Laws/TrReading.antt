@@ -95,7 +95,8 @@ with_rest p rest = option_map (λ (us : List SetChar). (p, us)) rest
 -- The three bracketed forms, each from the character after its opening bracket. First `[x*n]`: after the star, after
 -- `x`, and from `x` on.
 abbrev pub repeat_after_star : ℕ → List SetChar → Option (SetElement × List SetChar)
-repeat_after_star v us = with_rest (element.Repeat v (repeat_count (plain_run is_ascii_digit us))) (after_plain (byte "]")
+repeat_after_star v us = with_rest (element.Repeat v (repeat_count (plain_run is_ascii_digit us)))
+    (after_plain (byte "]")
     (after_run is_ascii_digit us))
 
 abbrev pub repeat_after_byte : Result ℕ SetFaultKind → List SetChar → Option (SetElement × List SetChar)

@@ -189,8 +189,8 @@ fn range(first: u8, text: &[u8]) -> Result<ParsedElement, SetFaultKind>
 }
 
 /// Does nothing at run time. Its contract states that the characters and elements that are read are those of the
-/// grammar of POSIX.1-2017 (XCU, `tr`), as `TrChars` and `TrElements` of `specs/Laws` give it case by case; that a string
-/// is rejected with the fault of its first faulty element; and that it has the segments of these elements.
+/// grammar of POSIX.1-2017 (XCU, `tr`), as `TrChars` and `TrElements` of `specs/Laws` give it case by case; that a
+/// string is rejected with the fault of its first faulty element; and that it has the segments of these elements.
 pub fn elements_match_grammar()
     ensures chars { CharsMatchGrammar }
     ensures elements { ElementsMatchGrammar }
