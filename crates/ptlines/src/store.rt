@@ -9,8 +9,7 @@ ghost use Rattle.ptlines.specs.Private.Slots.{LengthsAreBounded, AreBuffersBound
 ghost use Rattle.ptlines.specs.Slots.{total_bytes};
 ghost use Rattle.ptlines.specs.Calls.Slots.{with_line, with_new_slot, with_denied};
 
-use crate::copy::copy_all;
-use crate::find::{Padded64, ShortLine};
+use crate::find::ShortLine;
 use crate::slot::Slot;
 use std::alloc::{AllocError, Allocator, Global};
 use std::marker::Model;
@@ -175,19 +174,18 @@ impl<A: Allocator + Copy> Store<A> {
         }
     }
 
-    /// Sets a slot to a line of fewer than 64 bytes. No memory is needed for that.
-    #[inline(always)]
-    pub fn set_short(&mut self, slot: usize, bytes: &[u8])
-        requires { (slot < length self.old.lines) × (length bytes.now < 64) }
-        ensures { self.new ≡ with_line self.old slot bytes.now }
+    /// Sets a slot to these bytes.
+    /// # Errors
+    /// `Memory` if memory could not be allocated. [`denied`](Store::denied) is then true, and the slot is empty; nothing
+    /// else changes.
+    pub fn set(&mut self, slot: usize, bytes: &[u8]) -> Result<(), LineFault>
+        requires { slot < length self.old.lines }
+        ensures ok { OnOk result (self.new ≡ with_line self.old slot bytes.now) }
+        ensures err { OnErr result (self.new ≡ with_denied (with_line self.old slot [])) }
+        ensures memory { OnErr result (result ≡ Err LineFault.Memory) }
     {
-        let mut front = [0; 64];
-        copy_all(bytes, &mut front, 0);
-        let near = ShortLine {
-            front: Padded64 { bytes: &front },
-            size: bytes.len(),
-        };
-        self.set_short_line(slot, near);
+        self.clear(slot);
+        self.append(slot, bytes)
     }
 
     // Appends bytes to those of a slot. If memory cannot be allocated, the store is denied, and nothing else changes.

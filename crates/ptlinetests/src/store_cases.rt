@@ -15,7 +15,7 @@ enum Step {
     Copy(usize, usize),
     Clear(usize),
     Swap(usize, usize),
-    // Sets a slot to a line of fewer than 64 bytes.
+    // Sets a slot to these bytes.
     Set(usize, &'static [u8]),
     Add,
 }
@@ -93,8 +93,8 @@ fn takes(rt: &impl Abort, store: &mut Store<Lent<'_>>, step: Step) -> Result<(),
             store.swap(a, b);
         }
         Step::Set(slot, line) => {
-            assert!(rt; slot < slots && line.len() < 64);
-            store.set_short(slot, line);
+            assert!(rt; slot < slots);
+            return store.set(slot, line);
         }
         Step::Add => same(rt, &store.add()?, &slots),
     }

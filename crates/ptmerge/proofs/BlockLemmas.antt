@@ -7,8 +7,9 @@ use proofs.Common.{◌≡◌, ◌⊎◌, inl, inr, ⊎_elim, ℕ, ◌+◌, ◌<�
 use proofs.Common.{Output, length, PushEffect, Some, None, Option, true, false, drop, length-append, append_assoc}
 use proofs.Common.{append-nil, unlines, IsLine, Side, First, Second, Lines, MergeTool, other, with_side, Cmp, Key, both}
 use proofs.Common.{length_push, Reader, Sorted, Head, budget, length-drop, usual, push_nothing, is_eq, is_gt, Less}
+use proofs.Common.{Err, IsErrAnd, MergeFault, Ok, Result, Write}
 use proofs.Common.{Bool, entries_by_key, entries_of_key, lines_with_key, unlines-append, push_trans}
-use Rattle.std.specs.Prelude.{MatchBool, take}
+use Rattle.std.specs.Prelude.{OnErr, take}
 use Rattle.std.specs.declared.cmp.Ordering.{Ordering}
 use Rattle.ptlines.specs.Calls.Readers.{IsSound}
 use specs.Calls.MergeSteps.{IsReaderOf}
@@ -22,23 +23,21 @@ use Rattle.ptlines.proofs.TextLaws.{AreLines_push}
 use Rattle.ptlines.proofs.LineSearch.{line_before_terminator}
 use Rattle.memchr.specs.Find.{IsFirstByte, is_byte}
 use specs.Private.BlockLines.{AreMerged, ArePassed, BlockRunPost, CanMerge, HasFailed, IsBlockTool, IsInBlock}
-use specs.Private.BlockLines.{IsNextLine, IsPairByPair, IsReached, IsRunEnd, IsStep, MayFollowHeads, entries_alone}
-use specs.Private.BlockLines.{ArePassedAlone, HasFailedAlone, LineRunPost, in_order}
+use specs.Private.BlockLines.{IsNextLine, IsPairByPair, IsReached, IsStep, MayFollowHeads, entries_alone}
+use specs.Private.BlockLines.{LineRunPost, in_order}
 use specs.declared.merging.block_lines.BlockRun.{BlockRun}
-use specs.declared.merging.block_lines.LineRun.{LineRun}
 use specs.declared.merging.block_lines.BlockLine.{BlockLine}
 
 -- ---- the next line of a block
 
--- the line before the first terminator that is near
-pub record NearLine (end n : ℕ) (rest : List ℕ) (size : ℕ) : Type 0 where
+-- the line before the first terminator
+pub record LineInBlock (end : ℕ) (rest : List ℕ) (size : ℕ) : Type 0 where
   pub bytes : rest ≡ take size rest ++ (end ∷ drop (size + 1) rest)
   pub whole : IsLine end (take size rest)
-  pub short : length (take size rest) < n
 
-pub near_line : (end n : ℕ) (rest : List ℕ) (size : ℕ) → IsFirstByte (is_byte end) (take n rest) (Some size)
-    → NearLine end n rest size
-near_line = grind (usual, line_before_terminator)
+pub line_in_block : (end : ℕ) (rest : List ℕ) (size : ℕ) → IsFirstByte (is_byte end) rest (Some size)
+    → LineInBlock end rest size
+line_in_block = grind (usual, line_before_terminator)
 
 -- ---- the lines passed
 
@@ -55,7 +54,6 @@ module _ (cmp : Cmp) (key : Key) where
     lines = rw (u.none, u.same) refl;
     bytes = rw u.same at n.bytes;
     whole = (tt, n.whole);
-    short = n.short;
     ordered = (rw u.same at n.ordered, tt);
     passed = omega (arith, n.passed, u.passed);
   })
@@ -64,7 +62,6 @@ module _ (cmp : Cmp) (key : Key) where
     lines = rw m.lines refl;
     bytes = m.bytes ∙ rw (n.bytes, unlines_push end m.middle now.head.now) (simp append_assoc);
     whole = (AreLines_push end m.middle now.head.now m.whole.0 m.whole.1, n.whole);
-    short = n.short;
     ordered = sorted_push _ m.middle now.head.now next.head.now m.ordered n.ordered;
     passed = omega (arith, n.passed, m.passed, length_push m.middle now.head.now);
   })
@@ -89,27 +86,6 @@ module _ {tool : MergeTool} {now next : Side → BlockLine} {mid is : Output} (s
   passed_more {q = q} a side =
       ⊎_elim (λ h. rw h.0 (passed_one tool.cmp (tool.key side) (a side) h.2))
       (λ h. rw (h.0, h.2, append-nil (q side)) (a side)) (s.passes side)
-
--- the lines passed in a merge of blocks
-pub record RunLines (tool : MergeTool) (old now : Side → BlockLine) : Type 0 where
-  pub q : Side → Lines
-  pub passed : (side : Side) → ArePassed tool.terminator tool.cmp (tool.key side) (old side) (now side) (q side)
-
-module _ {tool : MergeTool} {old now : Side → BlockLine} {was is : Output} where
-  abbrev pub lines_merged : AreMerged tool old now was is → RunLines tool old now
-  lines_merged m = record { q = m.q; passed = m.passed }
-
-  abbrev pub lines_failed : HasFailed tool old now was is → RunLines tool old now
-  lines_failed f = record { q = λ side. f.merged.q side ++ f.step.f side; passed = passed_more f.step f.merged.passed }
-
-pub lines_of : {tool : MergeTool} {old : Side → BlockLine} {run : BlockRun} {was is : Output}
-    → (p : BlockRunPost tool old run was is) → RunLines tool old p.now
-lines_of {tool} {old} {run} {was} {is} p = by run.failed p.ends
-  where
-    by : (failed : Bool) → MatchBool failed (HasFailed tool old p.now was is) (AreMerged tool old p.now was is)
-        → RunLines tool old p.now
-    by true f = lines_failed f
-    by false m = lines_merged m
 
 -- no key that may follow is below the current one
 abbrev pub at_heads : MergeTool → (Side → BlockLine) → Side → Bound
@@ -202,15 +178,6 @@ module _ (tool : MergeTool) (o : IsKeyOrder tool.cmp) where
     clean = clean;
     in_block = λ side. (can side).in_block;
     key_is = λ side. (can side).key_is;
-  }
-
-  pub run_failed : {old now next : Side → BlockLine} {run : BlockRun} {was mid is : Output} → IsRunEnd true next run
-      → AreMerged tool old now was mid → IsStep tool now next mid is → is.write_failed ≡ true
-      → BlockRunPost tool old run was is
-  run_failed {now = now} {next} {mid = mid} e m s failed = record {
-    now = next;
-    end = record { is = refl; reached = e.reached };
-    ends = rw e.is (record { before = now; mid = mid; merged = m; step = s; failed = failed });
   }
 
   -- one input has the least key
@@ -363,6 +330,22 @@ module _ (tool : MergeTool) (o : IsKeyOrder tool.cmp) where
             (push_trans _ _ _ _ _ clean m.wrote a.wrote);
       }
 
+-- ---- the results
+
+-- a merge of blocks whose last write failed
+pub run_failed : {tool : MergeTool} {old now next : Side → BlockLine} {was mid is : Output} {X E : Type 0}
+    (result : Result X E) → AreMerged tool old now was mid → IsStep tool now next mid is → is.write_failed ≡ true
+    → OnErr result (HasFailed tool old was is)
+run_failed (Ok x) m s failed = tt
+run_failed {now = now} {next} {mid = mid} (Err e) m s failed =
+    record { before = now; now = next; mid = mid; merged = m; step = s; failed = failed }
+
+-- the result is the fault of the write
+pub is_write_fault : {result : Result (Unit {0}) MergeFault} → IsErrAnd result (λ fault. fault ≡ Write)
+    → result ≡ Err Write
+is_write_fault {result = Ok u} is = elim is [ ]
+is_write_fault {result = Err fault} is = ap Err is
+
 -- ---- the readers
 
 pub own_on : (r : Reader) (number count used : ℕ) → IsSound r → r.fault ≡ None → number + budget r ≤ 2 ^ 63
@@ -391,7 +374,7 @@ can_resume {end} {now = now} rest (inr m) at head own =
       head = head;
       own_reader = own;
       within = omega (arith, at.left, at.passed, m.passed, ap length rest, size, more, each_ends end m.middle);
-      line = λ some. (omega (arith, at.left, at.size, ap length rest, size, more), omega (arith, at.size, m.short));
+      line = λ some. omega (arith, at.left, at.size, ap length rest, size, more);
     }
 
 pub can_resume_both : {tool : MergeTool} {old : Side → BlockLine} {run : BlockRun} {was is : Output}
@@ -400,15 +383,9 @@ pub can_resume_both : {tool : MergeTool} {old : Side → BlockLine} {run : Block
     → ((side : Side) → IsReaderOf (cursor side) (reader side))
     → (side : Side) → CanResume (both run.first run.second side) (cursor side) (reader side)
 can_resume_both p rest head own side =
-    can_resume (rest side) ((lines_of p).passed side) (p.end.reached side) (head side) (own side)
+    can_resume (rest side) (p.merged.passed side) (p.reached side) (head side) (own side)
 
-pub can_resume_line : {tool : MergeTool} {s : Side} {old : BlockLine} {run : LineRun} {was is : Output}
-    → LineRunPost tool s old run was is → {cursor : Sorted} {reader : Reader} → old.rest.now ≡ reader.buffered
-    → cursor.status ≡ Head → IsReaderOf cursor reader → CanResume run.at cursor reader
-can_resume_line {tool} {s} {old} {run} {was} {is} p {cursor} {reader} rest head own = by run.failed p.ends
-  where
-    by : (failed : Bool)
-        → MatchBool failed (HasFailedAlone tool s old p.now was is) (ArePassedAlone tool s old p.now was is)
-        → CanResume run.at cursor reader
-    by true f = can_resume rest (passed_one tool.cmp (tool.key s) f.merged.passed f.next) p.at head own
-    by false a = can_resume rest a.passed p.at head own
+pub can_resume_line : {tool : MergeTool} {s : Side} {old : BlockLine} {at : Reached} {was is : Output}
+    → LineRunPost tool s old at was is → {cursor : Sorted} {reader : Reader} → old.rest.now ≡ reader.buffered
+    → cursor.status ≡ Head → IsReaderOf cursor reader → CanResume at cursor reader
+can_resume_line p rest head own = can_resume rest p.passed.passed p.reached head own

@@ -34,5 +34,5 @@ pub joined_by_blocks : {O : Type 0} (cmp : O → Cmp) (key : O → Side → Key)
     → LoopOfJoin job cmp key old BetweenGroups (merge_state first second out after) one2 two2 b start
 joined_by_blocks cmp key k post same valid =
     let t = k.iteration in
-    let (here, between) = blocks_on t.here t.between post refl (rw same at valid) in
+    let (here, between) = blocks_on t.here t.between post (rw same at valid) in
     kept_order same k.order (record { w = t.w; keys = t.keys; here = here; between = between })

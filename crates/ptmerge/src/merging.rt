@@ -17,7 +17,7 @@ ghost use Rattle.ptmerge.specs.Calls.MergeSteps.{merge_inputs, AreValidCursors, 
 ghost use Rattle.ptmerge.specs.Calls.MergeSteps.{StartErrPost};
 ghost use Rattle.ptmerge.specs.Calls.MergeSteps.{previous_key};
 ghost use Rattle.ptmerge.specs.Private.BlockLines.{CanMerge};
-ghost use Rattle.ptmerge.specs.Private.Passed.{AreResumed, AreShortHeads, CanResume, IsResumed};
+ghost use Rattle.ptmerge.specs.Private.Passed.{AreResumed, CanResume, ResumePost};
 ghost use Rattle.ptmerge.specs.declared.key_order.Side.{Side as SideType};
 
 pub(crate) mod block_lines;
@@ -52,14 +52,6 @@ pub enum Step {
     /// it has in order. If both inputs are out of order, the one whose last key is less is reported, or the first one
     /// if their last keys are equal.
     Stop(Side, u64),
-}
-
-// The inputs whose blocks are merged: both, or one if the other has ended.
-#[derive(Clone, Copy)]
-pub(crate) enum ShortHeads {
-    Both,
-    Only(Side),
-    Neither,
 }
 
 /// A merge of two sorted inputs. The current line of each input is in one of the slots 0 to 3 of the store. After
@@ -197,32 +189,6 @@ impl<K: KeyOrder> Merge<K> {
         &self.order
     }
 
-    // Returns which inputs are at lines of fewer than 64 bytes, and after such lines: both, or the only one that has not
-    // ended. Among longer lines, a merge of blocks would soon end, and cost more than it saves.
-    #[inline(always)]
-    pub(crate) fn short_heads<A: Allocator + Copy>(&self, store: &Store<A>) -> ShortHeads
-        requires { AreValidCursors (K.key_of self.now.order) self.now.first self.now.second store.now }
-        ensures { AreShortHeads (both self.now.first self.now.second) result }
-    {
-        match (self.first.status, self.second.status) {
-            (Head, Head) if self.is_short(First, store) && self.is_short(Second, store) => {
-                ShortHeads::Both
-            }
-            (Head, Ended) if self.is_short(First, store) => ShortHeads::Only(First),
-            (Ended, Head) if self.is_short(Second, store) => ShortHeads::Only(Second),
-            _ => ShortHeads::Neither,
-        }
-    }
-
-    // Checks whether the current and the previous line of an input have fewer than 64 bytes.
-    #[inline(always)]
-    fn is_short<A: Allocator + Copy>(&self, side: Side, store: &Store<A>) -> bool
-        requires { AreValidCursors (K.key_of self.now.order) self.now.first self.now.second store.now }
-    {
-        let cursor = self.cursor(side);
-        store.line(cursor.current_slot).len() < 64 && store.line(cursor.previous_slot).len() < 64
-    }
-
     // Returns the current line of an input with the bytes in its block after this line.
     #[inline(always)]
     pub(crate) fn block_line<'a, A: Allocator + Copy, S: Source, R: Source>(
@@ -241,7 +207,7 @@ impl<K: KeyOrder> Merge<K> {
         BlockLine::new(head, key, reader.buffered())
     }
 
-    // Consumes the lines that were merged in both blocks, and makes the lines reached the current ones.
+    // Makes the lines reached in both blocks the current ones, and consumes the bytes up to them.
     #[inline(always)]
     pub(crate) fn resume_both<A: Allocator + Copy, S: Source, R: Source>(
         &mut self,
@@ -256,17 +222,14 @@ impl<K: KeyOrder> Merge<K> {
         ensures resumes { AreResumed run (both self.old.first self.old.second) (both self.new.first self.new.second)
             (both first.old second.old) (both first.new second.new) store.old store.new result }
         ensures order { self.new.order ≡ self.old.order }
-        ensures valid_cursors { AreValidCursors (K.key_of self.new.order) self.new.first self.new.second store.new }
+        ensures valid_cursors { let key = K.key_of self.new.order in
+            OnOk result (AreValidCursors key self.new.first self.new.second store.new) }
     {
-        self.resume(First, run.first, first, store);
-        self.resume(Second, run.second, second, store);
-        if run.failed {
-            return Err(MergeFault::Write);
-        }
-        Ok(())
+        self.resume(First, run.first, first, store)?;
+        self.resume(Second, run.second, second, store)
     }
 
-    // Consumes the lines of an input that were merged in its block, and makes the line reached its current line.
+    // Makes the line reached in the block of an input its current line, and consumes the bytes up to its terminator.
     #[inline(always)]
     pub(crate) fn resume<A: Allocator + Copy, S: Source, R: Source>(
         &mut self,
@@ -274,16 +237,17 @@ impl<K: KeyOrder> Merge<K> {
         at: Reached,
         reader: &mut LineReader<S, R>,
         store: &mut Store<A>,
-    )
+    ) -> Result<(), MergeFault>
         requires valid_cursors { AreValidCursors (K.key_of self.old.order) self.old.first self.old.second store.old }
         requires fits { CanResume at (both self.old.first self.old.second side) reader.old }
         ensures resumes { let was = both self.old.first self.old.second side in
             let is = both self.new.first self.new.second side in
-            IsResumed at was is reader.old reader.new store.old store.new }
+            ResumePost at was is reader.old reader.new store.old store.new result }
         ensures others { let was = both self.old.first self.old.second (other side) in
             both self.new.first self.new.second (other side) ≡ was }
         ensures order { self.new.order ≡ self.old.order }
-        ensures valid_cursors { AreValidCursors (K.key_of self.new.order) self.new.first self.new.second store.new }
+        ensures valid_cursors { let key = K.key_of self.new.order in
+            OnOk result (AreValidCursors key self.new.first self.new.second store.new) }
     {
         match side {
             Side::First => self.first.resume(&self.order, side, at, reader, store),

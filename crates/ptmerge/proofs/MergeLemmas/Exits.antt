@@ -16,6 +16,10 @@ use Rattle.ptlines.proofs.Calls.{call_ends, call_set, call_without_slots, given_
 use Rattle.ptlines.proofs.Calls.{DecidedIfReadFailed, call_on_failed_output}
 use Rattle.std.proofs.lemmas.List.{append_cancel_right, map-append}
 use Rattle.ptlines.proofs.Lag.{bounded_lag_after}
+use Rattle.ptlines.proofs.Received.{has_received}
+use Rattle.ptlines.specs.Received.{HasReceived}
+use Rattle.std.specs.Io.KnownBytes.{prepend_known, IsAtEnd}
+use specs.declared.faults.MergeFault.TheVariants as faults
 use Rattle.ptlines.specs.Calls.Engines.{CallEnd, ReadFault, AreAllConsistent}
 use Rattle.ptlines.proofs.TextLaws.{complete_lines_of_unlines, the_lines}
 use Rattle.ptlines.specs.Lag.{LaggedInput}
@@ -466,6 +470,38 @@ module _ {tool : MergeTool} {before store : Slots} {ls : Side → Lines} {g : Li
       → length after.lines ≡ length store.lines → Fits tool before now ls (λ side. []) after
   fits_emptied = search (rules, total_within)
 
+-- A call fails while lines are still buffered that it has processed. What it could not store is left to do.
+pub record IsWriteFaultBehind (real : Side → Reader) (out : Output) (after : Slots) : Type 0 where
+  pub write_failed : out.write_failed ≡ true
+  pub unfailed : (side : Side) → (real side).failed ≡ false
+  pub not_denied : after.denied ≡ false
+
+pub record IsMemoryFaultBehind (real : Side → Reader) (out : Output) (after : Slots) : Type 0 where
+  pub denied : after.denied ≡ true
+  pub unfailed : (side : Side) → (real side).failed ≡ false
+  pub clean : out.write_failed ≡ false
+  pub side : Side
+  pub left : IsDone (real side) → ⊥
+
+abbrev pub IsFaultBehind : (Side → Reader) → Output → Slots → MergeFault → Type 0
+IsFaultBehind real out after (faults.Read side) = ⊥
+IsFaultBehind real out after Write = IsWriteFaultBehind real out after
+IsFaultBehind real out after Memory = IsMemoryFaultBehind real out after
+IsFaultBehind real out after (faults.Disorder side number) = ⊥
+
+behind : {was virtual real : Reader} {given : Received} → virtual ≡ record real { buffered = virtual.buffered }
+    → HasReceived was virtual given → HasReceived was real given
+behind {was} {virtual} {real} {given} same h = record {
+  moved = h.moved ∙ ap (λ (r : Reader). prepend_known given.bytes r.left) same;
+  count = ap (λ (r : Reader). r.pulled + length was.buffered) (sym same) ∙ h.count;
+  eof = h.eof ∙ ap (λ (r : Reader). r.eof) same;
+  refused = ap (λ (r : Reader). r.refused) (sym same) ∙ h.refused;
+  still = λ ended. let (none, eof) = h.still ended in
+      (ap (λ (r : Reader). r.pulled) (sym same) ∙ none, ap (λ (r : Reader). r.eof) (sym same) ∙ eof);
+  end = λ before ended. subst (λ (r : Reader). IsAtEnd r.left) same
+      (h.end before (ap (λ (r : Reader). r.eof) same ∙ ended));
+}
+
 -- The second input is unread until the first has begun; until the second has, at most one line of the first was read.
 pub record FirstReads (end : ℕ) (old now new : Side → Reader) (ls : Side → Lines) (piece : Side → List ℕ) : Type 0 where
   pub first : HasBegun (now First) (ls First) ⊎ (new Second ≡ old Second)
@@ -613,6 +649,67 @@ module _ {tool : MergeTool} {old : MergeState} (w : IsOpenMerge tool old) (new :
 
         has_line : (side : Side) → HasBegun (now side) (ls side) → ¬ HasNoLine tool.terminator (given side)
         has_line side begun none = begun_gives_line (g side).lines_read (g side).reads (g side).line begun none
+
+    -- A fault while bytes are still buffered that the readers have consumed here: `real` are the readers then.
+    pub exit_behind : Fits tool old.store now ls piece new.store → ((side : Side) → HasBegun (now side) (ls side))
+        → (real : Side → Reader)
+        → ((side : Side) → new.reader side ≡ record (real side) { buffered = (new.reader side).buffered })
+        → (fault : MergeFault) → IsFaultBehind real new.out new.store fault
+        → MergePost tool old (state_by_side real new.out new.store) (Err fault)
+    exit_behind fits begun real same fault ends = record {
+      call = record {
+        given = given;
+        came = λ side read. behind (same side) (has_received _ _ _ (moves.reads side read));
+        untouched = λ side none. cc;
+        pushed = unlines tool.terminator done;
+        wrote = moves.wrote;
+        ends = outcome_behind fault ends;
+        is_prefix = moves.is_prefix;
+        decided_is_written = λ side read fail clean_then. absurd (calm_behind fault ends side fail);
+        bounded_lag = λ side read clean_then. moves.bounded_lag side read;
+        peak = moves.peak;
+        slots = moves.slots;
+        added = λ clean_then. record { least = moves.least; all = λ allowed. moves.room };
+        unread = λ clean_then few. absurd (omega (arith, few, moves.room));
+        terminator = λ side read clean_then.
+            ap (λ r. r.terminator) (sym (same side)) ∙ (moves.reads side read).terminator ∙ w.terminator side;
+        unchanged_if_failed = λ failed_then. cc w.writable;
+      };
+      stops_at_disorder = λ of clean_then. unsettled w.o given lag whole_input_split of (backs of);
+      first_reads = λ clean_then. record {
+        second_unread = λ none. absurd (begun_gives_line (g First).lines_read (g First).reads (g First).line
+            (begun First) none);
+        first_waits = λ none. absurd (begun_gives_line (g Second).lines_read (g Second).reads (g Second).line
+            (begun Second) none);
+      };
+    }
+      where
+        moves : CallProgress both_sides (merge_engine tool) old new took (unlines tool.terminator done)
+        moves = progress fits
+
+        outcome_behind : (fault : MergeFault) → IsFaultBehind real new.out new.store fault
+            → CallOutcome both_sides (merge_engine tool) old (state_by_side real new.out new.store) given
+            (unlines tool.terminator done) (merge_end (Err fault))
+        outcome_behind Write e = record {
+          write_failed = e.write_failed;
+          unfailed = λ side read. e.unfailed side ∙ sym (w.unfailed side);
+          not_denied = e.not_denied;
+        }
+        outcome_behind Memory e = record {
+          denied = e.denied;
+          unfailed = λ side read. e.unfailed side ∙ sym (w.unfailed side);
+          clean = e.clean;
+          left = λ enough. inl (e.side, refl, e.left);
+        }
+        outcome_behind (faults.Read s) e = elim e [ ]
+        outcome_behind (faults.Disorder s n) e = elim e [ ]
+
+        calm_behind : (fault : MergeFault) → IsFaultBehind real new.out new.store fault → (side : Side)
+            → (real side).failed ≡ true → ⊥
+        calm_behind Write e side fail = cc (e.unfailed side)
+        calm_behind Memory e side fail = cc (e.unfailed side)
+        calm_behind (faults.Read s) e side fail = elim e [ ]
+        calm_behind (faults.Disorder s n) e side fail = elim e [ ]
 
 -- ---- the ends before the start
 

@@ -2,7 +2,7 @@
 -- input, and the contracts of a step and of the whole merge of both, or of one after the end of the other input. `head`
 -- is the current line of an input, and `rest` the bytes of its block after this line.
 use Rattle.std.specs.Prelude.{◌≡◌, ◌⊎◌, ℕ, suc, ◌+◌, ◌<◌, ◌≤◌, List, [], ◌∷◌, ◌++◌, length, map}
-use Rattle.std.specs.Prelude.{Bool, true, false, Option, Some, None, MatchBool}
+use Rattle.std.specs.Prelude.{Bool, true, false, Option, Some, None}
 use Rattle.std.specs.Ordering.{is_eq, is_gt}
 use Rattle.ptlines.specs.Calls.Outputs.{Output, PushEffect}
 use Rattle.ptlines.specs.Calls.Text.{IsLine}
@@ -18,7 +18,6 @@ use Rattle.ptmerge.specs.declared.key_order.Side.{Side}
 use Rattle.ptmerge.specs.declared.key_order.Side.TheVariants.{First, Second}
 use Rattle.ptmerge.specs.declared.merging.block_lines.BlockLine.{BlockLine}
 use Rattle.ptmerge.specs.declared.merging.block_lines.BlockRun.{BlockRun}
-use Rattle.ptmerge.specs.declared.merging.block_lines.LineRun.{LineRun}
 use Rattle.ptmerge.specs.declared.merging.cursor.Reached.{Reached}
 
 -- ---- keys in order
@@ -93,7 +92,6 @@ pub record CanMerge (key : Key) (line : BlockLine) : Type 0 where
 pub record IsNextLine (end : ℕ) (cmp : Cmp) (key : Key) (line next : BlockLine) : Type 0 where
   pub bytes : line.rest.now ≡ next.head.now ++ (end ∷ next.rest.now)
   pub whole : IsLine end next.head.now
-  pub short : length next.head.now < 64
   pub ordered : AtMost cmp (key line.head.now) (key next.head.now)
   pub same : next.same ≡ is_eq (cmp (key line.head.now) (key next.head.now))
   pub key_is : HasKey key next
@@ -111,7 +109,6 @@ pub record IsMoved (end : ℕ) (cmp : Cmp) (key : Key) (old now : BlockLine) (q 
   pub lines : q ≡ old.head.now ∷ middle
   pub bytes : old.rest.now ≡ unlines end middle ++ (now.head.now ++ (end ∷ now.rest.now))
   pub whole : AreLines end middle × IsLine end now.head.now
-  pub short : length now.head.now < 64
   pub ordered : IsSortedFrom cmp key (Some (key old.head.now)) (middle ++ now.head.now ∷ [])
   pub passed : now.passed ≡ suc (length middle)
 
@@ -166,23 +163,23 @@ pub record IsStep (tool : MergeTool) (now next : Side → BlockLine) (was is : O
   pub wrote : PushEffect was is (unlines tool.terminator (entries_by_key tool (λ k. true) f))
 
 -- The lines are merged, and the write of the last ones failed.
-pub record HasFailed (tool : MergeTool) (old now : Side → BlockLine) (was is : Output) : Type 0 where
+pub record HasFailed (tool : MergeTool) (old : Side → BlockLine) (was is : Output) : Type 0 where
   pub before : Side → BlockLine
+  pub now : Side → BlockLine
   pub mid : Output
   pub merged : AreMerged tool old before was mid
   pub step : IsStep tool before now mid is
   pub failed : is.write_failed ≡ true
 
--- Where both inputs are at the end of the merge.
-pub record IsRunEnd (failed : Bool) (now : Side → BlockLine) (run : BlockRun) : Type 0 where
-  pub is : run.failed ≡ failed
-  pub reached : (side : Side) → IsReached (now side) (both run.first run.second side)
+-- Where both inputs are.
+abbrev pub AreReached : (Side → BlockLine) → BlockRun → Type 0
+AreReached now run = (side : Side) → IsReached (now side) (both run.first run.second side)
 
--- The merge of two blocks: up to lines that were not passed, or to a failed write.
+-- The lines of two blocks are merged, up to lines that were not passed.
 pub record BlockRunPost (tool : MergeTool) (old : Side → BlockLine) (run : BlockRun) (was is : Output) : Type 0 where
   pub now : Side → BlockLine
-  pub end : IsRunEnd run.failed now run
-  pub ends : MatchBool run.failed (HasFailed tool old now was is) (AreMerged tool old now was is)
+  pub reached : AreReached now run
+  pub merged : AreMerged tool old now was is
 
 -- ---- the lines of one input, after the end of the other
 
@@ -204,8 +201,9 @@ pub record ArePassedAlone (tool : MergeTool) (s : Side) (old now : BlockLine) (w
   pub key_is : HasKey (tool.key s) now
 
 -- The lines are passed, and the write of the last one failed.
-pub record HasFailedAlone (tool : MergeTool) (s : Side) (old now : BlockLine) (was is : Output) : Type 0 where
+pub record HasFailedAlone (tool : MergeTool) (s : Side) (old : BlockLine) (was is : Output) : Type 0 where
   pub before : BlockLine
+  pub now : BlockLine
   pub mid : Output
   pub merged : ArePassedAlone tool s old before was mid
   pub next : IsNextLine tool.terminator tool.cmp (tool.key s) before now
@@ -213,8 +211,8 @@ pub record HasFailedAlone (tool : MergeTool) (s : Side) (old now : BlockLine) (w
       (unlines tool.terminator (entries_by_key tool (λ k. true) (only s (before.head.now ∷ []))))
   pub failed : is.write_failed ≡ true
 
--- The lines of a block are passed: up to one that was not, or to a failed write.
-pub record LineRunPost (tool : MergeTool) (s : Side) (old : BlockLine) (run : LineRun) (was is : Output) : Type 0 where
+-- The lines of a block are passed, up to one that was not.
+pub record LineRunPost (tool : MergeTool) (s : Side) (old : BlockLine) (at : Reached) (was is : Output) : Type 0 where
   pub now : BlockLine
-  pub at : IsReached now run.at
-  pub ends : MatchBool run.failed (HasFailedAlone tool s old now was is) (ArePassedAlone tool s old now was is)
+  pub reached : IsReached now at
+  pub passed : ArePassedAlone tool s old now was is

@@ -1,12 +1,12 @@
 -- The contracts of calls by which an input of a merge, or both, goes on after lines that were passed in the blocks of
 -- the readers, and never were in a slot of the store; and of the merge of both blocks, or of one after the end of the
 -- other input, as a whole (`BlocksPre`, `BlocksPost`).
-use Rattle.std.specs.Prelude.{◌≡◌, ◌⊎◌, ℕ, ◌+◌, ◌-◌, ◌<◌, ◌≤◌, false, List, length, drop, if◌then◌else◌, Result, Ok}
-use Rattle.std.specs.Prelude.{Err}
+use Rattle.std.specs.Prelude.{◌≡◌, ◌⊎◌, ℕ, ◌+◌, ◌-◌, ◌<◌, ◌≤◌, false, List, [], length, drop, Result}
+use Rattle.std.specs.Prelude.{Ok, Err}
 use Rattle.std.specs.List.{slice_range}
 use Rattle.ptlines.specs.Calls.Outputs.{Output}
 use Rattle.ptlines.specs.Calls.Readers.{IsSound}
-use Rattle.ptlines.specs.Calls.Slots.{line, with_line}
+use Rattle.ptlines.specs.Calls.Slots.{line, with_denied, with_line}
 use Rattle.ptlines.specs.Readers.{Reader}
 use Rattle.ptlines.specs.Slots.{Slots}
 use Rattle.ptmerge.specs.Calls.MergeCall.{MergeState}
@@ -14,18 +14,15 @@ use Rattle.ptmerge.specs.Calls.MergeSpec.{MergeTool}
 use Rattle.ptmerge.specs.Calls.MergeSteps.{AreValidCursors, IsReaderOf}
 use Rattle.ptmerge.specs.Calls.Sides.{both, other}
 use Rattle.ptmerge.specs.Orders.{Key}
-use Rattle.ptmerge.specs.Private.BlockLines.{BlockRunPost, IsBlockTool, LineRunPost}
+use Rattle.ptmerge.specs.Private.BlockLines.{BlockRunPost, HasFailed, HasFailedAlone, IsBlockTool, LineRunPost}
 use Rattle.ptmerge.specs.declared.faults.MergeFault.{MergeFault}
-use Rattle.ptmerge.specs.declared.faults.MergeFault.TheVariants.{Write}
+use Rattle.ptmerge.specs.declared.faults.MergeFault.TheVariants.{Memory, Write}
 use Rattle.ptmerge.specs.declared.key_order.Side.{Side}
 use Rattle.ptmerge.specs.declared.key_order.Side.TheVariants.{First, Second}
 use Rattle.ptmerge.specs.declared.merging.cursor.CursorStatus.TheVariants.{Ended, Head}
 use Rattle.ptmerge.specs.declared.merging.cursor.Sorted.{Sorted}
 use Rattle.ptmerge.specs.declared.merging.block_lines.BlockLine.{BlockLine}
 use Rattle.ptmerge.specs.declared.merging.block_lines.BlockRun.{BlockRun}
-use Rattle.ptmerge.specs.declared.merging.block_lines.LineRun.{LineRun}
-use Rattle.ptmerge.specs.declared.merging.ShortHeads.{ShortHeads}
-use Rattle.ptmerge.specs.declared.merging.ShortHeads.TheVariants.{Both, Neither, Only}
 use Rattle.ptmerge.specs.declared.merging.cursor.Reached.{Reached}
 
 -- The current line is now `line`, which is `count` lines after the one before.
@@ -39,7 +36,7 @@ pub record CanResume (reached : Reached) (cursor : Sorted) (reader : Reader) : T
   pub own_reader : IsReaderOf cursor reader
   pub within : reached.left + reached.passed ≤ length reader.buffered
   pub line : 0 < reached.passed
-      → (reached.left + (reached.size + 1) ≤ length reader.buffered) × (reached.size < 64)
+      → reached.left + (reached.size + 1) ≤ length reader.buffered
 
 -- The bytes of the block up to the current line and its terminator are consumed.
 pub record IsResumed (reached : Reached) (old new : Sorted) (was is : Reader) (before after : Slots) : Type 0 where
@@ -50,13 +47,47 @@ pub record IsResumed (reached : Reached) (old new : Sorted) (was is : Reader) (b
       IsPassed reached.passed (slice_range was.buffered (used - 1 - reached.size) (used - 1)) old new before after
   pub own_reader : IsReaderOf new is
 
--- Both inputs are at the lines reached. If a write has failed, this is the result.
-pub record AreResumed (run : BlockRun) (cursor next : Side → Sorted) (was is : Side → Reader) (before after : Slots)
-    (result : Result (Unit {0}) MergeFault) : Type 0 where
+-- The line reached could not be stored: the slot is empty, and nothing is consumed.
+pub record IsNotResumed (reached : Reached) (old : Sorted) (was is : Reader) (before after : Slots) : Type 0 where
+  pub some : 0 < reached.passed
+  pub unread : is ≡ was
+  pub store : after ≡ with_denied (with_line before old.current_slot [])
+
+-- The postcondition of `resume` for one input.
+abbrev pub ResumePost : Reached → Sorted → Sorted → Reader → Reader → Slots → Slots → Result (Unit {0}) MergeFault
+    → Type 0
+ResumePost reached old new was is before after (Ok u) = IsResumed reached old new was is before after
+ResumePost reached old new was is before after (Err fault) =
+    (fault ≡ Memory) × IsNotResumed reached old was is before after
+
+-- Both inputs are at the lines reached.
+pub record BothResumed (run : BlockRun) (cursor next : Side → Sorted) (was is : Side → Reader) (before after : Slots)
+    : Type 0 where
   pub mid : Slots
   pub first : IsResumed run.first (cursor First) (next First) (was First) (is First) before mid
   pub second : IsResumed run.second (cursor Second) (next Second) (was Second) (is Second) mid after
-  pub result_is : result ≡ (if run.failed then Err Write else Ok tt)
+
+-- The first input is at the line reached, but that of the second one could not be stored.
+pub record FirstResumed (run : BlockRun) (cursor : Side → Sorted) (was is : Side → Reader) (before after : Slots)
+    : Type 0 where
+  pub next : Sorted
+  pub mid : Slots
+  pub first : IsResumed run.first (cursor First) next (was First) (is First) before mid
+  pub second : IsNotResumed run.second (cursor Second) (was Second) (is Second) mid after
+
+-- The first line reached could not be stored, and nothing is done for the second one.
+pub record NoneResumed (run : BlockRun) (cursor : Side → Sorted) (was is : Side → Reader) (before after : Slots)
+    : Type 0 where
+  pub first : IsNotResumed run.first (cursor First) (was First) (is First) before after
+  pub second : is Second ≡ was Second
+
+-- The postcondition of `resume_both`.
+abbrev pub AreResumed : BlockRun → (Side → Sorted) → (Side → Sorted) → (Side → Reader) → (Side → Reader) → Slots → Slots
+    → Result (Unit {0}) MergeFault → Type 0
+AreResumed run cursor next was is before after (Ok u) = BothResumed run cursor next was is before after
+AreResumed run cursor next was is before after (Err fault) =
+    (fault ≡ Memory)
+    × (NoneResumed run cursor was is before after ⊎ FirstResumed run cursor was is before after)
 
 -- The precondition of a merge of both blocks, for a tool that merges blocks: the cursors are valid, each reader is that
 -- of its input and has the terminator of the tool, and no write has failed.
@@ -67,29 +98,45 @@ pub record BlocksPre (tool : MergeTool) (key : Side → Key) (one two : Sorted) 
   pub terminator : (side : Side) → (now.reader side).terminator ≡ tool.terminator
   pub clean : now.out.write_failed ≡ false
 
--- Both inputs were at a line. The lines of their blocks are merged, and both are at the lines reached.
-pub record AreBlocksMerged (tool : MergeTool) (cursor next : Side → Sorted) (was is : MergeState)
+-- A write failed, and nothing is consumed or stored.
+pub record IsWriteFault (was is : MergeState) (result : Result (Unit {0}) MergeFault) : Type 0 where
+  pub fault : result ≡ Err Write
+  pub reader : is.reader ≡ was.reader
+  pub store : is.store ≡ was.store
+
+-- The lines of both blocks are merged, and both inputs go on from the lines reached, if these could be stored.
+pub record HaveMerged (tool : MergeTool) (old : Side → BlockLine) (cursor next : Side → Sorted) (was is : MergeState)
     (result : Result (Unit {0}) MergeFault) : Type 0 where
-  pub head : (side : Side) → (cursor side).status ≡ Head
   pub run : BlockRun
-  pub old : Side → BlockLine
-  pub head_is : (side : Side) → (old side).head.now ≡ line was.store (cursor side).current_slot
-  pub rest_is : (side : Side) → (old side).rest.now ≡ (was.reader side).buffered
   pub post : BlockRunPost tool old run was.out is.out
   pub resumed : AreResumed run cursor next was.reader is.reader was.store is.store result
 
--- An input was at a line. The lines of its block are passed, and it is at the line reached. If a write has failed, this
--- is the result.
+-- Both inputs were at a line. The lines of their blocks are merged, or a write failed.
+pub record AreBlocksMerged (tool : MergeTool) (cursor next : Side → Sorted) (was is : MergeState)
+    (result : Result (Unit {0}) MergeFault) : Type 0 where
+  pub head : (side : Side) → (cursor side).status ≡ Head
+  pub old : Side → BlockLine
+  pub head_is : (side : Side) → (old side).head.now ≡ line was.store (cursor side).current_slot
+  pub rest_is : (side : Side) → (old side).rest.now ≡ (was.reader side).buffered
+  pub ends : (HasFailed tool old was.out is.out × IsWriteFault was is result)
+      ⊎ HaveMerged tool old cursor next was is result
+
+-- The lines of a block are passed, and the input goes on from the line reached, if this could be stored.
+pub record HavePassed (tool : MergeTool) (s : Side) (old : BlockLine) (cursor next : Sorted) (was is : Reader)
+    (before after : Slots) (sent out : Output) (result : Result (Unit {0}) MergeFault) : Type 0 where
+  pub at : Reached
+  pub post : LineRunPost tool s old at sent out
+  pub resumed : ResumePost at cursor next was is before after result
+
+-- An input was at a line. The lines of its block are passed, or a write failed, and then nothing is consumed or stored.
 pub record IsBlockPassed (tool : MergeTool) (s : Side) (cursor next : Sorted) (was is : Reader) (before after : Slots)
     (sent out : Output) (result : Result (Unit {0}) MergeFault) : Type 0 where
   pub head : cursor.status ≡ Head
-  pub run : LineRun
   pub old : BlockLine
   pub head_is : old.head.now ≡ line before cursor.current_slot
   pub rest_is : old.rest.now ≡ was.buffered
-  pub post : LineRunPost tool s old run sent out
-  pub resumed : IsResumed run.at cursor next was is before after
-  pub result_is : result ≡ (if run.failed then Err Write else Ok tt)
+  pub ends : (HasFailedAlone tool s old sent out × (result ≡ Err Write) × (is ≡ was) × (after ≡ before))
+      ⊎ HavePassed tool s old cursor next was is before after sent out result
 
 -- One input had ended. The lines of the other one's block are passed.
 pub record IsOtherPassed (tool : MergeTool) (cursor next : Side → Sorted) (was is : MergeState)
@@ -107,9 +154,3 @@ abbrev pub BlocksPost : MergeTool → (Side → Sorted) → (Side → Sorted) �
 BlocksPost tool cursor next was is result =
     ((next ≡ cursor) × (is ≡ was) × (result ≡ Ok tt))
     ⊎ (AreBlocksMerged tool cursor next was is result ⊎ IsOtherPassed tool cursor next was is result)
-
--- The inputs that are at lines: both, or one that is left.
-abbrev pub AreShortHeads : (Side → Sorted) → ShortHeads → Type 0
-AreShortHeads cursor Both = (side : Side) → (cursor side).status ≡ Head
-AreShortHeads cursor (Only s) = ((cursor s).status ≡ Head) × ((cursor (other s)).status ≡ Ended)
-AreShortHeads cursor Neither = Unit {0}

@@ -1,14 +1,33 @@
 //! Lines of the inputs of a merge that end in the blocks of their readers, and are merged there without a copy in the
-//! store. `BlockLine` is the line reached in one block, with its key and the step to the next line; `BlockRun` and
-//! `LineRun` are where a merge of two blocks, or of one, ended. The loops are in `block_merge`.
+//! store. `BlockLine` is the line reached in one block, with its key and the step to the next line; `BlockRun` is where
+//! a merge of two blocks ended. The loops are in `block_merge`.
 
-ghost use Rattle.std.specs.Prelude.{◌≡◌, IfSome, true, false};
+ghost use Rattle.memchr.specs.Find.{IsFirstByte, is_byte};
+ghost use Rattle.std.specs.Prelude.{◌≡◌, IfSome};
 ghost use Rattle.ptmerge.specs.Calls.Sides.{both};
-ghost use Rattle.ptmerge.specs.Private.BlockLines.{HasKey, IsInBlock, IsNextLine, IsReached, IsRunEnd};
+ghost use Rattle.ptmerge.specs.Private.BlockLines.{AreReached, HasKey, IsInBlock, IsNextLine, IsReached};
 
 use crate::key_order::{KeyOrder, Side};
 use crate::merging::cursor::Reached;
-use ptlines::find_byte;
+use ptlines::{find_byte, find_in_chunk};
+
+// Returns the index of the first byte equal to `terminator`. It compares 32 bytes at a time: most lines end within so
+// few that a call of `memchr` costs more.
+#[inline(always)]
+#[tactic(auto, using(ptlines::proofs::MatchMasks::nowhere_trans, ptlines::proofs::MatchMasks::first_after))]
+fn find_end(terminator: u8, bytes: &[u8]) -> Option<usize>
+    ensures { IsFirstByte (is_byte terminator) bytes.now result }
+{
+    let mut at = 0;
+    'chunks: while bytes.len() - at >= 32 {
+        if let Some(end) = find_in_chunk::<32>(terminator, bytes, at) {
+            return Some(end);
+        }
+        at += 32;
+    }
+    let end = find_byte(terminator, &bytes[at..])?;
+    Some(at + end)
+}
 
 // The current line of an input with its key, and the bytes in its block after this line. `passed` lines
 // came before it since the merge of the blocks began. `same` is true if there are such lines, and the last of them has
@@ -22,21 +41,11 @@ pub(crate) struct BlockLine<'a> {
     pub same: bool,
 }
 
-// Where a merge of two blocks ended. `failed` is true if a write has failed; the lines that were to be written are then
-// passed.
+// Where a merge of two blocks ended.
 #[derive(Clone, Copy)]
 pub(crate) struct BlockRun {
     pub first: Reached,
     pub second: Reached,
-    pub failed: bool,
-}
-
-// Where an input is after lines of its block were passed, while the other input had ended. `failed` is true if a write
-// has failed; the line that was to be written is then passed.
-#[derive(Clone, Copy)]
-pub(crate) struct LineRun {
-    pub at: Reached,
-    pub failed: bool,
 }
 
 impl<'a> BlockLine<'a> {
@@ -56,8 +65,7 @@ impl<'a> BlockLine<'a> {
         }
     }
 
-    // Returns the next line, if its terminator is among the next 64 bytes and it is in order. Longer lines take the
-    // other way, since a search for their end would be in vain too often.
+    // Returns the next line, if it ends in the block and is in order.
     #[inline(always)]
     pub(crate) fn next<K: KeyOrder>(
         self,
@@ -70,8 +78,7 @@ impl<'a> BlockLine<'a> {
         ensures { let key = K.key_of order.now side in
             IfSome result (λ next. IsNextLine terminator (K.order order.now) key self.entry next) }
     {
-        let near = &self.rest[..self.rest.len().min(64)];
-        let size = find_byte(terminator, near)?;
+        let size = find_end(terminator, self.rest)?;
         let head = &self.rest[..size];
         let key = order.key(side, order.span(side, head), head);
         let ordering = order.cmp(self.key, key);
@@ -103,25 +110,12 @@ impl<'a> BlockLine<'a> {
 impl BlockRun {
     // Returns the end of a merge before these lines, which are not passed.
     #[inline(always)]
-    pub(crate) fn stopped(first: BlockLine, second: BlockLine) -> BlockRun
-        ensures { IsRunEnd false (both first.entry second.entry) result }
+    pub(crate) fn before(first: BlockLine, second: BlockLine) -> BlockRun
+        ensures { AreReached (both first.entry second.entry) result }
     {
         BlockRun {
             first: first.reached(),
             second: second.reached(),
-            failed: false,
-        }
-    }
-
-    // Returns the end of a merge at a failed write, after which these lines would come.
-    #[inline(always)]
-    pub(crate) fn failed(first: BlockLine, second: BlockLine) -> BlockRun
-        ensures { IsRunEnd true (both first.entry second.entry) result }
-    {
-        BlockRun {
-            first: first.reached(),
-            second: second.reached(),
-            failed: true,
         }
     }
 }

@@ -1,11 +1,12 @@
 //! The merge of the lines that end in the blocks of both readers, or of one after the end of the other input, for any
 //! tool.
 
-ghost use Rattle.std.specs.Prelude.{◌≡◌, false};
+ghost use Rattle.std.specs.Prelude.{◌≡◌, false, IfOk, OnOk, OnErr};
 ghost use Rattle.ptmerge.specs.Calls.MergeCall.{merge_state};
 ghost use Rattle.ptmerge.specs.Calls.MergeSteps.{AreValidCursors};
 ghost use Rattle.ptmerge.specs.Calls.Sides.{both, other};
-ghost use Rattle.ptmerge.specs.Private.BlockLines.{BlockRunPost, CanMerge, IsBlockTool, LineRunPost, in_order};
+ghost use Rattle.ptmerge.specs.Private.BlockLines.{BlockRunPost, CanMerge, HasFailed, HasFailedAlone};
+ghost use Rattle.ptmerge.specs.Private.BlockLines.{IsBlockTool, LineRunPost, in_order};
 ghost use Rattle.ptmerge.specs.Private.Passed.{AreBlocksMerged, BlocksPost, BlocksPre, IsBlockPassed};
 ghost use Rattle.ptmerge.specs.Private.WriteAndAdvance.{AdvancePre};
 ghost use Rattle.ptmerge.specs.declared.key_order.Side.{Side as SideType};
@@ -14,14 +15,16 @@ ghost use Rattle.ptmerge.specs.declared.merging.cursor.CursorStatus.TheVariants 
 use crate::faults::MergeFault;
 use crate::key_order::Side::{First, Second};
 use crate::key_order::{KeyOrder, Side};
-use crate::merging::block_lines::{BlockLine, BlockRun, LineRun};
+use crate::merging::Merge;
+use crate::merging::block_lines::{BlockLine, BlockRun};
+use crate::merging::cursor::CursorStatus::{Ended, Head};
+use crate::merging::cursor::Reached;
 use crate::merging::writer::MergeWriter;
-use crate::merging::{Merge, ShortHeads};
-use ptlines::{LineReader, Out, Sink, Source, Store};
+use ptlines::{LineReader, Out, Sink, Source, Store, WriteFault};
 use std::alloc::Allocator;
 use std::cmp::Ordering;
 
-// Merges the lines of two blocks, up to the first line that is not near the line before it or is out of order. If the
+// Merges the lines of two blocks, up to the first line that does not end in its block or is out of order. If the
 // tool does not write pair by pair, this also ends before a key with several lines of an input. Inlined, so that keys
 // that are whole lines take no registers.
 #[inline(always)]
@@ -32,13 +35,15 @@ fn merge_lines<K: KeyOrder, T: MergeWriter, W: Sink>(
     first: BlockLine,
     second: BlockLine,
     out: &mut Out<W>,
-) -> BlockRun
+) -> Result<BlockRun, WriteFault>
     requires ends { terminator ≡ (T.tool tool).terminator }
     requires tool { IsBlockTool (T.tool tool) (K.key_of order.now) }
     requires begins { (side : SideType) → CanMerge (K.key_of order.now side) (both first second side) }
     requires clean { out.old.write_failed ≡ false }
-    ensures { let tool = in_order (T.tool tool) (K.order order.now) (K.key_of order.now) in
-        BlockRunPost tool (both first.entry second.entry) result out.old out.new }
+    ensures merged { let tool = in_order (T.tool tool) (K.order order.now) (K.key_of order.now) in
+        IfOk result (λ run. BlockRunPost tool (both first.entry second.entry) run out.old out.new) }
+    ensures failed { let tool = in_order (T.tool tool) (K.order order.now) (K.key_of order.now) in
+        OnErr result (HasFailed tool (both first.entry second.entry) out.old out.new) }
 {
     let by_pairs = tool.is_pair_by_pair();
     let (mut one, mut two) = (first, second);
@@ -46,35 +51,29 @@ fn merge_lines<K: KeyOrder, T: MergeWriter, W: Sink>(
         match order.cmp(one.key, two.key) {
             Ordering::Less => {
                 let Some(next) = one.next(order, First, terminator) else {
-                    return BlockRun::stopped(one, two);
+                    return Ok(BlockRun::before(one, two));
                 };
-                let Ok(()) = tool.write_alone(First, one.key, one.head, terminator, out) else {
-                    return BlockRun::failed(next, two);
-                };
+                tool.write_alone(First, one.key, one.head, terminator, out)?;
                 one = next;
             }
             Ordering::Greater => {
                 let Some(next) = two.next(order, Second, terminator) else {
-                    return BlockRun::stopped(one, two);
+                    return Ok(BlockRun::before(one, two));
                 };
-                let Ok(()) = tool.write_alone(Second, two.key, two.head, terminator, out) else {
-                    return BlockRun::failed(one, next);
-                };
+                tool.write_alone(Second, two.key, two.head, terminator, out)?;
                 two = next;
             }
             Ordering::Equal => {
                 let Some(next1) = one.next(order, First, terminator) else {
-                    return BlockRun::stopped(one, two);
+                    return Ok(BlockRun::before(one, two));
                 };
                 let Some(next2) = two.next(order, Second, terminator) else {
-                    return BlockRun::stopped(one, two);
+                    return Ok(BlockRun::before(one, two));
                 };
                 if !by_pairs && (next1.same || next2.same) {
-                    return BlockRun::stopped(one, two);
+                    return Ok(BlockRun::before(one, two));
                 }
-                let Ok(()) = tool.write_both(one.key, one.head, two.head, terminator, out) else {
-                    return BlockRun::failed(next1, next2);
-                };
+                tool.write_both(one.key, one.head, two.head, terminator, out)?;
                 one = next1;
                 two = next2;
             }
@@ -101,16 +100,17 @@ fn merge_blocks<K: KeyOrder, T: MergeWriter, A: Allocator + Copy, S: Source, R: 
         AreBlocksMerged tool (both merge.old.first merge.old.second) (both merge.new.first merge.new.second) was is
         result }
     ensures order { merge.new.order ≡ merge.old.order }
-    ensures valid_cursors { AreValidCursors (K.key_of merge.new.order) merge.new.first merge.new.second store.new }
+    ensures valid_cursors { let key = K.key_of merge.new.order in
+        OnOk result (AreValidCursors key merge.new.first merge.new.second store.new) }
 {
     let one = merge.block_line(First, first, store);
     let two = merge.block_line(Second, second, store);
-    let run = merge_lines(merge.order(), tool, first.terminator(), one, two, out);
+    let run = merge_lines(merge.order(), tool, first.terminator(), one, two, out)?;
     merge.resume_both(run, first, second, store)
 }
 
-// Passes the lines of a block, while the other input has ended, up to the first line that is not near the line before
-// it or is out of order.
+// Passes the lines of a block, while the other input has ended, up to the first line that does not end in it or is out
+// of order.
 #[inline(always)]
 fn pass_lines<K: KeyOrder, T: MergeWriter, W: Sink>(
     order: &K,
@@ -119,28 +119,22 @@ fn pass_lines<K: KeyOrder, T: MergeWriter, W: Sink>(
     terminator: u8,
     first: BlockLine,
     out: &mut Out<W>,
-) -> LineRun
+) -> Result<Reached, WriteFault>
     requires ends { terminator ≡ (T.tool tool).terminator }
     requires tool { IsBlockTool (T.tool tool) (K.key_of order.now) }
     requires begins { CanMerge (K.key_of order.now side) first }
     requires clean { out.old.write_failed ≡ false }
-    ensures { let tool = in_order (T.tool tool) (K.order order.now) (K.key_of order.now) in
-        LineRunPost tool side first.entry result out.old out.new }
+    ensures passed { let tool = in_order (T.tool tool) (K.order order.now) (K.key_of order.now) in
+        IfOk result (λ at. LineRunPost tool side first.entry at out.old out.new) }
+    ensures failed { let tool = in_order (T.tool tool) (K.order order.now) (K.key_of order.now) in
+        OnErr result (HasFailedAlone tool side first.entry out.old out.new) }
 {
     let mut line = first;
     'lines: loop {
         let Some(next) = line.next(order, side, terminator) else {
-            return LineRun {
-                at: line.reached(),
-                failed: false,
-            };
+            return Ok(line.reached());
         };
-        let Ok(()) = tool.write_alone(side, line.key, line.head, terminator, out) else {
-            return LineRun {
-                at: next.reached(),
-                failed: true,
-            };
-        };
+        tool.write_alone(side, line.key, line.head, terminator, out)?;
         line = next;
     }
 }
@@ -167,19 +161,15 @@ fn pass_block<K: KeyOrder, T: MergeWriter, A: Allocator + Copy, S: Source, R: So
     ensures others { both merge.new.first merge.new.second (other side)
         ≡ both merge.old.first merge.old.second (other side) }
     ensures order { merge.new.order ≡ merge.old.order }
-    ensures valid_cursors { AreValidCursors (K.key_of merge.new.order) merge.new.first merge.new.second store.new }
+    ensures valid_cursors { let key = K.key_of merge.new.order in
+        OnOk result (AreValidCursors key merge.new.first merge.new.second store.new) }
 {
     let line = merge.block_line(side, reader, store);
-    let run = pass_lines(merge.order(), tool, side, reader.terminator(), line, out);
-    merge.resume(side, run.at, reader, store);
-    if run.failed {
-        return Err(MergeFault::Write);
-    }
-    Ok(())
+    let at = pass_lines(merge.order(), tool, side, reader.terminator(), line, out)?;
+    merge.resume(side, at, reader, store)
 }
 
-// Merges the lines of both blocks, if both inputs are at lines of fewer than 64 bytes, and after such lines. If one
-// input has ended, this passes those of the other.
+// Merges the lines of both blocks, if both inputs are at lines. If one input has ended, this passes those of the other.
 #[inline(always)]
 pub(crate) fn merge_in_blocks<
     K: KeyOrder,
@@ -203,12 +193,13 @@ pub(crate) fn merge_in_blocks<
         let is = merge_state first.new second.new out.new store.new in
         BlocksPost tool (both merge.old.first merge.old.second) (both merge.new.first merge.new.second) was is result }
     ensures order { merge.new.order ≡ merge.old.order }
-    ensures valid_cursors { AreValidCursors (K.key_of merge.new.order) merge.new.first merge.new.second store.new }
+    ensures valid_cursors { let key = K.key_of merge.new.order in
+        OnOk result (AreValidCursors key merge.new.first merge.new.second store.new) }
 {
-    match merge.short_heads(store) {
-        ShortHeads::Both => merge_blocks(merge, tool, first, second, store, out),
-        ShortHeads::Only(First) => pass_block(merge, tool, First, first, store, out),
-        ShortHeads::Only(Second) => pass_block(merge, tool, Second, second, store, out),
-        ShortHeads::Neither => Ok(()),
+    match (merge.first.status, merge.second.status) {
+        (Head, Head) => merge_blocks(merge, tool, first, second, store, out),
+        (Head, Ended) => pass_block(merge, tool, First, first, store, out),
+        (Ended, Head) => pass_block(merge, tool, Second, second, store, out),
+        _ => Ok(()),
     }
 }

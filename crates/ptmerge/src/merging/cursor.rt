@@ -5,7 +5,7 @@ ghost use Rattle.std.specs.Prelude.{◌≡◌, ◌<◌, length, if◌then◌else
 ghost use Rattle.ptlines.specs.Calls.Readers.{IsSound};
 ghost use Rattle.ptmerge.specs.Calls.Cursor.{NextPost, initial_cursor};
 ghost use Rattle.ptmerge.specs.Calls.KeySpan.{IsValidCursor};
-ghost use Rattle.ptmerge.specs.Private.Passed.{CanResume, IsResumed};
+ghost use Rattle.ptmerge.specs.Private.Passed.{CanResume, ResumePost};
 ghost use Rattle.ptmerge.specs.Calls.MergeSteps.{NextPre};
 
 use crate::faults::MergeFault;
@@ -121,9 +121,9 @@ impl Sorted {
         Ok(())
     }
 
-    // Consumes the lines that were merged in the block of the reader. The line reached, if it is in the block, is
-    // copied to the slot of the current line. `same` and the slot of the previous line are those of the line before
-    // these, so no call may rely on them until `next` sets both.
+    // Makes the line reached in the block of the reader the current line, and consumes the bytes up to its terminator.
+    // If lines were passed, it is copied to the slot; if that fails, nothing is consumed. `same` and the slot of the
+    // previous line are those of the line before these, so no call may rely on them until `next` sets both.
     #[inline(always)]
     pub fn resume<K: KeyOrder, A: Allocator + Copy, S: Source, R: Source>(
         &mut self,
@@ -132,20 +132,24 @@ impl Sorted {
         at: Reached,
         reader: &mut LineReader<S, R>,
         store: &mut Store<A>,
-    )
+    ) -> Result<(), MergeFault>
         requires slot { self.old.current_slot < length store.old.lines }
         requires fits { CanResume at self.old reader.old }
         requires cursor_valid { IsValidCursor (K.key_of order.now side) self.old store.old }
-        ensures resumes { IsResumed at self.old self.new reader.old reader.new store.old store.new }
-        ensures cursor_valid { IsValidCursor (K.key_of order.now side) self.new store.new }
+        ensures resumes { ResumePost at self.old self.new reader.old reader.new store.old store.new result }
+        ensures cursor_valid { OnOk result (IsValidCursor (K.key_of order.now side) self.new store.new) }
     {
         let used = reader.buffered().len() - at.left;
         if at.passed > 0 {
             let head = &reader.buffered()[used - 1 - at.size..used - 1];
-            store.set_short(self.current_slot, head);
+            match store.set(self.current_slot, head) {
+                Ok(()) => {}
+                Err(_) => return Err(MergeFault::Memory),
+            }
             self.number += at.passed as u64;
             self.key = order.span(side, head);
         }
         reader.consume(used);
+        Ok(())
     }
 }

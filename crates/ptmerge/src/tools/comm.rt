@@ -1,5 +1,5 @@
 //! The engine of `comm`: each step of the merge writes one line, of one input or of both, in a `column`. Before a
-//! step, short lines are merged in the blocks where they are.
+//! step, lines are merged in the blocks where they are.
 
 ghost use Rattle.std.specs.Prelude.{◌≡◌, ℕ, List};
 ghost use Rattle.ptlangs.specs.Jobs.{comm_job};

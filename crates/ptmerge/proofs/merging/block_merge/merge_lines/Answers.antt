@@ -1,5 +1,5 @@
 -- Answers for `merge_lines`: its loop at the start, after each arm, which passes one line or one of each input, and at
--- its exits, where no line is near or a write has failed.
+-- its exits, where no line ends in its block or a write has failed.
 use Rattle.ptmerge.proofs
 use proofs.Common.{sym, ◌∙◌, ap, arith, is_gt, First, Second, both}
 use proofs.MergeLemmas.{less_flips, IsKeyOrder}
@@ -75,16 +75,16 @@ lines-preserved-in-Less g c =
     (alone_passes _ _ _ (key_order g _) c.requires.tool First {now = both c.lines.one c.lines.two}
     (i.key_is First) (i.key_is Second) (ap is_gt (less_flips _ (key_order g _) _ _ (grind arith)))
     (rw c.requires.ends at c.write_alone.ensures.wrote) (rw c.requires.ends at c.in-Some.ensures))
-    i (c.in-Ok.ensures.clean i.clean)
+    i (c.in_ok-write_alone-in-Less.ensures.clean i.clean)
 
-pub returns-in_default-write_alone : goal.returns-in_default-write_alone
-returns-in_default-write_alone g c =
+pub returns-in_err-write_alone-in-Less-clause-failed : goal.returns-in_err-write_alone-in-Less-clause-failed
+returns-in_err-write_alone-in-Less-clause-failed g c =
     let i = c.lines.invariant in
-    run_failed _ (key_order g _) c.failed.ensures i
+    run_failed _ i
     (alone_passes _ _ _ (key_order g _) c.requires.tool First {now = both c.lines.one c.lines.two}
     (i.key_is First) (i.key_is Second) (ap is_gt (less_flips _ (key_order g _) _ _ (grind arith)))
     (rw c.requires.ends at c.write_alone.ensures.wrote) (rw c.requires.ends at c.in-Some.ensures))
-    (grind arith)
+    c.in_err-write_alone-in-Less.ensures.fault
 
 pub lines-preserved-in-Greater : goal.lines-preserved-in-Greater
 lines-preserved-in-Greater g c =
@@ -93,27 +93,27 @@ lines-preserved-in-Greater g c =
     (alone_passes _ _ _ (key_order g _) c.requires.tool Second {now = both c.lines.one c.lines.two}
     (i.key_is Second) (i.key_is First) (grind arith)
     (rw c.requires.ends at c.write_alone-in-Greater.ensures.wrote) (rw c.requires.ends at c.in-Some-next.ensures))
-    i (c.in-Ok-write_alone.ensures.clean i.clean)
+    i (c.in_ok-write_alone-in-Greater.ensures.clean i.clean)
 
-pub returns-in_default-write_alone-2 : goal.returns-in_default-write_alone-2
-returns-in_default-write_alone-2 g c =
+pub returns-in_err-write_alone-in-Greater-clause-failed : goal.returns-in_err-write_alone-in-Greater-clause-failed
+returns-in_err-write_alone-in-Greater-clause-failed g c =
     let i = c.lines.invariant in
-    run_failed _ (key_order g _) c.failed-in_default-write_alone-2.ensures i
+    run_failed _ i
     (alone_passes _ _ _ (key_order g _) c.requires.tool Second {now = both c.lines.one c.lines.two}
     (i.key_is Second) (i.key_is First) (grind arith)
     (rw c.requires.ends at c.write_alone-in-Greater.ensures.wrote) (rw c.requires.ends at c.in-Some-next.ensures))
-    (grind arith)
+    c.in_err-write_alone-in-Greater.ensures.fault
 
 pub lines-preserved : goal.lines-preserved
 lines-preserved g c =
     let i = c.lines.invariant in
     step_on _ (key_order g _) c.requires.tool.alone.none
     (both_pass g (goal.at.lines-preserved g c).After-write_both)
-    i (c.in-Ok-write_both.ensures.clean i.clean)
+    i (c.in_ok-write_both-in-Equal.ensures.clean i.clean)
 
-pub returns-in_default-write_both : goal.returns-in_default-write_both
-returns-in_default-write_both g c =
+pub returns-in_err-write_both-in-Equal-clause-failed : goal.returns-in_err-write_both-in-Equal-clause-failed
+returns-in_err-write_both-in-Equal-clause-failed g c =
     let i = c.lines.invariant in
-    run_failed _ (key_order g _) c.failed-in_default-write_both.ensures i
-    (both_pass g (goal.at.returns-in_default-write_both g c).After-write_both)
-    (grind arith)
+    run_failed _ i
+    (both_pass g (goal.at.returns-in_err-write_both-in-Equal-clause-failed g c).After-write_both)
+    c.in_err-write_both-in-Equal.ensures.fault

@@ -1,41 +1,44 @@
 -- Answers for `pass_block`: what the calls require, that the input can go on from where the loop ended, and the
 -- contract, which is put together from those of the calls.
 use Rattle.ptmerge.proofs
-use proofs.Common.{refl}
-use proofs.BlockLemmas.{can_resume_line}
+use proofs.Common.{inl, inr, refl}
+use proofs.BlockLemmas.{can_resume_line, is_write_fault}
 use proofs.merging.block_merge.pass_block.Goals as goal
 
-pub pass_lines-run-requires-clause-begins : goal.pass_lines-run-requires-clause-begins
-pass_lines-run-requires-clause-begins g c = rw c.order.ensures c.block_line-line.ensures.begins
+pub pass_lines-requires-clause-begins : goal.pass_lines-requires-clause-begins
+pass_lines-requires-clause-begins g c = rw c.order.ensures c.block_line-line.ensures.begins
 
-pub pass_lines-run-requires-clause-tool : goal.pass_lines-run-requires-clause-tool
-pass_lines-run-requires-clause-tool g c = rw c.order.ensures c.requires.tool
+pub pass_lines-requires-clause-tool : goal.pass_lines-requires-clause-tool
+pass_lines-requires-clause-tool g c = rw c.order.ensures c.requires.tool
 
 pub resume-requires-clause-fits : goal.resume-requires-clause-fits
 resume-requires-clause-fits g c =
-    can_resume_line c.pass_lines-run.ensures c.block_line-line.ensures.rest c.requires.status_is.head
+    can_resume_line c.in_ok-at.ensures.passed c.block_line-line.ensures.rest c.requires.status_is.head
     c.requires.status_is.own_reader
 
-pub returns-then-run-clause-passes : goal.returns-then-run-clause-passes
-returns-then-run-clause-passes g c = record {
+pub returns-in_err-at-clause-passes : goal.returns-in_err-at-clause-passes
+returns-in_err-at-clause-passes g c = record {
   head = c.requires.status_is.head;
-  run = _;
   old = _;
   head_is = c.block_line-line.ensures.head;
   rest_is = c.block_line-line.ensures.rest;
-  post = rw c.order.ensures at c.pass_lines-run.ensures;
-  resumed = c.resume.ensures.resumes;
-  result_is = rw c.if-run.true refl;
+  ends = inl (
+    rw c.order.ensures at c.in_err-at.ensures.failed,
+    is_write_fault c.from_residual.ensures.1,
+    refl,
+    refl,
+  );
 }
 
 pub returns-clause-passes : goal.returns-clause-passes
 returns-clause-passes g c = record {
   head = c.requires.status_is.head;
-  run = _;
   old = _;
   head_is = c.block_line-line.ensures.head;
   rest_is = c.block_line-line.ensures.rest;
-  post = rw c.order.ensures at c.pass_lines-run.ensures;
-  resumed = c.resume.ensures.resumes;
-  result_is = rw c.if-run.false refl;
+  ends = inr (record {
+    at = _;
+    post = rw c.order.ensures at c.in_ok-at.ensures.passed;
+    resumed = c.resume.ensures.resumes;
+  });
 }

@@ -1,5 +1,5 @@
--- Answers for `pass_lines`: its loop at the start, after one more line, and at its exits, where no line is near or a
--- write has failed.
+-- Answers for `pass_lines`: its loop at the start, after one more line, and at its exits, where no line ends in the block
+-- or a write has failed.
 use Rattle.ptmerge.proofs
 use proofs.Common.{sym, ◌∙◌}
 use proofs.MergeLemmas.{IsKeyOrder}
@@ -29,4 +29,4 @@ lines-preserved g c =
     let o : IsKeyOrder (g.K.KeyOrder.order c.args.order.now) = record { total = law.total _; exact = law.exact _ } in
     passes_on _ o c.requires.tool.alone c.args.side i (rw c.requires.ends at c.in-Some.ensures)
     (line_pushed _ _ _ o c.requires.tool c.args.side i.key_is (rw c.requires.ends at c.write_alone.ensures.wrote))
-    (c.in-Ok.ensures.clean i.clean)
+    (c.in_ok-write_alone.ensures.clean i.clean)

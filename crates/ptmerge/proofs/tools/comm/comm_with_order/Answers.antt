@@ -21,7 +21,8 @@ module _ (g : given.Over) (c : After-step g) where
       (merge_state c.args.first.now c.args.second.now c.args.out.now c.args.store.now)
       (merge_state is.first is.second is.out is.store) is.merge.first is.merge.second is.merge.order c.args.order
   on_by_blocks = kept_by_blocks g.K.KeyOrder.order g.K.KeyOrder.key_of c.steps.invariant
-      c.in_ok-merge_in_blocks.ensures.merges c.merge_in_blocks.ensures.order c.merge_in_blocks.ensures.valid_cursors
+      c.in_ok-merge_in_blocks.ensures.merges c.merge_in_blocks.ensures.order
+      c.in_ok-merge_in_blocks.ensures.valid_cursors
 
   read_by_blocks : let is = c.merge_in_blocks.new in
       reads_ahead (both is.first is.second) is.merge.first is.merge.second
@@ -71,7 +72,7 @@ pub returns-in_err-merge_in_blocks : goal.returns-in_err-merge_in_blocks
 returns-in_err-merge_in_blocks g c =
     let i = c.steps.invariant in
     fails i c.from_residual-in_err-merge_in_blocks.ensures.1
-    (blocks_fail i.iteration.loop_invariant i.iteration.between c.in_err-merge_in_blocks.ensures.merges refl)
+    (blocks_fail i.iteration.loop_invariant i.iteration.between c.in_err-merge_in_blocks.ensures.merges)
 
 -- ---- a line of one input
 

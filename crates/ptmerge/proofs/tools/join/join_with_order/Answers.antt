@@ -39,7 +39,7 @@ module _ (g : given.Over) (c : After-step g) where
               blocks_joined (join_job c.args.job.now) c.steps.invariant.iteration.keys
                   w.in_ok-merge_in_blocks.ensures.merges,
               w.merge_in_blocks.ensures.order,
-              w.merge_in_blocks.ensures.valid_cursors,
+              w.in_ok-merge_in_blocks.ensures.valid_cursors,
             )
         | else-not-after_group w ↦
             simp (w.first-is, w.second-is, w.store-is, w.out-is, w.merge-is) (
@@ -88,13 +88,13 @@ returns-in_err-merge_in_blocks g c =
     let i = c.steps.invariant in
     fails i c.from_residual-in_err-merge_in_blocks.ensures.1
     (blocks_fail i.iteration.here i.iteration.between
-    (blocks_joined (join_job c.args.job.now) i.iteration.keys c.in_err-merge_in_blocks.ensures.merges) refl)
+    (blocks_joined (join_job c.args.job.now) i.iteration.keys c.in_err-merge_in_blocks.ensures.merges))
 
 pub step-requires : goal.step-requires
 step-requires g c =
     elim c.if-not-after_group.branch [
       | then-not-after_group+in_ok-merge_in_blocks w ↦
-          simp (w.store-is, w.merge-is) w.merge_in_blocks.ensures.valid_cursors
+          simp (w.store-is, w.merge-is) w.in_ok-merge_in_blocks.ensures.valid_cursors
       | else-not-after_group w ↦ simp (w.store-is, w.merge-is) c.steps.invariant.iteration.between.valid_cursors
     ]
 

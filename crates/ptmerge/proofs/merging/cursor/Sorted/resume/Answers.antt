@@ -3,7 +3,7 @@
 use Rattle.ptmerge.proofs
 use proofs.Common.{arith, length, ◌-◌}
 use proofs.BlockLemmas.{own_on}
-use proofs.merging.cursor.Sorted.resume.Goals.{then-at-gt0, else-at-gt0}
+use proofs.merging.cursor.Sorted.resume.Goals.{then-at-gt0+in-Ok, else-at-gt0}
 use proofs.merging.cursor.Sorted.resume.Goals as goal
 
 pub returns-clause-resumes : goal.returns-clause-resumes
@@ -14,7 +14,7 @@ returns-clause-resumes g c =
     fits.own_reader.counted
     (omega (arith, fits.within)) (omega arith) in
     elim c.if-at-gt0.branch [
-      | then-at-gt0 w ↦ record {
+      | then-at-gt0+in-Ok w ↦ record {
         reader = grind arith;
         sound = c.consume.ensures.is_sound;
         unmoved = λ none. absurd (omega (arith, w.if-at-gt0.true));
