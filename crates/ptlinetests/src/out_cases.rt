@@ -9,8 +9,8 @@ use std::process::Abort;
 use std::test::Fail;
 
 // The lengths of the slices pushed, which name the case; how many bytes the sink has before `finish`; and the number of
-// its calls in all, including one flush. A block of 8,192 bytes is written when it would overflow, and then a slice of
-// a whole block is written directly; a larger one always is.
+// its calls in all, including one flush. A slice that does not fit fills the block of 8,192 bytes, which is written; of
+// the rest half a block or more is written directly.
 const PUSHES: &[(&[usize], usize, u64)] = &[
     (&[], 0, 1),
     (&[0], 0, 1),
@@ -18,16 +18,16 @@ const PUSHES: &[(&[usize], usize, u64)] = &[
     (&[3, 0, 4], 0, 2),
     (&[BLOCK - 1], 0, 2),
     (&[BLOCK], 0, 2),
-    (&[BLOCK + 1], BLOCK + 1, 2),
-    (&[20000], 20000, 2),
+    (&[BLOCK + 1], BLOCK, 3),
+    (&[20000], 20000, 3),
     (&[BLOCK - 1, 1], 0, 2),
     (&[BLOCK, 1], BLOCK, 3),
-    (&[BLOCK - 1, 2], BLOCK - 1, 3),
-    (&[1, BLOCK], BLOCK + 1, 3),
+    (&[BLOCK - 1, 2], BLOCK, 3),
+    (&[1, BLOCK], BLOCK, 3),
     (&[4000, BLOCK - 4000, 1], BLOCK, 3),
     (&[5, 20000, 0, 5], 20005, 4),
     (&[5, 20000, 5], 20005, 4),
-    (&[3000, 3000, 3000, 3000, 3000, 3000], 12000, 4),
+    (&[3000, 3000, 3000, 3000, 3000, 3000], 2 * BLOCK, 4),
 ];
 
 // Pushes slices of these lengths, which together are one line of `text`, and returns how many were pushed without
