@@ -155,6 +155,9 @@ class File:
             os.close(self.descriptor)
             raise PartsError(f"{path}: not a regular file, so it cannot be cut")
         self.size, self.modified = found.st_size, found.st_mtime_ns
+        if not self.size and self.read(0, 1):
+            os.close(self.descriptor)
+            raise PartsError(f"{path}: it has bytes, and no size, so it cannot be cut")
 
     def read(self, at: int, count: int) -> bytes:
         try:
@@ -812,7 +815,8 @@ def call(words: list[str]) -> None:
             print(__doc__, end="")
             return
         jobs = read_number(chosen.get("-j", str(len(os.sched_getaffinity(0)))))
-        run_all(make_plan(command, jobs, chosen.get("-i") or find_stdin(), PART_SIZE), jobs)
+        stdin = chosen.get("-i") or (find_stdin() if "-" in read_words(command).operands else None)
+        run_all(make_plan(command, jobs, stdin, PART_SIZE), jobs)
     else:
         raise PartsError(USAGE, 2)
 

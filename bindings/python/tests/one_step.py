@@ -109,6 +109,10 @@ def check_failures(room):
     check("a pipe", found[2] == "ptext-parts: /dev/stdin: not a regular file, so it cannot be cut\n", found)
     found = run_shell(f"{{ head -n 1; {parts} cut -c 1; }} < left")
     check("what was read in part", found[0] == 2 and "its file has to be given" in found[2], found)
+    found = run_shell(f"{{ head -n 1; {parts} cut -c 1-2 left; }} < left | sort -u | head -n 1")
+    check("standard input that the command does not read", found[0] == 0 and found[1] and not found[2], found)
+    found = run_shell(f"{parts} cut -c 1 /proc/self/status")
+    check("a file without a size", found[0] == 1 and not found[1] and "no size" in found[2], found)
     for words in ("-j 0 cut -c 1 left", "-j", "-q cut -c 1 left", "sort left", "cut -q left", ""):
         found = run_shell(f"{parts} {words}")
         check(words, found[0] == 2 and not found[1] and found[2], found)
