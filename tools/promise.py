@@ -342,8 +342,8 @@ def format_contract(file, name):
     return "\n".join(clauses)
 
 
-def make_page(specs, page, sections):
-    """The text of a page."""
+def make_page(specs, page, sections, explained):
+    """The text of a page, and the names of the library that it or an earlier page explains."""
     taken = [pair for _, pairs in sections for pair in pairs]
     declared = find_types(specs, taken)
     by_module = {}
@@ -364,18 +364,21 @@ def make_page(specs, page, sections):
         texts.append("\n".join([*lines, "```", "", *format_steps(title), *format_corners(title)]))
     total = count_lines(definition for _, definition in taken)
     rows.append(f"| All | {len(taken)} | {total} |")
-    library = format_library(find_library_names(specs, taken))
+    used = find_library_names(specs, taken)
+    library = format_library(used - explained)
     words = page.words.replace("PARTS", "\n".join(rows)).replace("LIBRARY", library)
     words = words.replace("CONTRACT", format_contract(*CONTRACTS[0]))
     words = re.sub(r"FIELD\((.*?)\)", lambda found: format_field(specs, found[1]), words)
-    return "\n".join([words, *texts])
+    return "\n".join([words, *texts]), used | explained
 
 
 def make_pages():
     """The text of each page, by its file."""
     specs = Specs()
-    pages = split_pages(specs)
-    return {page.path: make_page(specs, page, pages[page.path]) for page in (PROMISE, BEYOND)}
+    pages, made, explained = split_pages(specs), {}, set()
+    for page in (PROMISE, BEYOND):
+        made[page.path], explained = make_page(specs, page, pages[page.path], explained)
+    return made
 
 
 def find_roots(specs, file, name):

@@ -27,7 +27,7 @@ hold whatever fails.
 | A run that stopped has the messages about the operands before, and one about the failure | FIELD(ptrun.Runs.IsStopped.messages) | |
 | If a read failed and no write did, that read is named | FIELD(ptrun.Runs.IsRun.names_failed_read) | |
 | and what is decided is written | FIELD(ptrun.Runs.IsRun.decided_is_written) | more than `decided`: after 80,000 bytes of `a` lines and a failed read, `uniq` may have written nothing, as they are one run |
-| What is decided is not nothing: the whole output is what is decided by inputs that are known whole, and of `uniq` also the last run (the law `output_is_decided`) | `output job positions w = decided job positions (all_received w) ++ at_end job positions w` | |
+| What is decided is not nothing: the whole output is what is decided by inputs that are known whole, and of `uniq` also the last run (the law `output_is_decided`) | `output job positions w = decided job positions (all_received w) ++ at_end job positions w` | what is decided of an input whose end was not reached: one that gives nothing there would meet this line |
 | Inputs may go on as any that are consistent with what was received | `AreInputsConsistent r w` | |
 | If the words are no command, one message names the first fault, the status is 2 and nothing is read or written | `spec_of_result tool (Err fault) = message_only (usage_message tool (Some fault)) 2` | |
 | If memory ran out while the words were read, one message says so, and the status is 1 | `spec_unless_memory` | when that happens |
@@ -87,7 +87,7 @@ and of `CommandSpec` that say these things.
 | Inputs that were not begun are unchanged, and operands that are done were read to their ends | `untouched` and `ended` of `IsRun` | |
 | If memory ran out, something was left to do | `left` of `IsRun` | that there really was no memory |
 | After any failure, all output that was decided two blocks (16,384 bytes) of input earlier is written, but for at most one block after a failed write | `bounded_lag` of `IsRun` | anything while a run goes on, or of more than `decided` |
-| Unless a write failed, all output is flushed, once | `flushed` and `flushes` of `IsRun` | |
+| Unless a write failed, all output is flushed, once | `flushed` and `flushes` of `IsRun` | of a run that is to read nothing, or of bytes that were unflushed before it |
 | If the words are no command, or an input that has to be there is not, nothing is read, written or kept | `reads_nothing` of `run` | |
 | The store has no more slots than these lines need | `slots` of `IsRunInStore` | how much memory a slot takes |
 | The files that the words name are opened in order, each once, and no other; the output file is created if all inputs were opened | `RunOverFilesPost` of `run_over_files` | |

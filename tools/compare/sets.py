@@ -59,7 +59,7 @@ def read_unit(text, at):
 
 
 def read_unit_or_none(text, at):
-    """Like unit_at, but None if there is no character."""
+    """Like read_unit, but None if there is no character."""
     try:
         return read_unit(text, at) if at < len(text) else None
     except Wrong:

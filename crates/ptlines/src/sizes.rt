@@ -3,7 +3,7 @@
 ghost use Rattle.std.specs.Prelude.{◌≡◌};
 
 /// The size of a block of bytes, which a reader or an output buffers. A reader reads no more at once; an output writes
-/// what is buffered, and bytes that are pushed together and fill a block or more, as they are.
+/// whole blocks, and half a block or more as it is if nothing is buffered.
 pub const BLOCK: usize = 8192;
 
 /// The count of bytes after a block. So a vector of `PAD` bytes can be loaded or stored at any index of the block.
