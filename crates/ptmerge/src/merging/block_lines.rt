@@ -14,7 +14,7 @@ use ptlines::{find_byte, find_in_chunk};
 // Returns the index of the first byte equal to `terminator`. It compares 32 bytes at a time: most lines end within so
 // few that a call of `memchr` costs more.
 #[inline(always)]
-#[tactic(auto, using(ptlines::proofs::MatchMasks::nowhere_trans, ptlines::proofs::MatchMasks::first_after))]
+#[tactic(auto, using(ptlines::proofs::MatchMasks::nowhere_trans))]
 fn find_end(terminator: u8, bytes: &[u8]) -> Option<usize>
     ensures { IsFirstByte (is_byte terminator) bytes.now result }
 {
