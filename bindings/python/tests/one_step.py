@@ -170,7 +170,7 @@ def check_ends(room):
         for words in (["-j", "3", "cut", "-c", "1-3", "left"], ["run", "plan", "1"], ["run", "plan", "2", "folder"]):
             os.truncate("pids", 0)
             with open("out", "wb") as out, subprocess.Popen([*PARTS, *words], stdout=out) as process:
-                while not os.path.getsize("pids"):
+                while not os.path.getsize("pids") and process.poll() is None:
                     time.sleep(0.01)
                 process.send_signal(number)
             check(f"{words}: status", process.returncode == 128 + number, process.returncode)
@@ -181,6 +181,9 @@ def main():
     if len(sys.argv) < 2:
         return __doc__
     program = os.path.abspath(sys.argv[1])
+    # (Whoever started this may ignore them, as nohup and a shell's background do.)
+    for number in (signal.SIGTERM, signal.SIGHUP, signal.SIGINT):
+        signal.signal(number, signal.default_int_handler if number == signal.SIGINT else signal.SIG_DFL)
     with tempfile.TemporaryDirectory() as room:
         os.chdir(room)
         os.environ.update(PTEXT_PROGRAM=program, TMPDIR=f"{room}/waiting")
