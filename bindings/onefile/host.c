@@ -305,15 +305,34 @@ static void open_output(const char *name) {
     fail(text);
 }
 
-int main(int argc, char **argv) {
-    /* In the place of a standard stream that is closed comes a folder, which can be neither read nor written. (A file
-     * that the words name must not get its number.) */
+static int is_closed(int descriptor) {
+    return fcntl(descriptor, F_GETFD) < 0 && errno == EBADF;
+}
+
+/* A folder, which can be neither read nor written; or the null device, and not for what the standard stream with the
+ * least free number does. */
+static int open_unusable(void) {
+    int opened = open("/", O_RDONLY);
+    if (opened < 0)
+        opened = open(".", O_RDONLY);
+    return opened < 0 ? open("/dev/null", is_closed(0) ? O_WRONLY : O_RDONLY) : opened;
+}
+
+/* Occupies the standard streams that are closed, so that their use fails: a file that the words name must not get such
+ * a number. */
+static void occupy_closed(void) {
     int taken;
-    while ((taken = open("/", O_RDONLY)) >= 0 && taken <= 2)
+    while ((taken = open_unusable()) >= 0 && taken <= 2)
         continue;
     if (taken > 2)
         close(taken);
+    else if (is_closed(0) || is_closed(1) || is_closed(2))
+        fail("ptext: a standard stream is closed, and nothing can take its place\n");
+}
+
+int main(int argc, char **argv) {
     signal(SIGPIPE, SIG_IGN);
+    occupy_closed();
     start_module();
     u64 size;
     u32 words = lay_words(argc ? argc - 1 : 0, argv + 1, &size);
