@@ -48,6 +48,10 @@ many=$(yes f | head -n 60 | tr '\n' ' ')
 opened "$many|" cut -c 1 $many
 opened "none! $many|" paste none $many
 
+# A message is one write.
+strace -qq -e trace=write -o trace "$program" cut -c 1 none <abcd >out 2>messages
+is "writes of a message" 1 "$(grep -c '^write(2, ' trace)"
+
 # counted WORDS..: standard input, of 100,000 bytes, is read once for each block of 8,192 bytes and once at its end, and
 # standard output is written at most once for each block, and three times more
 counted() {

@@ -48,7 +48,7 @@ is_refused() {
 }
 
 # each LEAST OUTPUT WORDS..: with nothing refused, OUTPUT is what is written. The tool says at least LEAST times that a
-# request of its own was refused, and the program says it of its lists too.
+# request of its own was refused. The program says it of its lists alone, of words and of inputs.
 each() {
     least=$1
     printf "$2" >whole
@@ -62,7 +62,7 @@ each() {
         count=$((count + 1))
     done
     is_whole || wrong "$*: nothing is refused, status $status"
-    [ "$tool" -ge "$least" ] && [ "$own" -ge 2 ] || wrong "$*: $tool requests of the tool, $own of the program"
+    [ "$tool" -ge "$least" ] && [ "$own" -ge 2 ] && [ "$own" -le $((2 * $# + 4)) ] || wrong "$*: $tool requests of the tool, $own of the program"
 }
 
 # The first file has a line that comes in pieces, as it is longer than a block.

@@ -7,6 +7,7 @@ ghost use Rattle.ptlines.specs.Laws.Text.{LinesAreUnique, CompleteLinesAreLines}
 mod cmp;
 mod copy;
 mod find;
+mod memory;
 mod out;
 mod parts;
 mod reader;

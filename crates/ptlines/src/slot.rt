@@ -4,7 +4,8 @@ ghost use Rattle.std.specs.Prelude.{◌≡◌, ◌<◌, ◌≤◌, ◌+◌, ◌*
 
 use crate::copy::copy_chunk;
 use crate::find::ShortLine;
-use std::alloc::{AllocError, Allocator};
+use crate::memory::{Denied, replace_rest, zeros};
+use std::alloc::Allocator;
 use std::marker::Model;
 
 // The first `size` bytes of the buffer are the line. At least 64 bytes follow, with any values, so that a line of fewer
@@ -28,12 +29,13 @@ impl<A: Allocator + Copy> Model for Slot<A> {
 
 impl<A: Allocator + Copy> Slot<A> {
     // Creates an empty slot.
-    pub(crate) fn new(alloc: A) -> Result<Self, AllocError>
+    pub(crate) fn new(alloc: A) -> Result<Self, Denied>
         ensures { IfOk result (λ s. s ≡ record { line = []; buffer_size = 128 }) }
     {
-        let mut buffer = Vec::new(alloc);
-        buffer.resize(128, 0)?;
-        Ok(Slot { buffer, size: 0 })
+        Ok(Slot {
+            buffer: zeros(alloc)?,
+            size: 0,
+        })
     }
 
     // Returns the bytes of the line.
@@ -76,7 +78,7 @@ impl<A: Allocator + Copy> Slot<A> {
     }
 
     // Appends bytes to the line. The buffer grows only if it has to. If memory cannot be allocated, nothing changes.
-    pub(crate) fn append(&mut self, bytes: &[u8]) -> Result<(), AllocError>
+    pub(crate) fn append(&mut self, bytes: &[u8]) -> Result<(), Denied>
         ensures ok { OnOk result (self.new.line ≡ self.old.line ++ bytes.now) }
         ensures err { OnErr result (self.new ≡ self.old) }
         ensures short { length self.new.line ≤ 2 ^ 63 }
@@ -85,12 +87,7 @@ impl<A: Allocator + Copy> Slot<A> {
         let from = self.size;
         let to = from + bytes.len();
         if to + 64 > self.buffer.len() {
-            let missing = to + 64 - self.buffer.len();
-            self.buffer.reserve(missing)?;
-            // There is room now, so none of these calls fails.
-            self.buffer.truncate(from);
-            let _ = self.buffer.extend_from_slice(bytes);
-            let _ = self.buffer.resize(to + 64, 0);
+            replace_rest(&mut self.buffer, from, bytes)?;
         } else {
             self.buffer[from..to].copy_from_slice(bytes);
         }

@@ -10,8 +10,9 @@ ghost use Rattle.ptlines.specs.Slots.{total_bytes};
 ghost use Rattle.ptlines.specs.Calls.Slots.{with_line, with_new_slot, with_denied};
 
 use crate::find::ShortLine;
+use crate::memory::{Denied, make_room};
 use crate::slot::Slot;
-use std::alloc::{AllocError, Allocator, Global};
+use std::alloc::{Allocator, Global};
 use std::marker::Model;
 
 /// Why a reader returned no line or block. The fault is final: every later call of the reader reports it again.
@@ -31,18 +32,18 @@ pub struct Store<A: Allocator + Copy = Global> {
     slots: Vec<Slot<A>, A>,
     byte_count: u128,
     peak: u128,
-    denied: bool,
+    denied: Option<Denied>,
     alloc: A,
 }
 
 impl<A: Allocator + Copy> Model for Store<A> {
     ghost use Rattle.ptlines.specs.Slots.{Slots};
-    ghost use Rattle.std.specs.Prelude.{vec_len, vec_capacity};
+    ghost use Rattle.std.specs.Prelude.{is_some, vec_len, vec_capacity};
     ghost use Rattle.ptlines.specs.Private.Slots.{IsSoundStore, slot_lines};
 
     ghost Value = { Slots };
 
-    ghost view = { λ s. record { lines = slot_lines s.slots.items; peak = s.peak; denied = s.denied } };
+    ghost view = { λ s. record { lines = slot_lines s.slots.items; peak = s.peak; denied = is_some s.denied } };
 
     ghost invariant = { λ s. IsSoundStore s.byte_count s.peak s.slots.items (vec_capacity s.slots) (vec_len s.slots) };
 }
@@ -52,7 +53,7 @@ fn append_slot<A: Allocator + Copy>(
     slots: &mut [Slot<A>],
     from: usize,
     to: usize,
-) -> Result<(), AllocError>
+) -> Result<(), Denied>
     requires { CopyPre (length slots.old) from to }
     ensures ok { OnOk result (slot_lines slots.new ≡ slice_set (slot_lines slots.old) to
         (slice_index_or (slot_lines slots.old) to [] ++ slice_index_or (slot_lines slots.old) from [])) }
@@ -70,17 +71,14 @@ fn append_slot<A: Allocator + Copy>(
     }
 }
 
-// Adds an empty slot. If the list is full, it gets room for as many slots again, and four.
-fn push_empty<A: Allocator + Copy>(slots: &mut Vec<Slot<A>, A>, alloc: A) -> Result<(), AllocError>
+// Adds an empty slot.
+fn push_empty<A: Allocator + Copy>(slots: &mut Vec<Slot<A>, A>, alloc: A) -> Result<(), Denied>
     requires { HasFewSpare (vec_capacity slots.old) (vec_len slots.old) }
     ensures ok { OnOk result (slots.new.items ≡ slots.old.items ++ record { line = []; buffer_size = 128 } ∷ []) }
     ensures err { OnErr result (slots.new.items ≡ slots.old.items) }
     ensures room { HasFewSpare (vec_capacity slots.new) (vec_len slots.new) }
 {
-    let count = slots.len();
-    if slots.capacity() <= count {
-        slots.reserve_exact(count + 4)?;
-    }
+    make_room(slots)?;
     slots.push_reserved(Slot::new(alloc)?);
     Ok(())
 }
@@ -94,7 +92,7 @@ impl<A: Allocator + Copy> Store<A> {
             slots: Vec::new(alloc),
             byte_count: 0,
             peak: 0,
-            denied: false,
+            denied: None,
             alloc,
         }
     }
@@ -125,10 +123,7 @@ impl<A: Allocator + Copy> Store<A> {
         let number = self.slots.len();
         match push_empty(&mut self.slots, self.alloc) {
             Ok(()) => Ok(number),
-            Err(_) => {
-                self.denied = true;
-                Err(LineFault::Memory)
-            }
+            Err(denied) => Err(denied.record(&mut self.denied)),
         }
     }
 
@@ -201,10 +196,7 @@ impl<A: Allocator + Copy> Store<A> {
                 self.peak = self.peak.max(self.byte_count);
                 Ok(())
             }
-            Err(_) => {
-                self.denied = true;
-                Err(LineFault::Memory)
-            }
+            Err(denied) => Err(denied.record(&mut self.denied)),
         }
     }
 
@@ -225,10 +217,7 @@ impl<A: Allocator + Copy> Store<A> {
                 self.peak = self.peak.max(self.byte_count);
                 Ok(())
             }
-            Err(_) => {
-                self.denied = true;
-                Err(LineFault::Memory)
-            }
+            Err(denied) => Err(denied.record(&mut self.denied)),
         }
     }
 
@@ -260,6 +249,6 @@ impl<A: Allocator + Copy> Store<A> {
     pub fn denied(&self) -> bool
         ensures { result ≡ self.now.denied }
     {
-        self.denied
+        self.denied.is_some()
     }
 }

@@ -9,8 +9,8 @@ use std::process::Abort;
 use std::test::Fail;
 
 // The lengths of the slices pushed, which name the case; how many bytes the sink has before `finish`; and the number of
-// its calls in all, including one flush. A slice that does not fit fills the block of 8,192 bytes, which is written; of
-// the rest half a block or more is written directly.
+// its calls in all, including one flush. A slice that does not fit fills the block of 8,192 bytes, unless it is empty, and
+// the block is written; of the rest half a block or more is written directly.
 const PUSHES: &[(&[usize], usize, u64)] = &[
     (&[], 0, 1),
     (&[0], 0, 1),
@@ -18,8 +18,8 @@ const PUSHES: &[(&[usize], usize, u64)] = &[
     (&[3, 0, 4], 0, 2),
     (&[BLOCK - 1], 0, 2),
     (&[BLOCK], 0, 2),
-    (&[BLOCK + 1], BLOCK, 3),
-    (&[20000], 20000, 3),
+    (&[BLOCK + 1], BLOCK + 1, 2),
+    (&[20000], 20000, 2),
     (&[BLOCK - 1, 1], 0, 2),
     (&[BLOCK, 1], BLOCK, 3),
     (&[BLOCK - 1, 2], BLOCK, 3),

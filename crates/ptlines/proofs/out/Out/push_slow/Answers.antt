@@ -17,4 +17,4 @@ returns-in_err-write_out_block g c = record {
 pub returns : goal.returns
 returns g c = push_rest _ _ _ _ c.split_at.result.0.now c.split_at.result.1.now _ _ c.requires.unfailed
     (grind (arith, take-append-drop c.room.result c.args.bytes.now)) c.append_to_block.ensures
-    c.in_ok-write_out_block.ensures.ok c.push_to_empty.ensures
+    c.in_ok-write_out_block.ensures.ok c.push_to_empty-2.ensures
