@@ -1,4 +1,5 @@
-/* Calls of the library with bad arguments, with rooms that overlap, with too little room and with a long input. */
+/* Calls of the library with bad arguments, with rooms that overlap, with too little room, with a long input, and with
+ * an output file in memory. */
 #define _GNU_SOURCE
 #include "ptext.h"
 
@@ -245,12 +246,41 @@ static void a_long_input(void) {
     expect(status == 0 && has(out, answer.out, ""), "an input of 5 GiB");
     munmap(input, size);
 }
+
+/* The greatest request for memory. (library.sh links the calls of malloc and realloc to these two.) */
+static size_t greatest;
+
+void *__real_malloc(size_t size);
+void *__wrap_malloc(size_t size);
+void *__wrap_malloc(size_t size) {
+    greatest = size > greatest ? size : greatest;
+    return __real_malloc(size);
+}
+
+void *__real_realloc(void *at, size_t size);
+void *__wrap_realloc(void *at, size_t size);
+void *__wrap_realloc(void *at, size_t size) {
+    greatest = size > greatest ? size : greatest;
+    return __real_realloc(at, size);
+}
+
+/* An output file of 2 MiB, which is given no more than twice its size. */
+static void a_file_in_memory(void) {
+    static uint8_t lines[2 << 20], room[2 << 20];
+    for (size_t i = 0; i < sizeof lines; i++)
+        lines[i] = (uint8_t)(i % 2 ? '\n' : i / 2 % 2 + 'a');
+    const size_t end = sizeof lines;
+    uint8_t status = ptext_run(WORDS("uniq\0in\0out"), NULL, 0, lines, end, &end, 1, room, end, messages, 64, &answer);
+    expect(status == 0 && answer.out.written == end && !memcmp(room, lines, end), "an output file of 2 MiB");
+    expect(greatest >= end && greatest <= 2 * end, "the memory of an output file");
+}
 #endif
 
 int main(void) {
     too_little_room();
 #ifndef SANITIZED
     a_long_input();
+    a_file_in_memory();
 #endif
     bad_arguments();
     spans_of_calls();

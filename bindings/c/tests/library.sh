@@ -10,7 +10,7 @@ cd "$(dirname "$0")/../../.."
 flags="-std=c11 -O2 -Wall -Wextra -Werror -Ibindings/c"
 gcc $flags -o "$room/example" bindings/c/example.c "$built/libptext.a"
 gcc $flags -o "$room/shared" bindings/c/example.c -L"$built" -lptext
-gcc $flags -pthread -o "$room/calls" bindings/c/tests/library.c "$built/libptext.a"
+gcc $flags -pthread -Wl,--wrap=malloc,--wrap=realloc -o "$room/calls" bindings/c/tests/library.c "$built/libptext.a"
 gcc $flags -o "$room/pointers" bindings/c/tests/pointers.c bindings/c/ptext.c
 gcc $flags -pthread -o "$room/alone" bindings/c/tests/alone.c bindings/c/stream.c
 drinks=$(printf '1,ann,tea\n2,bob,milk\n')

@@ -1,16 +1,11 @@
-"""Tests that nothing is said to be out of memory without a cause: outputs and files beyond the usual room, and the
-greatest number of files."""
+"""Tests that nothing is said to be out of memory without a cause: an output beyond the usual room, and the greatest
+number of files."""
 import unittest
 
 import ptext
 
-LINES = b"".join(b"%08d\n" % number for number in range(1_200_000))
-
 
 class Large(unittest.TestCase):
-    def test_output_file_in_memory(self):
-        self.assertEqual(ptext.uniq("in", "out", files={"in": LINES}), LINES)
-
     def test_output_beyond_the_room(self):
         # (Each line of the one file is paired with each of the other: 100 MB from 20 KB.)
         few = b"k 0123456789012345\n" * 1_600
