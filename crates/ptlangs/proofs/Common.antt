@@ -2,9 +2,11 @@
 use Rattle.ptlangs.specs
 use Rattle.std.proofs.lemmas
 pub use specs.Laws.CutLists.{IsValidInterval}
-pub use specs.CutLists.{element_interval, is_dash}
+pub use specs.CutLists.{element_interval}
+pub use specs.Private.CutLists.{is_dash}
 pub use specs.DelimLists.{delim_list}
-pub use specs.Numbers.{and_then, cons_ok, elements, is_list_separator, max_u64, value}
+pub use specs.Numbers.{and_then, cons_ok, elements, max_u64, value}
+pub use specs.Laws.Numbers.{is_list_separator}
 pub use specs.OutLists.{element_field}
 pub use specs.Laws.TrReading.{SetChar, byte_of, chars, chars_after}
 pub use specs.Laws.TrChars.{SpellsChars}

@@ -8,7 +8,8 @@ use proofs.ListElements.{reads_first}
 use specs.Laws.DelimLists.{Backslash, DelimListMatchesGrammar, IsDelim, IsDelimList, Last, More, Newline, Nothing}
 use specs.Laws.DelimLists.{Plain}
 use specs.Laws.DelimLists.{Tab}
-use specs.DelimLists.{backslash, delims, escape}
+use specs.DelimLists.{delims, escape}
+use specs.Laws.DelimLists.{backslash}
 use specs.Calls.DelimLists.{delim_list_fault}
 use specs.declared.delims.DelimFault.{DelimFault}
 

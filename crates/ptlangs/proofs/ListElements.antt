@@ -14,15 +14,18 @@ use specs.Calls.CutLists.{AreSeparated}
 use specs.Private.CutLists.{AreSortedFrom}
 use specs.Laws.CutLists.{CutListMatchesGrammar, From, FromTo, IsIntervalElement, One}
 use specs.Laws.CutLists.{SpellsInterval, UpTo}
-use specs.CutLists.{checked_interval, cut_list, interval_of_bounds}
+use specs.Laws.CutLists.{cut_list}
+use specs.CutLists.{interval, interval_of_parts}
+use specs.Private.CutLists.{bounds_of_parts, checked_element, checked_interval, interval_of_bounds, is_bound}
 use specs.Calls.CutLists.{cut_list_fault}
-use specs.CutLists.{interval_of_parts, is_bound, is_selected, selection}
+use specs.CutLists.{is_selected, selection}
 use specs.Laws.Numbers.{IsListOf, Last, More}
 use specs.Numbers.{is_empty, is_number, traverse}
 use specs.Laws.OutLists.{FirstFileField, IsFieldElement, IsValidField, JoinField, OutListMatchesGrammar}
 use specs.Laws.OutLists.{SecondFileField}
 use specs.Laws.OutLists.{SpellsField}
 use specs.OutLists.{field_of}
+use specs.Private.OutLists.{field_by_bytes}
 use specs.Calls.OutLists.{out_list_fault}
 use specs.declared.outlist.File.{File}
 use specs.declared.outlist.OutFault.{OutFault}
@@ -37,7 +40,9 @@ use lemmas.List.Sorted.{list_any-IsPermutation}
 use lemmas.List.Splits.{join_with_byte-slice_split, slice_split_at, slice_split_first, slice_split_none}
 use lemmas.List.Sums.{fails_before_first}
 use lemmas.Str.Parse.{digit_from_value, digits_value-take-le}
-use Rattle.std.proofs.Common.{nat_le}
+use Rattle.std.proofs.Common.{inl, inr, nat_le, not, sym, ◌&&◌}
+use Rattle.std.specs.Prelude.{codes, if◌then◌else◌}
+use Rattle.std.specs.List.{join_with_byte}
 use Rattle.std.specs.Char.{digit_value}
 use Rattle.std.specs.List.Sorted.{IsNonDecreasingBy, IsPermutation}
 use Rattle.std.specs.List.{All, filter_map, find, onto_first, position, slice_split}
@@ -172,27 +177,68 @@ digits_of_number = grind usual
 
 -- ---- the elements, split at dashes
 
+-- the interval from `n` to `m`, in the steps of the code
+interval_is : (n m : List ℕ) (numbers : Bool) → (is_number n && is_number m) ≡ numbers
+    → interval n m ≡ checked_interval (if numbers then Some (record { first = value n; last = value m }) else None)
+interval_is n m true e = rw e refl
+interval_is n m false e = rw e refl
+
+both : (b : Bool) → (b && b) ≡ b
+both true = refl
+both false = refl
+
+and_true : (b : Bool) → (b && true) ≡ b
+and_true true = refl
+and_true false = refl
+
+parts_are : (parts : List (List ℕ)) → (parts ≡ [] ∷ [] → ⊥)
+    → interval_of_parts parts ≡ checked_interval (bounds_of_parts parts)
+parts_are [] some = refl
+parts_are ([] ∷ []) some = absurd (some refl)
+parts_are ((a ∷ n) ∷ []) some = interval_is (a ∷ n) (a ∷ n) (is_number (a ∷ n)) (both (is_number (a ∷ n)))
+parts_are ([] ∷ [] ∷ []) some = refl
+parts_are ([] ∷ (b ∷ m) ∷ []) some =
+    interval_is (codes "1") (b ∷ m) (is_number (b ∷ m) && true) (sym (and_true (is_number (b ∷ m))))
+parts_are ((a ∷ n) ∷ [] ∷ []) some =
+    interval_is (a ∷ n) (codes "18446744073709551615")
+    (is_bound (a ∷ n) && is_bound [] && not (is_empty (a ∷ n) && is_empty {X = ℕ} [])) (elim (cases_Bool (is_number (a ∷ n))) [
+      | inl e ↦ rw e refl
+      | inr e ↦ rw e refl
+    ])
+parts_are ((a ∷ n) ∷ (b ∷ m) ∷ []) some =
+    interval_is (a ∷ n) (b ∷ m) (is_number (a ∷ n) && is_number (b ∷ m) && true)
+    (sym (and_true (is_number (a ∷ n) && is_number (b ∷ m))))
+parts_are (n ∷ m ∷ more ∷ parts) some = refl
+
+pub element_is : (bs : List ℕ) → element_interval bs ≡ checked_element bs
+element_is [] = refl
+element_is (b ∷ bs) = parts_are (slice_split is_dash (b ∷ bs)) (λ e.
+    let whole = sym (join_with_byte-slice_split 45 (b ∷ bs)) ∙ ap (join_with_byte 45) e in cc)
+
 bound_is_one_part : (m : List ℕ) → is_bound m ≡ true → slice_split is_dash m ≡ m ∷ []
 bound_is_one_part = grind (usual, slice_split_none)
 
 -- if the part after the first dash is not a bound, the element is rejected
-parts_after_dash : (n m : List ℕ) → interval_of_parts (n ∷ slice_split is_dash m) ≡ interval_of_bounds n m
+parts_after_dash : (n m : List ℕ) → bounds_of_parts (n ∷ slice_split is_dash m) ≡ interval_of_bounds n m
 parts_after_dash n m = grind (arith, cases_Bool (is_bound m), bound_is_one_part, join_with_byte-slice_split 45 m)
 
 pub parts_around_dash : (bs : List ℕ) (i : ℕ) → position is_dash bs ≡ Some i
-    → interval_of_parts (slice_split is_dash bs)
+    → bounds_of_parts (slice_split is_dash bs)
     ≡ interval_of_bounds (take i bs) (take (length bs - (i + 1)) (drop (i + 1) bs))
-parts_around_dash bs i h = ap interval_of_parts (split_around is_dash bs i h)
+parts_around_dash bs i h = ap bounds_of_parts (split_around is_dash bs i h)
     ∙ parts_after_dash (take i bs) (take _ (drop (i + 1) bs))
 
 -- ---- from the intervals in the order of the list to the merged intervals
 
-checked_proper : (interval_of_parts : Option Interval) (r : Interval) → checked_interval interval_of_parts ≡ Ok r
-    → (interval_of_parts ≡ Some r) × IsValidInterval r
+checked_proper : (bounds_of_parts : Option Interval) (r : Interval) → checked_interval bounds_of_parts ≡ Ok r
+    → (bounds_of_parts ≡ Some r) × IsValidInterval r
 checked_proper = grind arith
 
+fault_of_element : (bs : List ℕ) (e : ListFault) → checked_element bs ≡ Err e → cut_list_fault e ≡ Some e
+fault_of_element = grind arith
+
 fault_of_interval : (bs : List ℕ) (e : ListFault) → element_interval bs ≡ Err e → cut_list_fault e ≡ Some e
-fault_of_interval = grind arith
+fault_of_interval bs e h = fault_of_element bs e (sym (element_is bs) ∙ h)
 
 -- no element has the fault of an allocation
 pub fault_of_intervals : (all : List (List ℕ)) (e : ListFault) → Some e ≡ result_err (traverse element_interval all)
@@ -200,9 +246,12 @@ pub fault_of_intervals : (all : List (List ℕ)) (e : ListFault) → Some e ≡ 
 fault_of_intervals [] e h = cc
 fault_of_intervals (x ∷ all) e h = grind (arith, fault_of_interval, fault_of_intervals all e)
 
+proper_element : (bs : List ℕ) (r : Interval) → checked_element bs ≡ Ok r → IsValidInterval r
+proper_element [] r h = cc
+proper_element (b ∷ bs) r h = (checked_proper (bounds_of_parts (slice_split is_dash (b ∷ bs))) r h).1
+
 proper : (bs : List ℕ) (r : Interval) → element_interval bs ≡ Ok r → IsValidInterval r
-proper [] r h = cc
-proper (b ∷ bs) r h = (checked_proper (interval_of_parts (slice_split is_dash (b ∷ bs))) r h).1
+proper bs r h = proper_element bs r (sym (element_is bs) ∙ h)
 
 pub each_proper : (all : List (List ℕ)) (rs : List Interval) → traverse element_interval all ≡ Ok rs
     → All IsValidInterval rs
@@ -242,11 +291,11 @@ selection_is_kept bs listed sorted kept e p same =
 checked_ok : (r : Interval) → IsValidInterval r → checked_interval (Some r) ≡ Ok r
 checked_ok = grind arith
 
-bounds_at_dash : (n m : List ℕ) → is_number n ≡ true → element_interval (n ++ 45 ∷ m)
+bounds_at_dash : (n m : List ℕ) → is_number n ≡ true → checked_element (n ++ 45 ∷ m)
     ≡ checked_interval (interval_of_bounds n m)
 bounds_at_dash = grind (usual, slice_split_at, digits_fail, parts_after_dash)
 
-accepts_interval : (bs : List ℕ) (r : Interval) → SpellsInterval bs r → IsValidInterval r → element_interval bs ≡ Ok r
+accepts_interval : (bs : List ℕ) (r : Interval) → SpellsInterval bs r → IsValidInterval r → checked_element bs ≡ Ok r
 accepts_interval bs r (One n h) valid = grind (arith, bound_is_one_part, checked_ok)
 accepts_interval bs r (FromTo n m h k) valid = search (rules, bounds_at_dash)
 accepts_interval bs r (UpTo [] h) valid = absurd (false≢true h)
@@ -268,15 +317,15 @@ spelled_one : (bs : List ℕ) (r : Interval)
 spelled_one = grind (arith, One)
 
 spelled_cut : (n : List ℕ) (s : ℕ) (bs : List ℕ) (rest : List (List ℕ)) (r : Interval) → s ≡ 45
-    → IsSplit is_dash bs rest → interval_of_parts (n ∷ rest) ≡ Some r → SpellsInterval (n ++ s ∷ bs) r
+    → IsSplit is_dash bs rest → bounds_of_parts (n ∷ rest) ≡ Some r → SpellsInterval (n ++ s ∷ bs) r
 spelled_cut = grind (usual, Whole, Cut, some_since, and_parts, UpTo, From, FromTo)
 
 spelled_interval : (bs : List ℕ) (parts : List (List ℕ)) (r : Interval) → IsSplit is_dash bs parts
-    → interval_of_parts parts ≡ Some r → SpellsInterval bs r
+    → bounds_of_parts parts ≡ Some r → SpellsInterval bs r
 spelled_interval bs parts r (Whole xs) e = spelled_one xs r e
 spelled_interval bs parts r (Cut n s xs rest cut split) e = grind (arith, spelled_cut)
 
-reads_interval : (bs : List ℕ) (r : Interval) → element_interval bs ≡ Ok r → IsIntervalElement bs r
+reads_interval : (bs : List ℕ) (r : Interval) → checked_element bs ≡ Ok r → IsIntervalElement bs r
 reads_interval [] r h = cc
 reads_interval (b ∷ bs) r h =
     let (parts, valid) = checked_proper _ r h in
@@ -284,8 +333,8 @@ reads_interval (b ∷ bs) r h =
 
 pub accepts_cut_lists : CutListMatchesGrammar
 accepts_cut_lists = matches_grammar element_interval IsIntervalElement (record {
-  from = search (rules, accepts_interval);
-  to = reads_interval;
+  from = λ e r (spells, valid). element_is e ∙ accepts_interval e r spells valid;
+  to = λ e r h. reads_interval e r (sym (element_is e) ∙ h);
   whole = λ e r (spells, _). unbroken_interval e r spells;
 })
 
@@ -333,13 +382,33 @@ after_file_number : (name : ℕ) (n : List ℕ) → is_list_separator name ≡ f
     → Unbroken (name ∷ 46 ∷ n)
 after_file_number = grind (arith, unbroken_cons, unbroken_number)
 
+-- ---- an element by its bytes
+
+and_false : (b : Bool) → (b && false) ≡ false
+and_false true = refl
+and_false false = refl
+
+pub field_is : (e : List ℕ) → element_field e ≡ field_by_bytes e
+field_is [] = refl
+field_is (b ∷ []) = rw (and_true (eqb b 48), and_false (eqb b 49), and_false (eqb b 50)) refl
+field_is (b ∷ c ∷ n) = elim (cases_Bool (eqb c 46)) [
+  | inl e ↦ rw (e, and_false (eqb b 48), and_true (eqb b 49), and_true (eqb b 50)) refl
+  | inr e ↦ rw (e, and_false (eqb b 48), and_false (eqb b 49), and_false (eqb b 50)) refl
+]
+
 -- ---- the fault of a list
+
+field_fault : (bs : List ℕ) (e : OutFault) → field_by_bytes bs ≡ Err e → out_list_fault e ≡ Some e
+field_fault = grind arith
+
+fault_of_field : (bs : List ℕ) (e : OutFault) → element_field bs ≡ Err e → out_list_fault e ≡ Some e
+fault_of_field bs e h = field_fault bs e (sym (field_is bs) ∙ h)
 
 -- no element has the fault of an allocation
 pub fault_of_fields : (all : List (List ℕ)) (e : OutFault) → Some e ≡ result_err (traverse element_field all)
     → out_list_fault e ≡ Some e
 fault_of_fields [] e h = cc
-fault_of_fields (x ∷ all) e h = grind (arith, fault_of_fields all e)
+fault_of_fields (x ∷ all) e h = grind (arith, fault_of_field, fault_of_fields all e)
 
 -- ---- from `out_list` to the grammar
 
@@ -351,7 +420,7 @@ spelled_field : (file : File) (name : ℕ) (n : List ℕ) (f : OutField)
     → Spelled (name ∷ 46 ∷ n) f (field_of file n)
 spelled_field = grind arith
 
-reads_field : (e : List ℕ) (f : OutField) → Spelled e f (element_field e)
+reads_field : (e : List ℕ) (f : OutField) → Spelled e f (field_by_bytes e)
 reads_field [] f = λ h. cc
 reads_field (b ∷ []) f = grind (arith, JoinField)
 reads_field (b ∷ c ∷ n) f =
@@ -365,6 +434,6 @@ reads_field (b ∷ c ∷ n) f =
 pub accepts_out_lists : OutListMatchesGrammar
 accepts_out_lists = matches_grammar element_field IsFieldElement (record {
   from = search (rules, accepts_field);
-  to = reads_field;
+  to = λ e f h. reads_field e f (sym (field_is e) ∙ h);
   whole = λ e f (spells, _). (grind (arith, unbroken_nil, after_file_number));
 })

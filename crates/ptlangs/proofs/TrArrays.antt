@@ -10,14 +10,15 @@ use proofs.Common.{Segment, SetElement, SetFaultKind, SetRole, Some, [], all_pai
 use proofs.Common.{bytes_left, usual, complement_of, cond, contents_of, count_by, drop, drop_all, drop_more, eqb, false}
 use proofs.Common.{first_array, first_members, image_by, is_fill, length, map, map-append, marked_array, member_bytes}
 use proofs.Common.{member_results, ne_eqb, not, plain_members, refl, replicate, result_map_both, rules, segments_of}
-use proofs.Common.{sequence, slice_get, read_string, subst, suc, sym, take, take_all, true, zero, ℕ, ◌++◌, ◌+◌, ◌-◌}
+use proofs.Common.{sequence, slice_get, read_string, string_segments, subst, suc, sym, take, take_all, true, zero, ℕ, ◌++◌, ◌+◌, ◌-◌}
 use proofs.Common.{◌*◌, ◌<◌, ◌||◌, ◌∙◌, ◌∷◌, ◌≡◌, ◌≢◌, ◌≤◌}
 use proofs.ListElements.{append_ok as onto}
 use proofs.TrTexts.{read_in_steps}
 use specs.TrClasses.{all_bytes, class_bytes, span}
 use specs.Private.TrParsing.{class_of, classes_match, marked_members, members_from}
-use specs.TrPlan.{are_paired, class_offsets, has_byte, has_other_case_at, last_position, members, next_index_or}
-use specs.TrPlan.{image_of, is_deleted, is_squeezed, of_bytes, padded_to}
+use specs.Calls.TrTables.{image_of, is_deleted, is_squeezed}
+use specs.TrPlan.{are_paired, class_offsets, has_byte, last_position, members, of_bytes}
+use specs.TrClasses.{are_opposite_cases}
 use specs.Laws.TrReading.{segment}
 use specs.Laws.TrTables.{TablesHaveMap}
 use specs.declared.faults.SetFaultKind.TheVariants.{ClassPlace}
@@ -34,10 +35,9 @@ use lemmas.List.{drop-map, drop-replicate, get_or-replicate, get_or_default, get
 use lemmas.List.{length-set}
 use lemmas.List.{same_lists, take-append-drop, take-map, length-append}
 use lemmas.Map.Views.{any-filter_same}
-use lemmas.Option.{slice_get-get_or, slice_get_cases, slice_get_past, slice_get_within}
+use lemmas.Option.{slice_get_cases, slice_get_past, slice_get_within}
 use lemmas.List.Sums.{length-filter}
-use Rattle.std.specs.List.{last_or}
-use Rattle.std.specs.Option.{option_and_then}
+use Rattle.std.specs.List.{last_or, list_any}
 use Rattle.std.specs.Prelude.{IfSome, filter, is_some, unwrap_or, ◌^◌}
 
 pub slice_get-left : {X : Type 0} (xs ys : List X) (i : ℕ) → i < length xs → slice_get (xs ++ ys) i ≡ slice_get xs i
@@ -153,18 +153,32 @@ segment-passed = grind (arith, slice_get_cases, drop_all)
 
 -- ---- the string of the segments
 
+steps-fault : (role : SetRole) (text : List ℕ) (n : ℕ) (k : SetFaultKind) → false ≡ eqb (length text) 0
+    → sequence (member_results n (segments_of role text)) ≡ Err k → string_segments role text ≡ Err k
+steps-fault = grind (arith, sequence-members)
+
 pub string-fault : (role : SetRole) (text : List ℕ) (n : ℕ) (k : SetFaultKind) → false ≡ eqb (length text) 0
     → sequence (member_results n (segments_of role text)) ≡ Err k → read_string role text ≡ Err k
-string-fault = grind (arith, sequence-members, read_in_steps)
+string-fault role text n k some e = read_in_steps role text ∙ steps-fault role text n k some e
+
+steps-read : (role : SetRole) (text : List ℕ) (n : ℕ) (ms : List Member) → false ≡ eqb (length text) 0
+    → sequence (member_results n (segments_of role text)) ≡ Ok ms
+    → (ps : List Segment) × (string_segments role text ≡ Ok ps) × (marked_array n ps ≡ ms)
+steps-read = grind (arith, sequence-members)
 
 pub string-read : (role : SetRole) (text : List ℕ) (n : ℕ) (ms : List Member) → false ≡ eqb (length text) 0
     → sequence (member_results n (segments_of role text)) ≡ Ok ms
     → (ps : List Segment) × (read_string role text ≡ Ok ps) × (marked_array n ps ≡ ms)
-string-read = grind (arith, sequence-members, read_in_steps)
+string-read role text n ms some e =
+    let (ps, read, is) = steps-read role text n ms some e in (ps, read_in_steps role text ∙ read, is)
+
+steps-ok : (role : SetRole) (text : List ℕ) (n : ℕ) (ps : List Segment) → string_segments role text ≡ Ok ps
+    → member_results n (segments_of role text) ≡ map Ok (marked_array n ps)
+steps-ok = grind (arith, members-ok)
 
 pub string-ok : (role : SetRole) (text : List ℕ) (n : ℕ) (ps : List Segment) → read_string role text ≡ Ok ps
     → member_results n (segments_of role text) ≡ map Ok (marked_array n ps)
-string-ok = grind (arith, members-ok, read_in_steps)
+string-ok role text n ps e = steps-ok role text n ps (sym (read_in_steps role text) ∙ e)
 
 -- ---- a fault that is passed on
 
@@ -226,6 +240,10 @@ class_offsets-are n [] at = refl
 class_offsets-are n (x ∷ ps) at =
     grind (usual, offsets-members, offsets-class, class_bytes-some, class_offsets-are n ps)
 
+-- the other case of this class has this offset in the first string
+abbrev has_other_case_at : List (ℕ × CharClass) → ℕ → CharClass → Bool
+has_other_case_at firsts at class = list_any (λ (f : ℕ × CharClass). eqb f.0 at && are_opposite_cases f.1 class) firsts
+
 none_before : (ms : List Member) (at k : ℕ) (class : CharClass) → k < at
     → has_other_case_at (offsets at ms) k class ≡ false
 none_before [] at k class low = refl
@@ -259,7 +277,9 @@ all_paired-more (suc i) (f ∷ from) t to = all_paired-more i _ t to
 paired_first : (from : List Member) (i : ℕ) (o : Option CharClass) (later : List (ℕ × CharClass))
     → are_paired (offsets 0 from) (offset_of i o ++ later)
     ≡ (classes_match (class_here from i) o && are_paired (offsets 0 from) later)
-paired_first = grind (arith, stands_here)
+paired_first from i None later = grind arith
+paired_first from i (Some class) later =
+    ap (λ b. b && are_paired (offsets 0 from) later) (stands_here from 0 i i class (omega arith))
 
 pub paired_from : (from to : List Member) (i : ℕ) → are_paired (offsets 0 from) (offsets i to)
     ≡ all_paired (drop i from) to
@@ -386,39 +406,6 @@ is_kept first bytes b i t j low h e =
 
 -- ---- the image of a byte
 
-next_index-lt : (o : Option ℕ) (t : Bool) (n : ℕ) → IfSome o (λ i. i < n) → IfSome (next_index_or o t) (λ i. i < suc n)
-next_index-lt = grind arith
-
-last_position-lt : (c : ℕ) (bytes : List ℕ) → IfSome (last_position c bytes) (λ i. i < length bytes)
-last_position-lt c [] = tt
-last_position-lt c (b ∷ bytes) = next_index-lt _ _ _ (last_position-lt c bytes)
-
-slice_get-take : (n : ℕ) (xs : List ℕ) (i : ℕ) → i < n → slice_get (take n xs) i ≡ slice_get xs i
-slice_get-take = grind (usual, slice_get_cases)
-
-last_or-some : (o : Option ℕ) (b : ℕ) (bytes : List ℕ)
-    → last_or o (b ∷ bytes) ≡ Some (get_or (b ∷ bytes) (length bytes) 0)
-last_or-some o b [] = refl
-last_or-some o b (x ∷ bytes) = last_or-some (Some b) x bytes
-
--- past the end it is the last byte
-padded_to-get : (n i : ℕ) (bytes : List ℕ) → i < n
-    → slice_get (padded_to n bytes) i ≡ slice_get bytes (min i (length bytes - 1))
-padded_to-get n i [] h = slice_get-take n [] i h
-padded_to-get n i (b ∷ bytes) h =
-    rw (last_or-some None b bytes) (slice_get-take n _ i h ∙ by_index (cases_lt i (length (b ∷ bytes))))
-  where
-    by_index : ((i < length (b ∷ bytes)) ⊎ (length (b ∷ bytes) ≤ i))
-        → slice_get ((b ∷ bytes) ++ (replicate n (get_or (b ∷ bytes) (length bytes) 0) ++ [])) i
-        ≡ slice_get (b ∷ bytes) (min i (length (b ∷ bytes) - 1))
-    by_index (inl within) = grind (arith, slice_get-left)
-    by_index (inr past) =
-        let index : length bytes ≡ min i _ = omega arith in
-        slice_get-right (b ∷ bytes) _ i _ (omega arith)
-        ∙ slice_get-left _ [] (i - length (b ∷ bytes)) (grind (arith, length-replicate))
-        ∙ sym (repeat_there n _ _ (omega arith))
-        ∙ sym (grind (arith, slice_get-get_or, bytes)) ∙ ap (slice_get (b ∷ bytes)) index
-
 last_position-same : (b : ℕ) (bytes : List ℕ) → last_position b (bytes ++ b ∷ []) ≡ Some (length bytes)
 last_position-same b [] = rw (eq-eqb b b refl) refl
 last_position-same b (x ∷ bytes) = grind (arith, last_position-same b bytes)
@@ -436,9 +423,7 @@ last_or-take o b (c ∷ bytes) (suc n) = grind (arith, last_or-take (Some b) c b
 -- the image that a byte gets when it is pushed
 image-same : (from to : List ℕ) (b : ℕ)
     → image_by (from ++ b ∷ []) to b ≡ unwrap_or (last_or None (take (suc (length from)) to)) b
-image-same from to b =
-    let longer : length from < length (from ++ b ∷ []) = omega (arith, length-append from (b ∷ [])) in
-    rw (last_position-same b _, padded_to-get _ _ to longer) (by_list to)
+image-same from to b = rw (last_position-same b from) (by_list to)
   where
     by_list : (to : List ℕ)
         → unwrap_or (slice_get to (min (length from) (length to - 1))) b
@@ -449,15 +434,7 @@ image-same from to b =
         rw (most, last_or-take _ t to _) refl
 
 image-other : (from to : List ℕ) (b k : ℕ) → k ≢ b → image_by (from ++ b ∷ []) to k ≡ image_by from to k
-image-other from to b k n = rw (last_position-other b k _ n) (by_last _ refl)
-  where
-    by_last : (o : Option ℕ) → last_position k from ≡ o
-        → unwrap_or (option_and_then (slice_get (padded_to (length (from ++ b ∷ [])) to)) o) k
-        ≡ unwrap_or (option_and_then (slice_get (padded_to (length from) to)) o) k
-    by_last None e = refl
-    by_last (Some i) e =
-        let below = subst (λ o. IfSome o (λ j. j < length from)) e (last_position-lt k from) in
-        grind (arith, length-append, padded_to-get)
+image-other from to b k n = rw (last_position-other b k from n) refl
 
 images-push : (from to : List ℕ) (b : ℕ) (last : Option ℕ) → b < 256
     → last ≡ last_or None (take (suc (length from)) to)

@@ -12,9 +12,9 @@ use proofs.Common.{cons_ok, zero, ℕ, ◌++◌, ◌+◌, ◌-◌, ◌<◌, ◌|
 use specs.Laws.TrChars.{AChar, ALargeOctal, ALoneBackslash, APlainByte, AnEscape, AnOctal, IsOctalRun, OneDigit}
 use specs.Laws.TrReading.{Escaped}
 use specs.Laws.TrChars.{ThreeDigits, TwoDigits, NoChar, SpellsChar}
-use specs.TrChars.{is_octal_digit, octal_run}
+use specs.TrChars.{is_octal_digit}
 use specs.Laws.TrReading.{Invalid, Plain}
-use specs.Laws.TrReading.{after_backslash, char_at, octal}
+use specs.Laws.TrReading.{after_backslash, char_at, octal, octal_run}
 use specs.TrClasses.{class_named}
 use specs.Laws.TrElements.{AClass, ADescendingRange, ARange, ARepeat, Alone, AnEquivalence, AnInvalidChar}
 use specs.Laws.TrElements.{AnInvalidEnd}

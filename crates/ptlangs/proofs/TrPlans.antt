@@ -12,7 +12,8 @@ use proofs.TrArrays.{string-ok}
 use proofs.TrTexts.{read_in_steps}
 use specs.Laws.TrReading.{elements_after, elements_from, or_char}
 use specs.Laws.TrPlan.{NoMemoryFault}
-use specs.TrPlan.{Plan, class_offsets, fill_count, has_valid_classes, image_of, is_deleted, is_squeezed}
+use specs.Calls.TrTables.{image_of, is_deleted, is_squeezed}
+use specs.TrPlan.{Plan, class_offsets, has_valid_classes}
 use specs.TrPlan.{plan_from, second_plan, second_role}
 use specs.Laws.TrReading.{segment}
 use specs.Calls.TrPlan.{takes_second}
@@ -70,7 +71,7 @@ pub second_read : (form : Form) (complement : Bool) (firsts : List Segment) (tex
     (member_results fill (segments_of role text)) squeezed (ok_map tables (second_plan form complement firsts text))
 second_read form complement firsts text role fill squeezed first unfilled two at was e f s =
     let (ps, read, is) = mapped_ok _ _ was in
-    let has_fill : fill ≡ fill_count (length (first_array complement firsts)) ps = cc in
+    let has_fill : fill ≡ length (first_array complement firsts) - length (array 0 ps) = cc in
     let parts = ap (λ q. read_string q text) (sym at) ∙ read in
     record {
       to = marked_array fill ps;
@@ -175,9 +176,19 @@ string_not_memory role [] = grind arith
 string_not_memory role (b ∷ text) = subst IsNotMemory (sym (read_in_steps role (b ∷ text)))
     (segments_not_memory role false (chars (b ∷ text)) 0 (chars_not_memory (b ∷ text) 0))
 
+class_not_memory : (paired : Bool) (p : Plan) → IsNotMemory (cond paired (Ok p) (Err ClassPlace))
+class_not_memory = grind arith
+
+then_not_memory : {A B : Type 0} (r : Result A SetFaultKind) (f : A → Result B SetFaultKind) → IsNotMemory r
+    → ((x : A) → IsNotMemory (f x)) → IsNotMemory (and_then r f)
+then_not_memory (Ok x) f fine later = later x
+then_not_memory (Err k) f fine later = fine
+
 second_not_memory : (form : Form) (complement : Bool) (firsts : List Segment) (text : List ℕ)
     → IsNotMemory (second_plan form complement firsts text)
-second_not_memory = grind (arith, string_not_memory)
+second_not_memory form complement firsts text =
+    then_not_memory (read_string (second_role form) text) _ (string_not_memory (second_role form) text)
+    (λ seconds. class_not_memory _ _)
 
 of_string : {A : Type 0} (string : SetString) (r : Result A SetFaultKind) (fault : SetFault) → IsNotMemory r
     → in_string string r ≡ Err fault → fault.kind ≢ Memory

@@ -1,425 +1,494 @@
--- `read_string` reads a text as it is read in steps (`read_in_steps`): each of its parts takes the bytes of the
--- characters that the same part of the steps takes.
+-- `read_string` reads a text as it is read in steps (`read_in_steps`): its characters are those of the steps, with their
+-- first bytes in place of what kind they are, and its forms are found at the same positions.
 use Rattle.ptlangs.proofs
 use Rattle.ptlangs.specs
 use proofs.Common.{Bool, Err, List, None, Ok, Option, Result, Segment, SetChar, SetElement, SetFaultKind, SetRole, Some}
-use proofs.Common.{CharClass, [], and_then, ap, arith, chars, chars_after, cons_ok, drop, eqb, eqb-true, false, is_fill}
-use proofs.Common.{length, ltb-true}
-use proofs.Common.{ok_map, refl, result_ok, segments, sequence, set_elements, string_segments, subst, suc, sym, true}
-use proofs.Common.{usual}
-use proofs.Common.{zero, ℕ, ◌++◌, ◌<◌, ◌||◌, ◌∙◌, ◌∷◌, ◌≡◌, ◌≢◌, ◌≤◌}
-use proofs.TrGrammar.{IsProperSuffix, StartsElement-front, after_backslash-octal, after_plain-other, chars-cons}
-use proofs.TrGrammar.{chars-plain, chars-some, first_set_element-first, first_set_element-found, plain_run-chars}
-use proofs.TrGrammar.{repeat_at-first, run_rest, set_elements-fault, set_elements-first, single_or_range-first}
-use proofs.TrGrammar.{equivalence-first, starts_as}
+use proofs.Common.{[], and_then, ap, arith, byte_of, chars, chars_after, cons_ok, drop, eqb, eqb-true, false, is_fill, length}
+use proofs.Common.{map, refl, segments, sequence, set_elements, subst, suc, sym, true}
+use proofs.Common.{usual, zero, ℕ, ◌+◌, ◌<◌, ◌||◌, ◌∙◌, ◌∷◌, ◌≡◌, ◌≢◌, ◌≤◌}
+use proofs.TrGrammar.{StartsElement-front, after_backslash-octal, chars-cons, set_elements-fault, set_elements-first}
+use proofs.Common.{CharClass, ne_eqb}
+use proofs.TrGrammar.{starts_as}
 use specs.Laws.TrPlan.{ReadInSteps}
-use specs.Laws.TrReading.{after_backslash, after_plain, after_run, after_two, bracketed_at, bracketed_inside, byte_of}
-use specs.Laws.TrReading.{char_or_range, class_after_colon, class_at, class_with_name, equivalence_after_equals}
-use specs.Laws.TrReading.{equivalence_at, equivalence_with_byte, first_set_element, octal, plain_run, range_to}
-use specs.Laws.TrReading.{repeat_after_byte, repeat_after_star, repeat_at, repeat_segment, segment, single_or_range}
-use specs.Laws.TrReading.{char_at, with_rest}
+use specs.Laws.TrReading.{Escaped, Invalid, Plain, after_plain, after_two, char_at}
+use specs.Laws.TrReading.{char_or_range, range_to, single_or_range, class_at, class_with_name, equivalence_at, first_set_element, octal}
+use specs.Laws.TrReading.{octal_run, or_char, plain_run, repeat_after_star, repeat_at, segment, with_rest}
 use specs.Numbers.{is_empty}
-use specs.Private.TrParsing.{first_byte}
-use specs.TrChars.{byte_of_escape, escaped_char, first_char, is_octal_digit, octal_run}
+use specs.TrChars.{Character, first_char, is_octal_digit, read_all}
 use specs.TrClasses.{class_named}
-use specs.TrElements.{after, alone_or_range, before, class_form, equivalence_form, equivalent_in, fills, first_segment}
-use specs.TrElements.{form_at, range_up_to, read_segments, read_string, repeat_count, repeat_form, repeated}
-use specs.TrElements.{repeated_in}
-use specs.TrElements.{run}
-use specs.declared.faults.SetFaultKind.TheVariants.{Octal, UnknownClass}
+use specs.TrElements.{equivalent, first_segment, is_at, range, repeat_count, repeated, with_one_fill}
+use specs.declared.faults.SetFaultKind.TheVariants.{Empty, Octal, SecondFill, UnknownClass}
 use specs.declared.tr.elements.SetElement.TheVariants as element
 use specs.declared.tr.segments.Segment.TheVariants as part
-use Rattle.std.proofs.Common.{nat_lt, ⊎_elim}
+use Rattle.std.proofs.Common.{nat_le, ⊎_elim}
 use Rattle.std.proofs.lemmas.Bool.{cases_Bool}
-use Rattle.std.proofs.lemmas.List.{length-append}
+use Rattle.std.proofs.lemmas.List.{drop-map, length-append, length-drop}
+use Rattle.std.proofs.lemmas.List.Sums.{take_while-cons}
+use Rattle.std.proofs.Common.{not, ◌&&◌}
+use Rattle.std.specs.Prelude.{codes, is_ok, option_map, slice_index_or}
 use Rattle.std.specs.Char.{is_ascii_digit, is_ascii_lowercase}
 use Rattle.std.specs.List.{take_while}
-use Rattle.std.specs.Option.{option_and_then, option_map, option_map_or, option_or}
-use Rattle.std.specs.Prelude.{if◌then◌else◌, ok_or, unwrap_or}
+use Rattle.std.specs.Option.{option_and_then, option_or}
+use Rattle.std.specs.Prelude.{if◌then◌else◌, ok_or}
 use Rattle.std.specs.Str.Parse.{digits_value}
 
 -- ---- characters
 
--- the first character of a text, and that of its characters
-abbrev pub IsFirst : List SetChar → Result (ℕ × List ℕ) SetFaultKind → Type 0
-IsFirst us (Ok (b, rest)) = (first_byte us ≡ Ok b) × (drop 1 us ≡ chars rest)
-IsFirst us (Err k) = first_byte us ≡ Err k
+-- a character of the steps, with its first byte
+abbrev character : SetChar → Character
+character (Plain b) = (b, Ok b)
+character (Escaped b) = (92, Ok b)
+character (Invalid k) = (92, Err k)
 
-escaped_octal : (c : ℕ) (text : List ℕ) → is_octal_digit c ≡ true → is_empty (octal_run (c ∷ text)) ≡ false
-escaped_octal = grind usual
+-- the first bytes of characters
+abbrev marks : List SetChar → List ℕ
+marks us = map (λ (c : Character). c.0) (map character us)
 
-escaped_other : (c : ℕ) (text : List ℕ) → is_octal_digit c ≡ false
-    → escaped_char (c ∷ text) ≡ Ok (byte_of_escape c, text)
-escaped_other = grind usual
+abbrev with_count : ℕ → Character → Character × ℕ
+with_count n c = (c, n)
 
-large_octal : (value : ℕ) (us : List SetChar) (rest : List ℕ) (r : Result (ℕ × List ℕ) SetFaultKind)
-    → r ≡ (if nat_lt 255 value then Err Octal else Ok (value, rest)) → us ≡ octal value ∷ chars rest → IsFirst us r
-large_octal = grind arith
+octal_is : (value : ℕ)
+    → ◌≡◌ {A = Character} (92, if nat_le value 255 then Ok value else Err Octal) (character (octal value))
+octal_is value = grind arith
 
-escape_first : (text : List ℕ) → IsFirst (chars (92 ∷ text)) (escaped_char text)
-escape_first [] = refl
-escape_first (c ∷ text) = ⊎_elim
+some_octal : (c : ℕ) (text : List ℕ) → is_octal_digit c ≡ true → is_empty (octal_run (c ∷ text)) ≡ false
+some_octal = grind usual
+
+no_octal : (c : ℕ) (text : List ℕ) → is_octal_digit c ≡ false → is_empty (octal_run (c ∷ text)) ≡ true
+no_octal = grind usual
+
+escape_is : (text : List ℕ) → first_char (92 ∷ text) ≡ (character (char_at 92 text).0, 1 + (char_at 92 text).1)
+escape_is [] = refl
+escape_is (c ∷ text) = ⊎_elim
     (λ (is : is_octal_digit c ≡ true).
-    let digits = octal_run (c ∷ text) in
-    large_octal (digits_value 8 digits) (chars (92 ∷ c ∷ text)) (drop (length digits) (c ∷ text))
-    (escaped_char (c ∷ text))
-    (rw (escaped_octal c text is) refl)
-    (chars-cons 92 (c ∷ text) ∙ rw (after_backslash-octal (c ∷ text) (omega arith) is) refl))
-    (λ (is : is_octal_digit c ≡ false). rw (escaped_other c text is) (grind (arith, chars-cons)))
+    rw (some_octal c text is, after_backslash-octal (c ∷ text) (omega arith) is)
+    (ap (with_count (1 + length (octal_run (c ∷ text)))) (octal_is (digits_value 8 (octal_run (c ∷ text))))))
+    (λ (is : is_octal_digit c ≡ false). rw (no_octal c text is, is) refl)
     (cases_Bool (is_octal_digit c))
 
-pub char_first : (text : List ℕ) → IsFirst (chars text) (first_char text)
-char_first [] = refl
-char_first (b ∷ text) = ⊎_elim (λ (is : eqb b 92 ≡ true). rw (eqb-true b 92 is) (escape_first text))
-    (λ (is : eqb b 92 ≡ false). rw is (refl, refl)) (cases_Bool (eqb b 92))
+char_is : (b : ℕ) (text : List ℕ) → first_char (b ∷ text) ≡ (character (char_at b text).0, 1 + (char_at b text).1)
+char_is b text = ⊎_elim (λ (is : eqb b 92 ≡ true). rw (eqb-true b 92 is) (escape_is text))
+    (λ (is : eqb b 92 ≡ false). rw is refl) (cases_Bool (eqb b 92))
 
--- ---- marks and runs
+drop_more : {A : Type 0} (n : ℕ) (x : A) (xs : List A) → drop (1 + n) (x ∷ xs) ≡ drop n xs
+drop_more n x xs = let next : 1 + n ≡ suc n = omega arith in rw next refl
 
-same_mark : (c : ℕ) (text : List ℕ) → c ≢ 92
-    → after_plain c (chars (c ∷ text)) ≡ option_map chars (after (c ∷ []) (c ∷ text))
-same_mark c text n = grind (arith, chars-plain)
-
-mark_after : (c : ℕ) (text : List ℕ) → c ≢ 92 → after_plain c (chars text) ≡ option_map chars (after (c ∷ []) text)
-mark_after c [] n = refl
-mark_after c (b ∷ text) n = ⊎_elim
-    (λ (is : eqb b c ≡ true).
-    subst (λ x. after_plain c (chars (x ∷ text)) ≡ option_map chars (after (c ∷ []) (x ∷ text)))
-    (sym (eqb-true b c is)) (same_mark c text n))
-    (λ (is : eqb b c ≡ false). rw (is, after_plain-other b c text (grind arith)) refl) (cases_Bool (eqb b c))
-
-same_marks : (c d : ℕ) (text : List ℕ) → c ≢ 92 → d ≢ 92
-    → after_two c d (chars (c ∷ text)) ≡ option_map chars (after (c ∷ d ∷ []) (c ∷ text))
-same_marks c d text n m = grind (arith, chars-plain, mark_after d text m)
-
-marks_after : (c d : ℕ) (text : List ℕ) → c ≢ 92 → d ≢ 92
-    → after_two c d (chars text) ≡ option_map chars (after (c ∷ d ∷ []) text)
-marks_after c d [] n m = refl
-marks_after c d (b ∷ text) n m = ⊎_elim
-    (λ (is : eqb b c ≡ true).
-    subst (λ x. after_two c d (chars (x ∷ text)) ≡ option_map chars (after (c ∷ d ∷ []) (x ∷ text)))
-    (sym (eqb-true b c is)) (same_marks c d text n m))
-    (λ (is : eqb b c ≡ false). rw (is, after_plain-other b c text (grind arith)) refl) (cases_Bool (eqb b c))
-
--- ---- the bracketed forms
-
--- the result of an element, and the text after it in place of its characters
-abbrev judged : SetRole → Bool → SetElement × List SetChar → Result Segment SetFaultKind × List SetChar
-judged role has_fill (p, us) = (segment role has_fill p, us)
-
-abbrev in_chars : {A : Type 0} → A × List ℕ → A × List SetChar
-in_chars (x, rest) = (x, chars rest)
-
--- the form of a text is that of its characters
-abbrev IsForm : SetRole → Bool → Option (SetElement × List SetChar) → Option (Result Segment SetFaultKind × List ℕ)
-    → Type 0
-IsForm role has_fill old new = option_map (judged role has_fill) old ≡ option_map in_chars new
-
-repeat_judged : (role : SetRole) (has_fill : Bool) (b : ℕ) (digits : List ℕ)
-    → segment role has_fill (element.Repeat b (repeat_count digits)) ≡ repeated_in role has_fill b digits
-repeat_judged role has_fill b digits = grind arith
-
-repeat_closed : (role : SetRole) (has_fill : Bool) (b : ℕ) (digits : List ℕ) (rest : Option (List ℕ))
-    → IsForm role has_fill (with_rest (element.Repeat b (repeat_count digits)) (option_map chars rest))
-    (option_map (λ (n : List ℕ × List ℕ). (repeated_in role has_fill b n.0, n.1))
-    (option_map (λ (r : List ℕ). (digits, r)) rest))
-repeat_closed role has_fill b digits None = refl
-repeat_closed role has_fill b digits (Some rest) = rw (repeat_judged role has_fill b digits) refl
-
-run_is : (test : ℕ → Bool) (text : List ℕ) → test 92 ≡ false → after_run test (chars text) ≡ chars (run test text).1
-run_is test text n = sym (run_rest test n text _ refl)
-
-repeat_starred : (role : SetRole) (has_fill : Bool) (b : ℕ) (more : List ℕ)
-    → IsForm role has_fill (repeat_after_star b (chars more))
-    (option_map (λ (n : List ℕ × List ℕ). (repeated_in role has_fill b n.0, n.1))
-    (before (93 ∷ []) (run is_ascii_digit more)))
-repeat_starred role has_fill b more =
-    rw (
-      run_is is_ascii_digit more refl,
-      plain_run-chars is_ascii_digit refl more,
-      mark_after 93 (run is_ascii_digit more).1 (omega arith),
-    )
-    (repeat_closed role has_fill b (take_while is_ascii_digit more) (after (93 ∷ []) (run is_ascii_digit more).1))
-
-repeat_marked : (role : SetRole) (has_fill : Bool) (b : ℕ) (star : Option (List ℕ))
-    → IsForm role has_fill (option_and_then (repeat_after_star b) (option_map chars star))
-    (option_and_then (λ (x : ℕ × List ℕ).
-    option_map (λ (n : List ℕ × List ℕ). (repeated_in role has_fill x.0 n.0, n.1))
-    (before (93 ∷ []) (run is_ascii_digit x.1))) (option_map (λ (r : List ℕ). (b, r)) star))
-repeat_marked role has_fill b None = refl
-repeat_marked role has_fill b (Some more) = repeat_starred role has_fill b more
-
-abbrev repeat_from : SetRole → Bool → Result (ℕ × List ℕ) SetFaultKind → Option (Result Segment SetFaultKind × List ℕ)
-repeat_from role has_fill r =
-    option_and_then (λ (x : ℕ × List ℕ).
-    option_map (λ (n : List ℕ × List ℕ). (repeated_in role has_fill x.0 n.0, n.1))
-    (before (93 ∷ []) (run is_ascii_digit x.1)))
-    (option_and_then (before (42 ∷ [])) (result_ok r))
-
-repeat_by_char : (role : SetRole) (has_fill : Bool) (us : List SetChar) (r : Result (ℕ × List ℕ) SetFaultKind)
-    → IsFirst us r → IsForm role has_fill (repeat_after_byte (first_byte us) (drop 1 us)) (repeat_from role has_fill r)
-repeat_by_char role has_fill us (Err k) is = rw is refl
-repeat_by_char role has_fill us (Ok (b, rest)) (is, left) =
-    rw (is, left, mark_after 42 rest (omega arith)) (repeat_marked role has_fill b (after (42 ∷ []) rest))
-
-repeat_is : (role : SetRole) (has_fill : Bool) (text : List ℕ)
-    → IsForm role has_fill (repeat_at (chars text)) (repeat_form role has_fill text)
-repeat_is role has_fill text =
-    rw (repeat_at-first (chars text)) (repeat_by_char role has_fill (chars text) (first_char text) (char_first text))
-
-class_judged : (role : SetRole) (has_fill : Bool) (class : Option CharClass)
-    → segment role has_fill (element.Class class) ≡ ok_or (option_map part.Class class) UnknownClass
-class_judged role has_fill None = grind arith
-class_judged role has_fill (Some class) = grind arith
-
-class_closed : (role : SetRole) (has_fill : Bool) (c : ℕ) (name : List ℕ) (rest : Option (List ℕ))
-    → IsForm role has_fill (with_rest (element.Class (class_named (c ∷ name))) (option_map chars rest))
-    (option_map (λ (r : List ℕ). (ok_or (option_map part.Class (class_named (c ∷ name))) UnknownClass, r)) rest)
-class_closed role has_fill c name None = refl
-class_closed role has_fill c name (Some rest) =
-    ap (λ r. Some (r, chars rest)) (class_judged role has_fill (class_named (c ∷ name)))
-
-class_named_by : (role : SetRole) (has_fill : Bool) (name rest : List ℕ)
-    → IsForm role has_fill (class_with_name name (chars rest))
-    (if is_empty name then None
-    else before (58 ∷ 93 ∷ []) (ok_or (option_map part.Class (class_named name)) UnknownClass, rest))
-class_named_by role has_fill [] rest = refl
-class_named_by role has_fill (c ∷ name) rest =
-    rw (marks_after 58 93 rest (omega arith) (omega arith))
-    (class_closed role has_fill c name (after (58 ∷ 93 ∷ []) rest))
-
-class_marked : (role : SetRole) (has_fill : Bool) (colon : Option (List ℕ))
-    → IsForm role has_fill (option_and_then class_after_colon (option_map chars colon))
-    (option_and_then (λ (inside : List ℕ).
-    let name = run is_ascii_lowercase inside in
-    if is_empty name.0 then None
-    else before (58 ∷ 93 ∷ []) (ok_or (option_map part.Class (class_named name.0)) UnknownClass, name.1)) colon)
-class_marked role has_fill None = refl
-class_marked role has_fill (Some inside) =
-    rw (run_is is_ascii_lowercase inside refl, plain_run-chars is_ascii_lowercase refl inside)
-    (class_named_by role has_fill (take_while is_ascii_lowercase inside) (run is_ascii_lowercase inside).1)
-
-class_is : (role : SetRole) (has_fill : Bool) (text : List ℕ)
-    → IsForm role has_fill (class_at (chars text)) (class_form text)
-class_is role has_fill text =
-    rw (mark_after 58 text (omega arith)) (class_marked role has_fill (after (58 ∷ []) text))
-
-equivalence_closed : (role : SetRole) (has_fill : Bool) (b : ℕ) (rest : Option (List ℕ))
-    → IsForm role has_fill (with_rest (element.Equivalence b) (option_map chars rest))
-    (option_map (λ (r : List ℕ). (equivalent_in role b, r)) rest)
-equivalence_closed role has_fill b rest = grind arith
-
-equivalence_by_char : (role : SetRole) (has_fill : Bool) (us : List SetChar) (r : Result (ℕ × List ℕ) SetFaultKind)
-    → IsFirst us r → IsForm role has_fill (equivalence_with_byte (first_byte us) (drop 1 us))
-    (option_and_then (λ (x : ℕ × List ℕ). before (61 ∷ 93 ∷ []) (equivalent_in role x.0, x.1)) (result_ok r))
-equivalence_by_char role has_fill us (Err k) is = rw is refl
-equivalence_by_char role has_fill us (Ok (b, rest)) (is, left) =
-    rw (is, left, marks_after 61 93 rest (omega arith) (omega arith))
-    (equivalence_closed role has_fill b (after (61 ∷ 93 ∷ []) rest))
-
-equivalence_marked : (role : SetRole) (has_fill : Bool) (equals : Option (List ℕ))
-    → IsForm role has_fill (option_and_then equivalence_after_equals (option_map chars equals))
-    (option_and_then (λ (inside : List ℕ).
-    option_and_then (λ (x : ℕ × List ℕ). before (61 ∷ 93 ∷ []) (equivalent_in role x.0, x.1))
-    (result_ok (first_char inside))) equals)
-equivalence_marked role has_fill None = refl
-equivalence_marked role has_fill (Some inside) =
-    rw (equivalence-first (chars inside))
-    (equivalence_by_char role has_fill (chars inside) (first_char inside) (char_first inside))
-
-equivalence_is : (role : SetRole) (has_fill : Bool) (text : List ℕ)
-    → IsForm role has_fill (equivalence_at (chars text)) (equivalence_form role text)
-equivalence_is role has_fill text =
-    rw (mark_after 61 text (omega arith)) (equivalence_marked role has_fill (after (61 ∷ []) text))
-
-either_form : (role : SetRole) (has_fill : Bool) (a b : Option (SetElement × List SetChar))
-    (x y : Option (Result Segment SetFaultKind × List ℕ)) → IsForm role has_fill a x → IsForm role has_fill b y
-    → IsForm role has_fill (option_or a b) (option_or x y)
-either_form role has_fill None b None y e f = f
-either_form role has_fill None b (Some x) y e f = cc
-either_form role has_fill (Some a) b None y e f = cc
-either_form role has_fill (Some a) b (Some x) y e f = e
-
-inside_is : (role : SetRole) (has_fill : Bool) (text : List ℕ)
-    → IsForm role has_fill (bracketed_inside (chars text))
-    (option_or (repeat_form role has_fill text) (option_or (class_form text) (equivalence_form role text)))
-inside_is role has_fill text = either_form role has_fill _ _ _ _ (repeat_is role has_fill text)
-    (either_form role has_fill _ _ _ _ (class_is role has_fill text) (equivalence_is role has_fill text))
-
-bracket_marked : (role : SetRole) (has_fill : Bool) (bracket : Option (List ℕ))
-    → IsForm role has_fill (option_and_then bracketed_inside (option_map chars bracket))
-    (option_and_then (λ (inside : List ℕ).
-    option_or (repeat_form role has_fill inside) (option_or (class_form inside) (equivalence_form role inside)))
-    bracket)
-bracket_marked role has_fill None = refl
-bracket_marked role has_fill (Some inside) = inside_is role has_fill inside
-
-form_is : (role : SetRole) (has_fill : Bool) (text : List ℕ)
-    → IsForm role has_fill (bracketed_at (chars text)) (form_at role has_fill text)
-form_is role has_fill text =
-    rw (mark_after 91 text (omega arith)) (bracket_marked role has_fill (after (91 ∷ []) text))
-
--- ---- the first segment
-
-abbrev segment_of_first : SetRole → Bool → Result (SetElement × List SetChar) SetFaultKind
-    → Result (Segment × List SetChar) SetFaultKind
-segment_of_first role has_fill r = and_then r (λ (found : SetElement × List SetChar).
-    and_then (segment role has_fill found.0) (λ x. Ok (x, found.1)))
-
--- the first segment of a text is that of its characters
-abbrev IsFirstSegment : SetRole → Bool → Result (SetElement × List SetChar) SetFaultKind
-    → Result (Segment × List ℕ) SetFaultKind → Type 0
-IsFirstSegment role has_fill old new = segment_of_first role has_fill old ≡ ok_map in_chars new
-
-range_is : (role : SetRole) (has_fill : Bool) (a : ℕ) (us : List SetChar) (r : Result (ℕ × List ℕ) SetFaultKind)
-    → IsFirst us r
-    → IsFirstSegment role has_fill (range_to a (first_byte us) (drop 1 us)) (and_then r (range_up_to a))
-range_is role has_fill a us (Err k) is = rw is refl
-range_is role has_fill a us (Ok (b, rest)) (is, left) = rw (is, left) (grind arith)
-
-dash_is : (role : SetRole) (has_fill : Bool) (a : ℕ) (text : List ℕ) (dash : Option (List ℕ))
-    → IsFirstSegment role has_fill (single_or_range a (chars text) (option_map chars dash))
-    (if is_empty (unwrap_or dash []) then Ok (part.Range a a, text)
-    else and_then (first_char (unwrap_or dash [])) (range_up_to a))
-dash_is role has_fill a text None = refl
-dash_is role has_fill a text (Some []) = refl
-dash_is role has_fill a text (Some (c ∷ more)) =
-    rw (single_or_range-first a (chars text) (chars (c ∷ more)) (chars-some (c ∷ more) (omega arith)))
-    (range_is role has_fill a (chars (c ∷ more)) (first_char (c ∷ more)) (char_first (c ∷ more)))
-
-alone_is : (role : SetRole) (has_fill : Bool) (us : List SetChar) (r : Result (ℕ × List ℕ) SetFaultKind)
-    → IsFirst us r
-    → IsFirstSegment role has_fill (char_or_range (first_byte us) (drop 1 us)) (and_then r alone_or_range)
-alone_is role has_fill us (Err k) is = rw is refl
-alone_is role has_fill us (Ok (a, rest)) (is, left) =
-    rw (is, left, mark_after 45 rest (omega arith)) (dash_is role has_fill a rest (after (45 ∷ []) rest))
-
-found_is : (role : SetRole) (has_fill : Bool) (p : SetElement) (us : List SetChar) (r : Result Segment SetFaultKind)
-    (rest : List ℕ) → segment role has_fill p ≡ r → us ≡ chars rest
-    → IsFirstSegment role has_fill (Ok (p, us)) (and_then r (λ x. Ok (x, rest)))
-found_is role has_fill p us (Err k) rest e f = rw e refl
-found_is role has_fill p us (Ok x) rest e f = rw (e, f) refl
-
-some_same : {A : Type 0} (x y : A) → Some x ≡ Some y → x ≡ y
-some_same x y e = cc
-
-first_by_form : (role : SetRole) (has_fill : Bool) (us : List SetChar) (r : Result (ℕ × List ℕ) SetFaultKind)
-    (old : Option (SetElement × List SetChar)) (new : Option (Result Segment SetFaultKind × List ℕ)) → IsFirst us r
-    → bracketed_at us ≡ old → IsForm role has_fill old new
-    → IsFirstSegment role has_fill (first_set_element us)
-    (option_map_or (λ (found : Result Segment SetFaultKind × List ℕ). and_then found.0 (λ x. Ok (x, found.1))) new
-    (and_then r alone_or_range))
-first_by_form role has_fill us r None None is e f =
-    rw (first_set_element-first us (sym e)) (alone_is role has_fill us r is)
-first_by_form role has_fill us r None (Some y) is e f = cc
-first_by_form role has_fill us r (Some (p, vs)) None is e f = cc
-first_by_form role has_fill us r (Some (p, vs)) (Some (y, rest)) is e f =
-    let both = some_same (segment role has_fill p, vs) (y, chars rest) f in
-    rw (first_set_element-found us p vs e) (found_is role has_fill p vs y rest
-    (ap (λ (q : Result Segment SetFaultKind × List SetChar). q.0) both)
-    (ap (λ (q : Result Segment SetFaultKind × List SetChar). q.1) both))
-
-first_is : (role : SetRole) (has_fill : Bool) (text : List ℕ)
-    → IsFirstSegment role has_fill (first_set_element (chars text)) (first_segment role has_fill text)
-first_is role has_fill text = first_by_form role has_fill (chars text) (first_char text) _ (form_at role has_fill text)
-    (char_first text) refl (form_is role has_fill text)
-
--- ---- all segments
-
--- the segments of characters, from their first element
-abbrev read_on : SetRole → Bool → Result (SetElement × List SetChar) SetFaultKind → Result (List Segment) SetFaultKind
-read_on role has_fill (Err k) = Err k
-read_on role has_fill (Ok (p, us)) = and_then (segment role has_fill p) (λ x.
-    and_then (sequence (segments role (has_fill || is_fill (Ok x)) (set_elements us))) (λ xs. Ok (x ∷ xs)))
-
-cons_is : (x : Segment) (r : Result (List Segment) SetFaultKind) → cons_ok x r ≡ and_then r (λ xs. Ok (x ∷ xs))
-cons_is x (Err k) = refl
-cons_is x (Ok xs) = refl
-
-sequence_on : (role : SetRole) (has_fill : Bool) (s : Result Segment SetFaultKind)
-    (ps : List (Result SetElement SetFaultKind))
-    → and_then s (λ y. cons_ok y (sequence (segments role (has_fill || is_fill s) ps)))
-    ≡ and_then s (λ x. and_then (sequence (segments role (has_fill || is_fill (Ok x)) ps)) (λ xs. Ok (x ∷ xs)))
-sequence_on role has_fill (Err k) ps = refl
-sequence_on role has_fill (Ok x) ps = cons_is x (sequence (segments role (has_fill || is_fill (Ok x)) ps))
-
-steps_on : (role : SetRole) (has_fill : Bool) (us : List SetChar) (r : Result (SetElement × List SetChar) SetFaultKind)
-    → 0 < length us → first_set_element us ≡ r
-    → sequence (segments role has_fill (set_elements us)) ≡ read_on role has_fill r
-steps_on role has_fill us (Err k) some e = rw (set_elements-fault us k some e) refl
-steps_on role has_fill us (Ok (p, rest)) some e = rw (set_elements-first us p rest e)
-    (sequence_on role has_fill (segment role has_fill p) (set_elements rest))
-
-abbrev IsReadIn : SetRole → Bool → ℕ → List ℕ → Type 0
-IsReadIn role has_fill n text = read_segments role has_fill n text
-    ≡ sequence (segments role has_fill (set_elements (chars text)))
-
-fills_is : (x : Segment) → fills x ≡ is_fill (Ok x)
-fills_is = grind arith
-
-shorter : (us : List SetChar) (p : SetElement) (rest : List SetChar) → 0 < length us
-    → first_set_element us ≡ Ok (p, rest) → length rest < length us
-shorter [] p rest some e = cc
-shorter (u ∷ us) p rest some e =
-    let (front, all, longer) = StartsElement-front (u ∷ us) p rest (starts_as u us e) in
-    omega (arith, ap length all, length-append front rest, longer)
-
-ok_same : {A : Type 0} (x y : A) → ◌≡◌ {A = Result A SetFaultKind} (Ok x) (Ok y) → x ≡ y
-ok_same x y e = cc
-
-later_is : (role : SetRole) (has_fill : Bool) (n : ℕ) (x : Segment) (rest : List ℕ)
-    → IsReadIn role (has_fill || is_fill (Ok x)) n rest
-    → and_then (read_segments role (has_fill || fills x) n rest) (λ more. Ok (x ∷ more))
-    ≡ and_then (sequence (segments role (has_fill || is_fill (Ok x)) (set_elements (chars rest)))) (λ xs. Ok (x ∷ xs))
-later_is role has_fill n x rest later = ap (λ r. and_then r (λ more. Ok (x ∷ more)))
-    (ap (λ b. read_segments role (has_fill || b) n rest) (fills_is x) ∙ later)
-
-segments_on : (role : SetRole) (has_fill : Bool) (n : ℕ) (us : List SetChar)
-    (old : Result (SetElement × List SetChar) SetFaultKind) (new : Result (Segment × List ℕ) SetFaultKind)
-    → IsFirstSegment role has_fill old new
-    → ((has_fill : Bool) (p : SetElement) (rest : List ℕ) → old ≡ Ok (p, chars rest) → IsReadIn role has_fill n rest)
-    → and_then new (λ (found : Segment × List ℕ).
-    and_then (read_segments role (has_fill || fills found.0) n found.1) (λ more. Ok (found.0 ∷ more)))
-    ≡ read_on role has_fill old
-segments_on role has_fill n us (Err j) (Err k) is later = cc
-segments_on role has_fill n us (Err j) (Ok (x, rest)) is later = cc
-segments_on role has_fill n us (Ok (p, vs)) new is later = by_segment (segment role has_fill p) new refl is
-  where
-    by_segment : (s : Result Segment SetFaultKind) (new : Result (Segment × List ℕ) SetFaultKind)
-        → segment role has_fill p ≡ s
-        → and_then s (λ x. Ok (x, vs)) ≡ ok_map in_chars new
-        → and_then new (λ (found : Segment × List ℕ).
-        and_then (read_segments role (has_fill || fills found.0) n found.1) (λ more. Ok (found.0 ∷ more)))
-        ≡ and_then s (λ x. and_then (sequence (segments role (has_fill || is_fill (Ok x)) (set_elements vs)))
-        (λ xs. Ok (x ∷ xs)))
-    by_segment (Err j) (Err k) s e = cc
-    by_segment (Err j) (Ok (x, rest)) s e = cc
-    by_segment (Ok y) (Err k) s e = cc
-    by_segment (Ok y) (Ok (x, rest)) s e =
-        let same = ok_same (y, vs) (x, chars rest) e in
-        let left : vs ≡ chars rest = ap (λ (q : Segment × List SetChar). q.1) same in
-        subst (λ (q : Segment × List SetChar).
-        and_then (read_segments role (has_fill || fills x) n rest) (λ more. Ok (x ∷ more))
-        ≡ and_then (sequence (segments role (has_fill || is_fill (Ok q.0)) (set_elements q.1))) (λ xs. Ok (q.0 ∷ xs)))
-        (sym same)
-        (later_is role has_fill n x rest (later (has_fill || is_fill (Ok x)) p rest (ap (λ us. Ok (p, us)) left)))
-
-read_in : (n : ℕ) (role : SetRole) (has_fill : Bool) (text : List ℕ) → length (chars text) ≤ n
-    → IsReadIn role has_fill n text
-read_in zero role has_fill [] h = refl
-read_in (suc n) role has_fill [] h = refl
-read_in zero role has_fill (b ∷ text) h = absurd (omega (arith, chars-some (b ∷ text) (omega arith), h))
-read_in (suc n) role has_fill (b ∷ text) h =
-    let some = chars-some (b ∷ text) (omega arith) in
-    segments_on role has_fill n (chars (b ∷ text)) (first_set_element (chars (b ∷ text)))
-    (first_segment role has_fill (b ∷ text)) (first_is role has_fill (b ∷ text))
-    (λ f p rest e. read_in n role f rest (omega (arith, shorter (chars (b ∷ text)) p (chars rest) some e, h)))
-    ∙ sym (steps_on role has_fill (chars (b ∷ text)) _ some refl)
+chars_are : (n : ℕ) (text : List ℕ) → length text ≤ n → read_all first_char n text ≡ map character (chars text)
+chars_are zero [] h = refl
+chars_are (suc n) [] h = refl
+chars_are zero (b ∷ text) h = absurd (omega arith)
+chars_are (suc n) (b ∷ text) h =
+    let c = character (char_at b text).0 in
+    let taken = (char_at b text).1 in
+    ap (λ (read : Character × ℕ). read.0 ∷ read_all first_char n (drop read.1 (b ∷ text))) (char_is b text)
+    ∙ ap (λ bs. c ∷ read_all first_char n bs) (drop_more taken b text)
+    ∙ ap (λ cs. c ∷ cs) (chars_are n (drop taken text) (omega (arith, length-drop taken text, h)))
+    ∙ sym (ap (map character) (chars-cons b text))
 
 length-chars : (bs : List ℕ) (skip : ℕ) → length (chars_after bs skip) ≤ length bs
 length-chars [] skip = omega arith
 length-chars (b ∷ bs) zero = omega (arith, length-chars bs (char_at b bs).1)
 length-chars (b ∷ bs) (suc skip) = omega (arith, length-chars bs skip)
 
+-- ---- marks and runs
+
+-- the characters begin with plain byte `c`, or neither the steps nor `is_at` finds it
+by_plain : (P : List SetChar → Type 0) (c : ℕ) → c ≢ 92 → (us : List SetChar)
+    → ((vs : List SetChar) → after_plain c vs ≡ None → is_at 0 (c ∷ []) (marks vs) ≡ false → P vs)
+    → ((rest : List SetChar) → P (Plain c ∷ rest)) → P us
+by_plain P c n [] other found = other [] refl refl
+by_plain P c n (Plain b ∷ us) other found = ⊎_elim
+    (λ (is : eqb b c ≡ true). subst (λ x. P (Plain x ∷ us)) (sym (eqb-true b c is)) (found us))
+    (λ (is : eqb b c ≡ false). other (Plain b ∷ us) (rw is refl) (rw is refl)) (cases_Bool (eqb b c))
+by_plain P c n (Escaped b ∷ us) other found =
+    let is : eqb 92 c ≡ false = ne_eqb 92 c (λ e. n (sym e)) in other (Escaped b ∷ us) refl (rw is refl)
+by_plain P c n (Invalid k ∷ us) other found =
+    let is : eqb 92 c ≡ false = ne_eqb 92 c (λ e. n (sym e)) in other (Invalid k ∷ us) refl (rw is refl)
+
+no_two : (c d : ℕ) (text : List ℕ) → is_at 0 (c ∷ []) text ≡ false → is_at 0 (c ∷ d ∷ []) text ≡ false
+no_two c d [] e = refl
+no_two c d (b ∷ []) e = grind arith
+no_two c d (b ∷ a ∷ text) e = grind arith
+
+run_is : (test : ℕ → Bool) → test 92 ≡ false → (us : List SetChar) → take_while test (marks us) ≡ plain_run test us
+run_is test n [] = refl
+run_is test n (Plain b ∷ us) = grind (arith, take_while-cons, run_is test n us)
+run_is test n (Escaped b ∷ us) = grind (arith, take_while-cons)
+run_is test n (Invalid k ∷ us) = grind (arith, take_while-cons)
+
+drop_marks : (n : ℕ) (us : List SetChar) → drop n (marks us) ≡ marks (drop n us)
+drop_marks n us = drop-map _ n (map character us) ∙ ap (map (λ (c : Character). c.0)) (drop-map character n us)
+
+drop_next : (n : ℕ) (us : List SetChar) (u : SetChar) (rest : List SetChar) → drop n us ≡ u ∷ rest
+    → drop (suc n) us ≡ rest
+drop_next zero us u rest e = ap (drop 1) e
+drop_next (suc n) [] u rest e = cc
+drop_next (suc n) (v ∷ us) u rest e = drop_next n us u rest e
+
+-- ---- the bracketed forms
+
+abbrev denoted : List SetChar → ℕ → Result ℕ SetFaultKind
+denoted us position = slice_index_or (map (λ (c : Character). c.1) (map character us)) position (Err Empty)
+
+abbrev digits : List SetChar → List ℕ
+digits us = take_while is_ascii_digit (drop 3 (marks us))
+
+abbrev name : List SetChar → List ℕ
+name us = take_while is_ascii_lowercase (drop 2 (marks us))
+
+abbrev has_repeat : List SetChar → Bool
+has_repeat us = is_at 0 (codes "[") (marks us) && is_ok (denoted us 1) && is_at 2 (codes "*") (marks us)
+    && is_at (3 + length (digits us)) (codes "]") (marks us)
+
+abbrev has_class : List SetChar → Bool
+has_class us = is_at 0 (codes "[:") (marks us) && not (is_empty (name us))
+    && is_at (2 + length (name us)) (codes ":]") (marks us)
+
+abbrev has_equivalence : List SetChar → Bool
+has_equivalence us = is_at 0 (codes "[=") (marks us) && is_ok (denoted us 2) && is_at 3 (codes "=]") (marks us)
+
+abbrev the_repeat : SetRole → List SetChar → Result Segment SetFaultKind × ℕ
+the_repeat role us = (and_then (denoted us 1) (repeated role (repeat_count (digits us))), 4 + length (digits us))
+
+abbrev the_class : List SetChar → Result Segment SetFaultKind × ℕ
+the_class us = (ok_or (option_map part.Class (class_named (name us))) UnknownClass, 4 + length (name us))
+
+abbrev the_equivalence : SetRole → List SetChar → Result Segment SetFaultKind × ℕ
+the_equivalence role us = (and_then (denoted us 2) (equivalent role), 5)
+
+-- the steps find this form if the condition holds, and then it is the new one
+abbrev IsForm : SetRole → List SetChar → Option (SetElement × List SetChar) → Bool
+    → Result Segment SetFaultKind × ℕ → Type 0
+IsForm role us None is new = is ≡ false
+IsForm role us (Some (p, rest)) is new = (is ≡ true) × (new.0 ≡ segment role false p) × (drop new.1 us ≡ rest)
+
+repeated_is : (role : SetRole) (count : Option ℕ) (b : ℕ)
+    → repeated role count b ≡ segment role false (element.Repeat b count)
+repeated_is = grind arith
+
+equivalent_is : (role : SetRole) (b : ℕ) → equivalent role b ≡ segment role false (element.Equivalence b)
+equivalent_is = grind arith
+
+class_is : (role : SetRole) (class : Option CharClass)
+    → ok_or (option_map part.Class class) UnknownClass ≡ segment role false (element.Class class)
+class_is = grind arith
+
+-- the run of a form ends where the steps end it, and the form ends after one byte
+one_at_end : (u v w : SetChar) (n : ℕ) (us : List SetChar)
+    → is_at (3 + n) (codes "]") (marks (u ∷ v ∷ w ∷ us)) ≡ is_at 0 (codes "]") (marks (drop n us))
+one_at_end u v w n us =
+    let next : 3 + n ≡ suc (suc (suc n)) = omega arith in rw (next, drop_marks n us) refl
+
+two_at_end : (u v : SetChar) (n : ℕ) (us : List SetChar)
+    → is_at (2 + n) (codes ":]") (marks (u ∷ v ∷ us)) ≡ is_at 0 (codes ":]") (marks (drop n us))
+two_at_end u v n us =
+    let next : 2 + n ≡ suc (suc n) = omega arith in rw (next, drop_marks n us) refl
+
+repeat_ends : (role : SetRole) (x : SetChar) (b : ℕ) (more : List SetChar) (ds : List ℕ) → byte_of x ≡ Ok b
+    → digits (Plain 91 ∷ x ∷ Plain 42 ∷ more) ≡ ds
+    → IsForm role (Plain 91 ∷ x ∷ Plain 42 ∷ more)
+    (with_rest (element.Repeat b (repeat_count ds)) (after_plain 93 (drop (length ds) more)))
+    (is_at (3 + length ds) (codes "]") (marks (Plain 91 ∷ x ∷ Plain 42 ∷ more)))
+    (repeated role (repeat_count ds) b, 4 + length ds)
+repeat_ends role x b more ds at is = rw (one_at_end (Plain 91) x (Plain 42) (length ds) more)
+    (by_plain (λ vs. vs ≡ drop (length ds) more → IsForm role (Plain 91 ∷ x ∷ Plain 42 ∷ more)
+    (with_rest (element.Repeat b (repeat_count ds)) (after_plain 93 vs)) (is_at 0 (codes "]") (marks vs))
+    (repeated role (repeat_count ds) b, 4 + length ds)) 93 (omega arith) (drop (length ds) more)
+    (λ vs none missed same. rw none missed)
+    (λ rest same.
+    let next : 4 + length ds ≡ suc (suc (suc (suc (length ds)))) = omega arith in
+    let left = drop_next (length ds) more (Plain 93) rest (sym same) in
+    (refl, repeated_is role (repeat_count ds) b, rw next left)) refl)
+
+repeat_found : (role : SetRole) (x : SetChar) (b : ℕ) (us : List SetChar) → byte_of x ≡ Ok b
+    → denoted (Plain 91 ∷ x ∷ us) 1 ≡ Ok b
+    → IsForm role (Plain 91 ∷ x ∷ us) (option_and_then (repeat_after_star b) (after_plain 42 us))
+    (has_repeat (Plain 91 ∷ x ∷ us)) (the_repeat role (Plain 91 ∷ x ∷ us))
+repeat_found role x b us at says = by_plain
+    (λ vs. IsForm role (Plain 91 ∷ x ∷ vs) (option_and_then (repeat_after_star b) (after_plain 42 vs))
+    (has_repeat (Plain 91 ∷ x ∷ vs)) (the_repeat role (Plain 91 ∷ x ∷ vs))) 42 (omega arith) us
+    (λ vs none missed. rw (none, says, missed) refl)
+    (λ more.
+    let run = run_is is_ascii_digit refl more in
+    rw (says, ← run) (repeat_ends role x b more (digits (Plain 91 ∷ x ∷ Plain 42 ∷ more)) at refl))
+
+repeat_inside : (role : SetRole) (us : List SetChar)
+    → IsForm role (Plain 91 ∷ us) (repeat_at us) (has_repeat (Plain 91 ∷ us)) (the_repeat role (Plain 91 ∷ us))
+repeat_inside role [] = refl
+repeat_inside role (Plain b ∷ us) = repeat_found role (Plain b) b us refl refl
+repeat_inside role (Escaped b ∷ us) = repeat_found role (Escaped b) b us refl refl
+repeat_inside role (Invalid k ∷ us) = refl
+
+class_ends : (role : SetRole) (inside : List SetChar) (ds : List ℕ)
+    → IsForm role (Plain 91 ∷ Plain 58 ∷ inside) (class_with_name ds (drop (length ds) inside))
+    (not (is_empty ds) && is_at (2 + length ds) (codes ":]") (marks (Plain 91 ∷ Plain 58 ∷ inside)))
+    (ok_or (option_map part.Class (class_named ds)) UnknownClass, 4 + length ds)
+class_ends role inside [] = refl
+class_ends role inside (c ∷ ds) = rw (two_at_end (Plain 91) (Plain 58) (length (c ∷ ds)) inside)
+    (by_plain (λ vs. vs ≡ drop (length (c ∷ ds)) inside → IsForm role (Plain 91 ∷ Plain 58 ∷ inside)
+    (class_with_name (c ∷ ds) vs) (is_at 0 (codes ":]") (marks vs))
+    (ok_or (option_map part.Class (class_named (c ∷ ds))) UnknownClass, 4 + length (c ∷ ds)))
+    58 (omega arith) (drop (length (c ∷ ds)) inside)
+    (λ vs none missed same. rw (none, no_two 58 93 (marks vs) missed) refl)
+    (λ vs. by_plain (λ ws. Plain 58 ∷ ws ≡ drop (length (c ∷ ds)) inside → IsForm role (Plain 91 ∷ Plain 58 ∷ inside)
+    (class_with_name (c ∷ ds) (Plain 58 ∷ ws)) (is_at 0 (codes ":]") (marks (Plain 58 ∷ ws)))
+    (ok_or (option_map part.Class (class_named (c ∷ ds))) UnknownClass, 4 + length (c ∷ ds))) 93 (omega arith) vs
+    (λ ws none missed same. rw (none, missed) refl)
+    (λ rest same.
+    let next : 4 + length (c ∷ ds) ≡ suc (suc (suc (suc (length (c ∷ ds))))) = omega arith in
+    let left = drop_next (suc (length (c ∷ ds))) inside (Plain 93) rest
+    (drop_next (length (c ∷ ds)) inside (Plain 58) (Plain 93 ∷ rest) (sym same)) in
+    (refl, class_is role (class_named (c ∷ ds)), rw next left))) refl)
+
+class_inside : (role : SetRole) (us : List SetChar)
+    → IsForm role (Plain 91 ∷ us) (class_at us) (has_class (Plain 91 ∷ us)) (the_class (Plain 91 ∷ us))
+class_inside role us = by_plain
+    (λ vs. IsForm role (Plain 91 ∷ vs) (class_at vs) (has_class (Plain 91 ∷ vs)) (the_class (Plain 91 ∷ vs)))
+    58 (omega arith) us
+    (λ vs none missed. rw (none, missed) refl)
+    (λ inside.
+    let run = run_is is_ascii_lowercase refl inside in
+    rw (← run) (class_ends role inside (name (Plain 91 ∷ Plain 58 ∷ inside))))
+
+equivalence_found : (role : SetRole) (x : SetChar) (b : ℕ) (us : List SetChar) → byte_of x ≡ Ok b
+    → denoted (Plain 91 ∷ Plain 61 ∷ x ∷ us) 2 ≡ Ok b
+    → IsForm role (Plain 91 ∷ Plain 61 ∷ x ∷ us) (with_rest (element.Equivalence b) (after_two 61 93 us))
+    (has_equivalence (Plain 91 ∷ Plain 61 ∷ x ∷ us)) (the_equivalence role (Plain 91 ∷ Plain 61 ∷ x ∷ us))
+equivalence_found role x b us at says = by_plain
+    (λ vs. IsForm role (Plain 91 ∷ Plain 61 ∷ x ∷ vs) (with_rest (element.Equivalence b) (after_two 61 93 vs))
+    (has_equivalence (Plain 91 ∷ Plain 61 ∷ x ∷ vs)) (the_equivalence role (Plain 91 ∷ Plain 61 ∷ x ∷ vs)))
+    61 (omega arith) us
+    (λ vs none missed. rw (none, says, no_two 61 93 (marks vs) missed) refl)
+    (λ vs. by_plain
+    (λ ws. IsForm role (Plain 91 ∷ Plain 61 ∷ x ∷ Plain 61 ∷ ws)
+    (with_rest (element.Equivalence b) (after_two 61 93 (Plain 61 ∷ ws)))
+    (has_equivalence (Plain 91 ∷ Plain 61 ∷ x ∷ Plain 61 ∷ ws))
+    (the_equivalence role (Plain 91 ∷ Plain 61 ∷ x ∷ Plain 61 ∷ ws))) 93 (omega arith) vs
+    (λ ws none missed. rw (none, says, missed) refl)
+    (λ rest. rw says (refl, equivalent_is role b, refl)))
+
+equivalence_inside : (role : SetRole) (us : List SetChar) → IsForm role (Plain 91 ∷ us) (equivalence_at us)
+    (has_equivalence (Plain 91 ∷ us)) (the_equivalence role (Plain 91 ∷ us))
+equivalence_inside role us = by_plain
+    (λ vs. IsForm role (Plain 91 ∷ vs) (equivalence_at vs) (has_equivalence (Plain 91 ∷ vs))
+    (the_equivalence role (Plain 91 ∷ vs))) 61 (omega arith) us
+    (λ vs none missed. rw (none, missed) refl)
+    after_equals
+  where
+    after_equals : (inside : List SetChar) → IsForm role (Plain 91 ∷ Plain 61 ∷ inside)
+        (equivalence_at (Plain 61 ∷ inside)) (has_equivalence (Plain 91 ∷ Plain 61 ∷ inside))
+        (the_equivalence role (Plain 91 ∷ Plain 61 ∷ inside))
+    after_equals [] = refl
+    after_equals (Plain b ∷ us) = equivalence_found role (Plain b) b us refl refl
+    after_equals (Escaped b ∷ us) = equivalence_found role (Escaped b) b us refl refl
+    after_equals (Invalid k ∷ us) = refl
+
+-- ---- the first segment
+
+-- the first segment of characters is that of their first element
+abbrev Agrees : SetRole → List SetChar → Result (SetElement × List SetChar) SetFaultKind
+    → Result Segment SetFaultKind × ℕ → Type 0
+Agrees role us (Err k) new = new.0 ≡ Err k
+Agrees role us (Ok (p, rest)) new = (new.0 ≡ segment role false p) × (drop new.1 us ≡ rest)
+
+abbrev or_else : Option (SetElement × List SetChar) → Result (SetElement × List SetChar) SetFaultKind
+    → Result (SetElement × List SetChar) SetFaultKind
+or_else None r = r
+or_else (Some found) r = Ok found
+
+either : (role : SetRole) (us : List SetChar) (form : Option (SetElement × List SetChar)) (c : Bool)
+    (new other : Result Segment SetFaultKind × ℕ) (r : Result (SetElement × List SetChar) SetFaultKind)
+    → IsForm role us form c new → Agrees role us r other
+    → Agrees role us (or_else form r) (if c then new else other)
+either role us None c new other r e f = rw e f
+either role us (Some (p, rest)) c new other r (e, value, left) f = rw e (value, left)
+
+range_is : (role : SetRole) (us : List SetChar) (a b : ℕ) (rest : List SetChar) → drop 3 us ≡ rest
+    → Agrees role us (range_to a (Ok b) rest) (range a b, 3)
+range_is = grind arith
+
+range_from : (role : SetRole) (u : SetChar) (a : ℕ) (v : SetChar) (rest : List SetChar)
+    → Agrees role (u ∷ Plain 45 ∷ v ∷ rest) (range_to a (byte_of v) rest)
+    (and_then (denoted (u ∷ Plain 45 ∷ v ∷ rest) 2) (range a), 3)
+range_from role u a (Plain b) rest = range_is role (u ∷ Plain 45 ∷ Plain b ∷ rest) a b rest refl
+range_from role u a (Escaped b) rest = range_is role (u ∷ Plain 45 ∷ Escaped b ∷ rest) a b rest refl
+range_from role u a (Invalid k) rest = refl
+
+abbrev has_range : List SetChar → Bool
+has_range us = is_at 1 (codes "-") (marks us) && not (is_empty (drop 2 (marks us)))
+
+abbrev the_range : List SetChar → Result Segment SetFaultKind × ℕ
+the_range us = (and_then (denoted us 0) (λ a. and_then (denoted us 2) (range a)), 3)
+
+abbrev the_single : List SetChar → Result Segment SetFaultKind × ℕ
+the_single us = (and_then (denoted us 0) (λ b. Ok (part.Range b b)), 1)
+
+from_byte : (role : SetRole) (u : SetChar) (a : ℕ) (us : List SetChar)
+    → ((vs : List SetChar) → denoted (u ∷ vs) 0 ≡ Ok a)
+    → Agrees role (u ∷ us) (single_or_range a us (after_plain 45 us))
+    (if has_range (u ∷ us) then the_range (u ∷ us) else the_single (u ∷ us))
+from_byte role u a us says = by_plain (λ vs. Agrees role (u ∷ vs) (single_or_range a vs (after_plain 45 vs))
+    (if has_range (u ∷ vs) then the_range (u ∷ vs) else the_single (u ∷ vs))) 45 (omega arith) us
+    (λ vs none missed. rw (none, missed, says vs) (refl, refl))
+    after_dash
+  where
+    after_dash : (vs : List SetChar)
+        → Agrees role (u ∷ Plain 45 ∷ vs) (single_or_range a (Plain 45 ∷ vs) (after_plain 45 (Plain 45 ∷ vs)))
+        (if has_range (u ∷ Plain 45 ∷ vs) then the_range (u ∷ Plain 45 ∷ vs) else the_single (u ∷ Plain 45 ∷ vs))
+    after_dash [] = rw (says (Plain 45 ∷ [])) (refl, refl)
+    after_dash (v ∷ rest) = rw (says (Plain 45 ∷ v ∷ rest)) (range_from role u a v rest)
+
+fault_either : (c : Bool) (x y : Result Segment SetFaultKind × ℕ) (k : SetFaultKind) → x.0 ≡ Err k → y.0 ≡ Err k
+    → (if c then x else y).0 ≡ Err k
+fault_either true x y k e f = e
+fault_either false x y k e f = f
+
+char_agrees : (role : SetRole) (u : SetChar) (us : List SetChar) → Agrees role (u ∷ us) (char_or_range (byte_of u) us)
+    (if has_range (u ∷ us) then the_range (u ∷ us) else the_single (u ∷ us))
+char_agrees role (Plain b) us = from_byte role (Plain b) b us (λ vs. refl)
+char_agrees role (Escaped b) us = from_byte role (Escaped b) b us (λ vs. refl)
+char_agrees role (Invalid k) us = fault_either (has_range (Invalid k ∷ us)) (the_range (Invalid k ∷ us))
+    (the_single (Invalid k ∷ us)) k refl refl
+
+or_char_is : (form : Option (SetElement × List SetChar)) (u : SetChar) (us : List SetChar)
+    → or_char form u us ≡ or_else form (char_or_range (byte_of u) us)
+or_char_is None u us = refl
+or_char_is (Some found) u us = refl
+
+or_else_or : (a b : Option (SetElement × List SetChar)) (r : Result (SetElement × List SetChar) SetFaultKind)
+    → or_else (option_or a b) r ≡ or_else a (or_else b r)
+or_else_or None b r = refl
+or_else_or (Some found) b r = refl
+
+abbrev or_alone : SetRole → List SetChar → Result Segment SetFaultKind × ℕ
+or_alone role us = if has_range us then the_range us else the_single us
+
+-- the first segment, if `form`, `class` and `equivalence` are what the steps find after a bracket
+first_agrees : (role : SetRole) (u : SetChar) (us : List SetChar)
+    (form class equivalence : Option (SetElement × List SetChar))
+    → IsForm role (u ∷ us) form (has_repeat (u ∷ us)) (the_repeat role (u ∷ us))
+    → IsForm role (u ∷ us) class (has_class (u ∷ us)) (the_class (u ∷ us))
+    → IsForm role (u ∷ us) equivalence (has_equivalence (u ∷ us)) (the_equivalence role (u ∷ us))
+    → Agrees role (u ∷ us) (or_char (option_or form (option_or class equivalence)) u us)
+    (first_segment role (map character (u ∷ us)))
+first_agrees role u us form class equivalence a b c =
+    rw (
+      or_char_is (option_or form (option_or class equivalence)) u us,
+      or_else_or form (option_or class equivalence) (char_or_range (byte_of u) us),
+      or_else_or class equivalence (char_or_range (byte_of u) us),
+    )
+    (either role (u ∷ us) form (has_repeat (u ∷ us)) (the_repeat role (u ∷ us)) _ _ a
+    (either role (u ∷ us) class (has_class (u ∷ us)) (the_class (u ∷ us)) _ _ b
+    (either role (u ∷ us) equivalence (has_equivalence (u ∷ us)) (the_equivalence role (u ∷ us)) _ _ c
+    (char_agrees role u us))))
+
+abbrev FirstIs : SetRole → SetChar → List SetChar → Type 0
+FirstIs role u us = Agrees role (u ∷ us) (first_set_element (u ∷ us)) (first_segment role (map character (u ∷ us)))
+
+no_form : (role : SetRole) (u : SetChar) (us : List SetChar) → after_plain 91 (u ∷ us) ≡ None
+    → is_at 0 (codes "[") (marks (u ∷ us)) ≡ false → FirstIs role u us
+no_form role u us none missed = rw none (first_agrees role u us None None None (rw missed refl)
+    (rw (no_two 91 58 (marks (u ∷ us)) missed) refl) (rw (no_two 91 61 (marks (u ∷ us)) missed) refl))
+
+abbrev FirstOf : SetRole → List SetChar → Type 0
+FirstOf role [] = Unit {0}
+FirstOf role (v ∷ vs) = FirstIs role v vs
+
+first_is : (role : SetRole) (u : SetChar) (us : List SetChar) → FirstIs role u us
+first_is role u us = by_plain (FirstOf role) 91 (omega arith) (u ∷ us) other
+    (λ rest. first_agrees role (Plain 91) rest (repeat_at rest) (class_at rest) (equivalence_at rest)
+    (repeat_inside role rest) (class_inside role rest) (equivalence_inside role rest))
+  where
+    other : (vs : List SetChar) → after_plain 91 vs ≡ None → is_at 0 (91 ∷ []) (marks vs) ≡ false → FirstOf role vs
+    other [] none missed = tt
+    other (v ∷ vs) none missed = no_form role v vs none missed
+
+-- ---- all segments
+
+-- a second fill is a fault
+abbrev unless_fill : Result Segment SetFaultKind → Result Segment SetFaultKind
+unless_fill (Ok (part.Fill b)) = Err SecondFill
+unless_fill r = r
+
+after_fill : (role : SetRole) (p : SetElement) → segment role true p ≡ unless_fill (segment role false p)
+after_fill = grind arith
+
+abbrev segment_after : Bool → Result Segment SetFaultKind → Result Segment SetFaultKind
+segment_after true r = unless_fill r
+segment_after false r = r
+
+segment_after_is : (role : SetRole) (f : Bool) (p : SetElement) → segment role f p ≡ segment_after f (segment role false p)
+segment_after_is role true p = after_fill role p
+segment_after_is role false p = refl
+
+one_more : (f : Bool) (r : Result Segment SetFaultKind) (rs : List (Result Segment SetFaultKind))
+    (later : Bool → Result (List Segment) SetFaultKind) → ((g : Bool) → with_one_fill g rs ≡ later g)
+    → with_one_fill f (r ∷ rs)
+    ≡ and_then (segment_after f r) (λ y. cons_ok y (later (f || is_fill (segment_after f r))))
+one_more true (Ok (part.Fill b)) rs later is = refl
+one_more false (Ok (part.Fill b)) rs later is = ap (cons_ok (part.Fill b)) (is true)
+one_more true (Ok (part.Range a b)) rs later is = ap (cons_ok (part.Range a b)) (is true)
+one_more false (Ok (part.Range a b)) rs later is = ap (cons_ok (part.Range a b)) (is false)
+one_more true (Ok (part.Class c)) rs later is = ap (cons_ok (part.Class c)) (is true)
+one_more false (Ok (part.Class c)) rs later is = ap (cons_ok (part.Class c)) (is false)
+one_more true (Ok (part.Repeat b n)) rs later is = ap (cons_ok (part.Repeat b n)) (is true)
+one_more false (Ok (part.Repeat b n)) rs later is = ap (cons_ok (part.Repeat b n)) (is false)
+one_more true (Err k) rs later is = refl
+one_more false (Err k) rs later is = refl
+
+one_fault : (f : Bool) (k : SetFaultKind) (rs : List (Result Segment SetFaultKind))
+    → with_one_fill f (Err k ∷ rs) ≡ Err k
+one_fault true k rs = refl
+one_fault false k rs = refl
+
+shorter : (u : SetChar) (us : List SetChar) (p : SetElement) (rest : List SetChar)
+    → first_set_element (u ∷ us) ≡ Ok (p, rest) → length rest < length (u ∷ us)
+shorter u us p rest e =
+    let (front, all, longer) = StartsElement-front (u ∷ us) p rest (starts_as u us e) in
+    omega (arith, ap length all, length-append front rest, longer)
+
+-- the segments of characters, read at most `n` times, are those of the steps
+abbrev AreRead : SetRole → ℕ → List SetChar → Type 0
+AreRead role n us = (f : Bool) → with_one_fill f (read_all (first_segment role) n (map character us))
+    ≡ sequence (segments role f (set_elements us))
+
+abbrev read_next : SetRole → ℕ → Bool → SetChar → List SetChar → Result Segment SetFaultKind × ℕ
+    → Result (List Segment) SetFaultKind
+read_next role n f u us found =
+    with_one_fill f (found.0 ∷ read_all (first_segment role) n (drop found.1 (map character (u ∷ us))))
+
+next_is : (role : SetRole) (n : ℕ) (f : Bool) (u : SetChar) (us : List SetChar)
+    (r : Result (SetElement × List SetChar) SetFaultKind) → first_set_element (u ∷ us) ≡ r
+    → Agrees role (u ∷ us) r (first_segment role (map character (u ∷ us)))
+    → ((p : SetElement) (rest : List SetChar) → r ≡ Ok (p, rest) → AreRead role n rest)
+    → read_next role n f u us (first_segment role (map character (u ∷ us)))
+    ≡ sequence (segments role f (set_elements (u ∷ us)))
+next_is role n f u us (Err k) e value later =
+    let found = first_segment role (map character (u ∷ us)) in
+    let rs = read_all (first_segment role) n (drop found.1 (map character (u ∷ us))) in
+    ap (λ r. with_one_fill f (r ∷ rs)) value ∙ one_fault f k rs
+    ∙ sym (ap (λ es. sequence (segments role f es)) (set_elements-fault (u ∷ us) k (omega arith) e))
+next_is role n f u us (Ok (p, rest)) e (value, left) later =
+    let found = first_segment role (map character (u ∷ us)) in
+    let rs = read_all (first_segment role) n (map character rest) in
+    ap (λ cs. with_one_fill f (found.0 ∷ read_all (first_segment role) n cs))
+    (drop-map character found.1 (u ∷ us) ∙ ap (map character) left)
+    ∙ ap (λ r. with_one_fill f (r ∷ rs)) value
+    ∙ one_more f (segment role false p) rs (λ g. sequence (segments role g (set_elements rest))) (later p rest refl)
+    ∙ ap (λ s. and_then s (λ y. cons_ok y (sequence (segments role (f || is_fill s) (set_elements rest)))))
+    (sym (segment_after_is role f p))
+    ∙ sym (ap (λ es. sequence (segments role f es)) (set_elements-first (u ∷ us) p rest e))
+
+are_read : (n : ℕ) (role : SetRole) (us : List SetChar) → length us ≤ n → AreRead role n us
+are_read zero role [] h f = refl
+are_read (suc n) role [] h f = refl
+are_read zero role (u ∷ us) h f = absurd (omega arith)
+are_read (suc n) role (u ∷ us) h f = next_is role n f u us (first_set_element (u ∷ us)) refl (first_is role u us)
+    (λ p rest e. are_read n role rest (omega (arith, shorter u us p rest e, h)))
+
 pub read_in_steps : ReadInSteps
 read_in_steps role [] = refl
-read_in_steps role (b ∷ text) = read_in (length (b ∷ text)) role false (b ∷ text) (length-chars (b ∷ text) 0)
+read_in_steps role (b ∷ text) =
+    let n = length (b ∷ text) in
+    ap (λ cs. with_one_fill false (read_all (first_segment role) n cs)) (chars_are n (b ∷ text) (omega arith))
+    ∙ are_read n role (chars (b ∷ text)) (length-chars (b ∷ text) 0) false

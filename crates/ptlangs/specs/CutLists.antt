@@ -1,7 +1,7 @@
 -- The list of `cut`, options `-b`, `-c` and `-f` (POSIX.1-2017, XCU, `cut`), as a parse: the interval of each
 -- element, its fault, and the set of numbers that the list selects. Its grammar is in Laws/CutLists.
-use Rattle.std.specs.Prelude.{ℕ, ◌==◌, ◌||◌, ◌&&◌, List, [], ◌∷◌, Bool, not}
-use Rattle.std.specs.Prelude.{Option, Some, None, Result, Ok, Err, if◌then◌else◌, nat_lt, nat_le}
+use Rattle.std.specs.Prelude.{ℕ, ◌==◌, ◌||◌, ◌&&◌, List, [], ◌∷◌, ◌++◌, Bool, not, Result, Ok, Err, if◌then◌else◌}
+use Rattle.std.specs.Prelude.{nat_lt, nat_le, codes}
 use Rattle.std.specs.List.{slice_split, list_any}
 use Rattle.std.specs.Str.{byte}
 use Rattle.ptlangs.specs.Numbers.{and_then, elements, is_empty, is_number, max_u64, traverse, value}
@@ -9,47 +9,25 @@ use Rattle.ptlangs.specs.declared.ranges.Interval.{Interval}
 use Rattle.ptlangs.specs.declared.ranges.ListFault.{ListFault}
 use Rattle.ptlangs.specs.declared.ranges.ListFault.TheVariants.{Descending, Empty, Malformed, TooLarge, Zero}
 
--- a bound of an element: decimal digits, or nothing
-abbrev pub is_bound : List ℕ → Bool
-is_bound bs = is_empty bs || is_number bs
+-- the interval from one number to another, or the first of its faults
+abbrev pub interval : List ℕ → List ℕ → Result Interval ListFault
+interval n m =
+    if not (is_number n && is_number m) then Err Malformed
+    else (if nat_lt max_u64 (value n) || nat_lt max_u64 (value m) then Err TooLarge
+    else (if (value n == 0) || (value m == 0) then Err Zero
+    else (if nat_lt (value m) (value n) then Err Descending else Ok (record { first = value n; last = value m }))))
 
--- the value of a bound, or `default` if the bound is empty
-abbrev pub value_or : ℕ → List ℕ → ℕ
-value_or default bs = if is_empty bs then default else value bs
-
--- the interval `n-m`; one of the two bounds may be empty: an empty lower bound is 1, an empty upper bound is `max_u64`
-abbrev pub interval_of_bounds : List ℕ → List ℕ → Option Interval
-interval_of_bounds n m =
-    if is_bound n && is_bound m && not (is_empty n && is_empty m)
-    then Some (record { first = value_or 1 n; last = value_or max_u64 m })
-    else None
-
--- the interval of an element that is split at its dashes; `None` if the element has none of the forms `n`, `n-m`, `-m`
--- and `n-`
-abbrev pub interval_of_parts : List (List ℕ) → Option Interval
-interval_of_parts (n ∷ []) = if is_number n then Some (record { first = value n; last = value n }) else None
-interval_of_parts (n ∷ m ∷ []) = interval_of_bounds n m
-interval_of_parts _ = None
-
--- the interval, or the fault of its bounds; `None` is a malformed element
-abbrev pub checked_interval : Option Interval → Result Interval ListFault
-checked_interval None = Err Malformed
-checked_interval (Some r) =
-    if nat_lt max_u64 r.first || nat_lt max_u64 r.last then Err TooLarge
-    else (if (r.first == 0) || (r.last == 0) then Err Zero
-    else (if nat_lt r.last r.first then Err Descending else Ok r))
-
--- the byte is a dash
-abbrev pub is_dash : ℕ → Bool
-is_dash b = b == byte "-"
+-- the interval of an element that is split at its dashes: `n`, `n-m`, `-m` from 1, `n-` to the greatest number
+abbrev pub interval_of_parts : List (List ℕ) → Result Interval ListFault
+interval_of_parts (n ∷ []) = if is_empty n then Err Empty else interval n n
+interval_of_parts (n ∷ m ∷ []) =
+    if is_empty (n ++ m) then Err Malformed
+    else interval (if is_empty n then codes "1" else n) (if is_empty m then codes "18446744073709551615" else m)
+interval_of_parts _ = Err Malformed
 
 -- the interval of one element, or the fault of the element
 abbrev pub element_interval : List ℕ → Result Interval ListFault
-element_interval bs = if is_empty bs then Err Empty else checked_interval (interval_of_parts (slice_split is_dash bs))
-
--- the intervals of a list, in the order of its elements, or the fault of the first faulty element
-abbrev pub cut_list : List ℕ → Result (List Interval) ListFault
-cut_list bs = traverse element_interval (elements bs)
+element_interval bs = interval_of_parts (slice_split (λ b. b == byte "-") bs)
 
 -- the number lies in one of the intervals
 abbrev pub is_selected : List Interval → ℕ → Bool
@@ -57,4 +35,4 @@ is_selected intervals n = list_any (λ r. nat_le r.first n && nat_le n r.last) i
 
 -- the set of numbers that a list selects, or the fault of the first faulty element
 abbrev pub selection : List ℕ → Result (ℕ → Bool) ListFault
-selection bs = and_then (cut_list bs) (λ intervals. Ok (is_selected intervals))
+selection bs = and_then (traverse element_interval (elements bs)) (λ intervals. Ok (is_selected intervals))

@@ -1,30 +1,24 @@
 -- The list of delimiters of `paste`, which is the value of option `-d` (POSIX.1-2017, XCU, `paste`), as a parse, and
 -- the delimiter after a column. Its grammar is in Laws/DelimLists.
 use Rattle.std.specs.Prelude.{ℕ, ◌%◌, ◌==◌, List, [], ◌∷◌, length, Option, Some, None, Result}
-use Rattle.std.specs.Prelude.{Ok, Err, if◌then◌else◌, slice_index_or}
+use Rattle.std.specs.Prelude.{Ok, Err, if◌then◌else◌, slice_index_or, ok_or, option_map}
+use Rattle.std.specs.List.{find}
 use Rattle.std.specs.Str.{byte}
 use Rattle.ptlangs.specs.Numbers.{and_then, cons_ok}
 use Rattle.ptlangs.specs.declared.delims.DelimFault.{DelimFault}
 use Rattle.ptlangs.specs.declared.delims.DelimFault.TheVariants.{Empty, Escape}
 
--- the byte of a backslash
-abbrev pub backslash : ℕ
-backslash = byte "\\"
-
 -- the delimiter that a backslash and this byte denote: a byte, or `None` for the empty string
 abbrev pub escape : ℕ → Result (Option ℕ) DelimFault
-escape b =
-    if b == byte "n" then Ok (Some 10)
-    else (if b == byte "t" then Ok (Some 9)
-    else (if b == backslash then Ok (Some backslash)
-    else (if b == byte "0" then Ok None else Err Escape)))
+escape b = ok_or (option_map (λ (e : ℕ × Option ℕ). e.1) (find (λ (e : ℕ × Option ℕ). e.0 == b) (
+    (byte "n", Some 10) ∷ (byte "t", Some 9) ∷ (byte "\\", Some (byte "\\")) ∷ (byte "0", None) ∷ []))) Escape
 
 -- the delimiters of a text, or the fault of its first faulty escape
 abbrev pub delims : List ℕ → Result (List (Option ℕ)) DelimFault
 delims [] = Ok []
-delims (b ∷ []) = if b == backslash then Err Escape else Ok (Some b ∷ [])
+delims (b ∷ []) = if b == byte "\\" then Err Escape else Ok (Some b ∷ [])
 delims (b ∷ c ∷ more) =
-    if b == backslash then and_then (escape c) (λ d. cons_ok d (delims more))
+    if b == byte "\\" then and_then (escape c) (λ d. cons_ok d (delims more))
     else cons_ok (Some b) (delims (c ∷ more))
 
 -- the delimiters of a list, which is not empty, or the fault of its first faulty element

@@ -29,13 +29,9 @@ value bs = digits_value 10 bs
 abbrev pub number : List ℕ → Option ℕ
 number bs = if is_number bs && nat_le (value bs) max_u64 then Some (value bs) else None
 
--- a byte that separates elements: a comma, a space or a tab
-abbrev pub is_list_separator : ℕ → Bool
-is_list_separator b = (b == byte ",") || (b == byte " ") || (b == 9)
-
--- the elements between single separators
+-- the elements of a list, between single commas, spaces or tabs
 abbrev pub elements : List ℕ → List (List ℕ)
-elements bs = slice_split is_list_separator bs
+elements bs = slice_split (λ b. (b == byte ",") || (b == byte " ") || (b == 9)) bs
 
 -- the second step on the value of the first, or the fault of the first
 abbrev pub and_then : {A B E : Type 0} → Result A E → (A → Result B E) → Result B E

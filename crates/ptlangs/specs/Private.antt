@@ -2,5 +2,6 @@
 -- without options, and how the strings of `tr` are read and their arrays paired.
 pub mod CutLists
 pub mod Jobs
+pub mod OutLists
 pub mod TrClasses
 pub mod TrParsing

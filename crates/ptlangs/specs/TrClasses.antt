@@ -36,8 +36,7 @@ abbrev pub class_names : List (List ℕ × CharClass)
 class_names =
     (codes "alnum", Alnum) ∷ (codes "alpha", Alpha) ∷ (codes "blank", Blank) ∷ (codes "cntrl", Cntrl)
     ∷ (codes "digit", Digit) ∷ (codes "graph", Graph) ∷ (codes "lower", Lower) ∷ (codes "print", Print)
-    ∷ (codes "punct", Punct) ∷ (codes "space", Space) ∷ (codes "upper", Upper) ∷ (codes "xdigit", Xdigit)
-    ∷ []
+    ∷ (codes "punct", Punct) ∷ (codes "space", Space) ∷ (codes "upper", Upper) ∷ (codes "xdigit", Xdigit) ∷ []
 
 -- the class with this name; `None` if there is none
 abbrev pub class_named : List ℕ → Option CharClass

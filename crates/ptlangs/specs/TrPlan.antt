@@ -1,10 +1,10 @@
 -- The plan of `tr`: the array of bytes of each string, and which bytes are deleted, translated and squeezed
 -- (POSIX.1-2017, XCU, `tr`).
-use Rattle.std.specs.Prelude.{ℕ, ◌+◌, ◌-◌, ◌==◌, ◌&&◌, List, [], ◌∷◌, ◌++◌, Bool, true}
-use Rattle.std.specs.Prelude.{false, not, Option, Some, None, Result, Ok, Err, if◌then◌else◌, length, take, filter}
-use Rattle.std.specs.Prelude.{nat_lt, replicate, unwrap_or, slice_get}
-use Rattle.std.specs.List.{flat_map, list_all, list_any, last_or}
-use Rattle.std.specs.Option.{option_and_then, option_to_list}
+use Rattle.std.specs.Prelude.{ℕ, ◌+◌, ◌-◌, ◌==◌, ◌&&◌, List, [], ◌∷◌, Bool, true}
+use Rattle.std.specs.Prelude.{false, not, Option, Some, None, Result, Ok, Err, if◌then◌else◌, length, filter}
+use Rattle.std.specs.Prelude.{min, nat_lt, replicate, unwrap_or, slice_get, option_map}
+use Rattle.std.specs.List.{flat_map, list_all, list_any}
+use Rattle.std.specs.Option.{option_and_then, option_or}
 use Rattle.std.specs.Result.{result_map_both}
 use Rattle.ptlangs.specs.Numbers.{and_then}
 use Rattle.ptlangs.specs.TrClasses.{all_bytes, are_opposite_cases, class_bytes, span}
@@ -48,25 +48,16 @@ complement_of bytes = filter (λ b. not (has_byte b bytes)) all_bytes
 abbrev pub first_array : Bool → List Segment → List ℕ
 first_array complement ps = if complement then complement_of (array 0 ps) else array 0 ps
 
--- the number of bytes that a fill has, so that the array has `n` bytes
-abbrev pub fill_count : ℕ → List Segment → ℕ
-fill_count n ps = n - length (array 0 ps)
-
 -- the classes of a string, each with its offset in the array
 abbrev pub class_offsets : ℕ → ℕ → List Segment → List (ℕ × CharClass)
 class_offsets n at [] = []
 class_offsets n at (Class class ∷ ps) = (at, class) ∷ class_offsets n (at + length (class_bytes class)) ps
-class_offsets n at (Range a b ∷ ps) = class_offsets n (at + length (span a b)) ps
-class_offsets n at (Repeat b count ∷ ps) = class_offsets n (at + count) ps
-class_offsets n at (Fill b ∷ ps) = class_offsets n (at + n) ps
-
--- the other case of this class has this offset in the first string
-abbrev pub has_other_case_at : List (ℕ × CharClass) → ℕ → CharClass → Bool
-has_other_case_at firsts at class = list_any (λ (f : ℕ × CharClass). (f.0 == at) && are_opposite_cases f.1 class) firsts
+class_offsets n at (x ∷ ps) = class_offsets n (at + length (members n x)) ps
 
 -- each class of the second string has its other case at the same offset of the first string
 abbrev pub are_paired : List (ℕ × CharClass) → List (ℕ × CharClass) → Bool
-are_paired firsts seconds = list_all (λ (s : ℕ × CharClass). has_other_case_at firsts s.0 s.1) seconds
+are_paired firsts seconds = list_all (λ (s : ℕ × CharClass).
+    list_any (λ (f : ℕ × CharClass). (f.0 == s.0) && are_opposite_cases f.1 s.1) firsts) seconds
 
 -- ---- the plan
 
@@ -86,36 +77,16 @@ plan_of Squeeze first second = record { deleted = []; from = []; to = []; squeez
 plan_of Delete first second = record { deleted = first; from = []; to = []; squeezed = [] }
 plan_of DeleteSqueeze first second = record { deleted = first; from = []; to = []; squeezed = second }
 
--- the array with exactly `n` bytes: its last byte is repeated, or the bytes after the first `n` are dropped
-abbrev pub padded_to : ℕ → List ℕ → List ℕ
-padded_to n bytes = take n (bytes ++ flat_map (λ b. replicate n b) (option_to_list (last_or None bytes)))
-
--- the index in a list, from the index in its tail, or 0 if only the head is found
-abbrev pub next_index_or : Option ℕ → Bool → Option ℕ
-next_index_or (Some i) here = Some (i + 1)
-next_index_or None here = if here then Some 0 else None
-
--- the last index of a byte in an array; `None` if the array does not contain it
+-- the last position of a byte in an array; `None` if the array does not contain it
 abbrev pub last_position : ℕ → List ℕ → Option ℕ
 last_position c [] = None
-last_position c (b ∷ bytes) = next_index_or (last_position c bytes) (b == c)
+last_position c (b ∷ bytes) =
+    option_or (option_map (λ i. i + 1) (last_position c bytes)) (if b == c then Some 0 else None)
 
--- the image of byte `b`: the byte of `to`, padded to the length of `from`, at the last position of `b` in `from`; a
+-- the image of byte `b`: the byte of `to` at the last position of `b` in `from`, or the last one if `to` is shorter; a
 -- byte that `from` does not contain is its own image
 abbrev pub image_by : List ℕ → List ℕ → ℕ → ℕ
-image_by from to b = unwrap_or (option_and_then (slice_get (padded_to (length from) to)) (last_position b from)) b
-
--- the byte is deleted
-abbrev pub is_deleted : Plan → ℕ → Bool
-is_deleted plan b = has_byte b plan.deleted
-
--- the image of the byte
-abbrev pub image_of : Plan → ℕ → ℕ
-image_of plan b = image_by plan.from plan.to b
-
--- repeats of the byte are squeezed to one
-abbrev pub is_squeezed : Plan → ℕ → Bool
-is_squeezed plan b = has_byte b plan.squeezed
+image_by from to b = unwrap_or (option_and_then (λ i. slice_get to (min i (length to - 1))) (last_position b from)) b
 
 -- what happens to each byte: is it deleted, its image, and are repeats of it squeezed to one
 pub record ByteMap : Type 0 where
@@ -130,9 +101,9 @@ of_bytes other f b = if nat_lt b 256 then f b else other
 -- the plan, byte by byte
 abbrev pub byte_map : Plan → ByteMap
 byte_map plan = record {
-  deletes = of_bytes false (is_deleted plan);
-  image = of_bytes 0 (image_of plan);
-  squeezes = of_bytes false (is_squeezed plan);
+  deletes = of_bytes false (λ b. has_byte b plan.deleted);
+  image = of_bytes 0 (image_by plan.from plan.to);
+  squeezes = of_bytes false (λ b. has_byte b plan.squeezed);
 }
 
 -- the fault, with the string in which it is
@@ -148,21 +119,17 @@ second_role _ = Images
 -- class needs its other case at the same offset of the first string; a complement has no classes.
 abbrev pub has_valid_classes : Form → Bool → List (ℕ × CharClass) → List (ℕ × CharClass) → Bool
 has_valid_classes DeleteSqueeze complement firsts seconds = true
-has_valid_classes form true firsts seconds = are_paired [] seconds
-has_valid_classes form false firsts seconds = are_paired firsts seconds
+has_valid_classes form complement firsts seconds = are_paired (if complement then [] else firsts) seconds
 
--- the plan of two strings, from the segments of both and the array of the first
-abbrev pub plan_with : Form → Bool → List Segment → List ℕ → List Segment → Result Plan SetFaultKind
-plan_with form complement firsts first seconds =
-    let n = fill_count (length first) seconds in
-    if has_valid_classes form complement (class_offsets 0 0 firsts) (class_offsets n 0 seconds) then Ok
-    (plan_of form first (array n seconds)) else Err ClassPlace
-
--- the plan of two strings, from the segments of the first and the text of the second
+-- the plan of two strings, from the segments of the first and the text of the second; a fill has as many bytes as make
+-- the second array as long as the first
 abbrev pub second_plan : Form → Bool → List Segment → List ℕ → Result Plan SetFaultKind
 second_plan form complement firsts text =
-    and_then (read_string (second_role form) text)
-    (λ seconds. plan_with form complement firsts (first_array complement firsts) seconds)
+    and_then (read_string (second_role form) text) (λ seconds.
+    let first = first_array complement firsts in
+    let n = length first - length (array 0 seconds) in
+    if has_valid_classes form complement (class_offsets 0 0 firsts) (class_offsets n 0 seconds)
+    then Ok (plan_of form first (array n seconds)) else Err ClassPlace)
 
 -- the plan of one string or two, from the segments of the first
 abbrev pub plan_from : Form → Bool → List Segment → Option (List ℕ) → Result Plan SetFault

@@ -3,7 +3,8 @@
 ghost use Rattle.std.specs.Prelude.{◌≡◌, ◌<◌, ◌≤◌, All, None, Some, if◌then◌else◌, nat_le};
 ghost use Rattle.std.specs.Char.{digit_value};
 ghost use Rattle.std.specs.Str.Parse.{digits_value};
-ghost use Rattle.ptlangs.specs.Numbers.{is_number, number, is_list_separator};
+ghost use Rattle.ptlangs.specs.Numbers.{is_number, number};
+ghost use Rattle.ptlangs.specs.Laws.Numbers.{is_list_separator};
 
 /// Whether the text is a decimal number: one digit or more, and nothing else. Leading zeros are allowed.
 pub fn is_decimal(text: &[u8]) -> bool

@@ -4,11 +4,10 @@ ghost use Rattle.std.specs.Prelude.{◌≡◌, ◌≤◌, ◌<◌, ◌∷◌, []
 ghost use Rattle.ptlangs.specs.Calls.Results.{ValidatedParsePost};
 ghost use Rattle.ptlangs.specs.Laws.CutLists.{CutListMatchesGrammar};
 ghost use Rattle.ptlangs.specs.Calls.CutLists.{cut_list_fault};
-ghost use Rattle.ptlangs.specs.CutLists.{is_bound, value_or, interval_of_bounds};
-ghost use Rattle.ptlangs.specs.CutLists.{checked_interval, is_selected, selection};
+ghost use Rattle.ptlangs.specs.CutLists.{is_selected, selection};
 ghost use Rattle.ptlangs.specs.Calls.CutLists.{AreSeparated};
-ghost use Rattle.ptlangs.specs.Private.CutLists.{AreSortedFrom};
-ghost use Rattle.ptlangs.specs.CutLists.{interval_of_parts};
+ghost use Rattle.ptlangs.specs.Private.CutLists.{AreSortedFrom, bounds_of_parts, checked_interval};
+ghost use Rattle.ptlangs.specs.Private.CutLists.{interval_of_bounds, is_bound, value_or};
 ghost use Rattle.ptlangs.specs.Numbers.{max_u64};
 
 use crate::lists::{Element, first_fault, read_elements};
@@ -151,7 +150,7 @@ pub fn accepts_the_grammar()
 
 /// The interval of one number.
 fn read_single(text: &[u8]) -> Result<Interval, ListFault>
-    ensures { result ≡ checked_interval (interval_of_parts (text.now ∷ [])) }
+    ensures { result ≡ checked_interval (bounds_of_parts (text.now ∷ [])) }
 {
     match decimal(text) {
         Some(number) => Interval::checked(number, number),

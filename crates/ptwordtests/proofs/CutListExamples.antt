@@ -1,6 +1,6 @@
 -- Examples of lists of `cut`: the intervals of each, or its fault. They hold by computation.
 use Rattle.std.proofs.Common.{◌≡◌, ℕ, List, [], ◌∷◌, refl, codes, map, Result, Ok, Err}
-use Rattle.ptlangs.specs.CutLists.{cut_list}
+use Rattle.ptlangs.specs.Laws.CutLists.{cut_list}
 use Rattle.ptlangs.specs.declared.ranges.Interval.{Interval}
 use Rattle.ptlangs.specs.declared.ranges.ListFault.{ListFault}
 use Rattle.ptlangs.specs.declared.ranges.ListFault.TheVariants.{Empty, Zero, Descending, TooLarge, Malformed}

@@ -8,7 +8,8 @@ use Rattle.ptlangs.specs.declared.tr.plan.Form.{Form}
 use Rattle.ptlangs.specs.declared.tr.plan.Form.TheVariants.{Translate, TranslateSqueeze, Squeeze, Delete}
 use Rattle.ptlangs.specs.declared.tr.plan.Form.TheVariants.{DeleteSqueeze}
 use Rattle.ptlangs.specs.TrClasses.{all_bytes}
-use Rattle.ptlangs.specs.TrPlan.{Plan, plan, is_deleted, image_of, is_squeezed}
+use Rattle.ptlangs.specs.Calls.TrTables.{is_deleted, image_of, is_squeezed}
+use Rattle.ptlangs.specs.TrPlan.{Plan, plan}
 
 -- the second byte of a pair is kept, unless it equals the first and is squeezed
 abbrev is_kept : (ℕ → Bool) → ℕ × ℕ → Bool

@@ -15,8 +15,8 @@ use specs.TrOutput.{tr, translation}
 use proofs.TrLemmas.TrFrom.{from_all, filter_all}
 use Rattle.ptlangs.proofs.TrArrays.{table_at, tables_have_map, has_byte-complement}
 use Rattle.ptlangs.specs.TrTables.{Tables, byte_map_of, deletes, image, squeezes}
-use Rattle.ptlangs.specs.Calls.TrTables.{tables}
-use Rattle.ptlangs.specs.TrPlan.{Plan, plan_of, is_deleted, image_of, has_byte, complement_of}
+use Rattle.ptlangs.specs.Calls.TrTables.{image_of, is_deleted, tables}
+use Rattle.ptlangs.specs.TrPlan.{Plan, plan_of, has_byte, complement_of}
 use Rattle.ptlangs.specs.declared.tr.plan.Form.TheVariants.{Translate, Delete}
 
 -- No byte is squeezed, so the output is the translation.

@@ -1,8 +1,20 @@
--- The tables of a plan of `tr`.
-use Rattle.std.specs.Prelude.{map}
+-- What a plan of `tr` does with a byte, and its tables.
+use Rattle.std.specs.Prelude.{ℕ, Bool, map}
 use Rattle.ptlangs.specs.TrClasses.{all_bytes}
-use Rattle.ptlangs.specs.TrPlan.{Plan, image_of, is_deleted, is_squeezed}
+use Rattle.ptlangs.specs.TrPlan.{Plan, has_byte, image_by}
 use Rattle.ptlangs.specs.TrTables.{Tables}
+
+-- the byte is deleted
+abbrev pub is_deleted : Plan → ℕ → Bool
+is_deleted plan b = has_byte b plan.deleted
+
+-- the image of the byte
+abbrev pub image_of : Plan → ℕ → ℕ
+image_of plan b = image_by plan.from plan.to b
+
+-- repeats of the byte are squeezed to one
+abbrev pub is_squeezed : Plan → ℕ → Bool
+is_squeezed plan b = has_byte b plan.squeezed
 
 -- the tables of a plan
 abbrev pub tables : Plan → Tables

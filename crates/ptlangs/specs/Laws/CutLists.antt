@@ -1,11 +1,12 @@
 -- The grammar of the list of `cut`, and the law that `cut_list` agrees with it.
 use Rattle.std.specs.Prelude.{ℕ, ◌≤◌, ◌≡◌, ◌↔◌, List, [], ◌∷◌, ◌++◌, true}
-use Rattle.std.specs.Prelude.{Ok}
+use Rattle.std.specs.Prelude.{Ok, Result}
 use Rattle.std.specs.Str.{byte}
-use Rattle.ptlangs.specs.CutLists.{cut_list}
+use Rattle.ptlangs.specs.CutLists.{element_interval}
 use Rattle.ptlangs.specs.Laws.Numbers.{IsListOf}
-use Rattle.ptlangs.specs.Numbers.{is_number, max_u64, value}
+use Rattle.ptlangs.specs.Numbers.{elements, is_number, max_u64, traverse, value}
 use Rattle.ptlangs.specs.declared.ranges.Interval.{Interval}
+use Rattle.ptlangs.specs.declared.ranges.ListFault.{ListFault}
 
 -- the bounds of an interval are positive, ascending, and fit into 64 bits
 pub record IsValidInterval (r : Interval) : Type 0 where
@@ -29,6 +30,10 @@ IsIntervalElement e r = SpellsInterval e r × IsValidInterval r
 -- the grammar of a list: its text, and the intervals of its elements
 abbrev pub IsCutList : List ℕ → List Interval → Type 0
 IsCutList = IsListOf IsIntervalElement
+
+-- the intervals of a list, in the order of its elements, or the fault of the first faulty element
+abbrev pub cut_list : List ℕ → Result (List Interval) ListFault
+cut_list bs = traverse element_interval (elements bs)
 
 -- `cut_list` accepts the lists of the grammar and no others, and gives the intervals that the grammar gives
 abbrev pub CutListMatchesGrammar : Type 0

@@ -1,7 +1,12 @@
 -- The grammar of the list of delimiters of `paste`, and the law that `delim_list` agrees with it.
 use Rattle.std.specs.Prelude.{ℕ, ◌==◌, ◌≡◌, ◌↔◌, List, [], ◌∷◌, ◌++◌, false, Option, Some, None}
 use Rattle.std.specs.Prelude.{Ok, codes}
-use Rattle.ptlangs.specs.DelimLists.{backslash, delim_list}
+use Rattle.std.specs.Str.{byte}
+use Rattle.ptlangs.specs.DelimLists.{delim_list}
+
+-- the byte of a backslash
+abbrev pub backslash : ℕ
+backslash = byte "\\"
 
 -- The grammar of one element: its text, and the delimiter that it denotes.
 pub data IsDelim : List ℕ → Option ℕ → Type 0 where

@@ -1,6 +1,10 @@
 -- The grammar of lists of elements between separators.
-use Rattle.std.specs.Prelude.{ℕ, List, [], ◌∷◌, ◌++◌, ◌≡◌, true}
-use Rattle.ptlangs.specs.Numbers.{is_list_separator}
+use Rattle.std.specs.Prelude.{ℕ, List, [], ◌∷◌, ◌++◌, ◌≡◌, ◌==◌, ◌||◌, Bool, true}
+use Rattle.std.specs.Str.{byte}
+
+-- a byte that separates elements: a comma, a space or a tab
+abbrev pub is_list_separator : ℕ → Bool
+is_list_separator b = (b == byte ",") || (b == byte " ") || (b == 9)
 
 -- The grammar of a list: elements with a single separator between each two. `Spells` relates the text of an element to
 -- its value.

@@ -1,13 +1,13 @@
 -- A string of `tr` read in three steps: its characters, the elements of these, and the segments of the elements. The
 -- grammars in TrChars and TrElements are about these steps.
 use Rattle.std.specs.Prelude.{ℕ, zero, suc, ◌-◌, ◌==◌, ◌||◌, List, [], ◌∷◌, Bool, true, false, Option, Some, None}
-use Rattle.std.specs.Prelude.{Result, Ok, Err, if◌then◌else◌, nat_le, nat_lt, length, drop, option_map}
+use Rattle.std.specs.Prelude.{Result, Ok, Err, if◌then◌else◌, nat_le, nat_lt, length, drop, option_map, take, take_while}
 use Rattle.std.specs.Option.{option_and_then, option_or}
 use Rattle.std.specs.Char.{is_ascii_digit, is_ascii_lowercase}
 use Rattle.std.specs.Str.Parse.{digits_value}
 use Rattle.std.specs.Str.{byte}
 use Rattle.ptlangs.specs.Numbers.{traverse}
-use Rattle.ptlangs.specs.TrChars.{byte_of_escape, is_octal_digit, octal_run}
+use Rattle.ptlangs.specs.TrChars.{byte_of_escape, is_octal_digit}
 use Rattle.ptlangs.specs.TrClasses.{class_named}
 use Rattle.ptlangs.specs.TrElements.{repeat_count}
 use Rattle.ptlangs.specs.declared.faults.SetFaultKind.{SetFaultKind}
@@ -34,6 +34,10 @@ abbrev pub byte_of : SetChar → Result ℕ SetFaultKind
 byte_of (Plain b) = Ok b
 byte_of (Escaped b) = Ok b
 byte_of (Invalid k) = Err k
+
+-- the octal digits after a backslash: at most three
+abbrev pub octal_run : List ℕ → List ℕ
+octal_run bs = take_while is_octal_digit (take 3 bs)
 
 -- the character of an octal escape; a value above 255 is a fault
 abbrev pub octal : ℕ → SetChar

@@ -1,8 +1,8 @@
 -- The law that the tables of a plan of `tr` do with each byte what the plan says.
 use Rattle.std.specs.Prelude.{◌≡◌, ◌<◌, ◌^◌, ℕ}
-use Rattle.ptlangs.specs.TrPlan.{Plan, byte_map, image_of, is_deleted, is_squeezed}
+use Rattle.ptlangs.specs.TrPlan.{Plan, byte_map}
 use Rattle.ptlangs.specs.TrTables.{byte_map_of, deletes, image, squeezes}
-use Rattle.ptlangs.specs.Calls.TrTables.{tables}
+use Rattle.ptlangs.specs.Calls.TrTables.{image_of, is_deleted, is_squeezed, tables}
 
 -- for every byte the tables of a plan agree with the plan
 abbrev pub TablesMatchPlan : Type 0

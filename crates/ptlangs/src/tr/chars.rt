@@ -5,7 +5,7 @@ ghost use Rattle.std.specs.Char.{digit_value};
 ghost use Rattle.std.specs.Str.Parse.{digits_value};
 ghost use Rattle.ptlangs.specs.TrChars.{byte_of_escape, is_octal_digit};
 ghost use Rattle.ptlangs.specs.Laws.TrReading.{byte_of, chars, after_backslash, octal};
-ghost use Rattle.ptlangs.specs.TrChars.{octal_run};
+ghost use Rattle.ptlangs.specs.Laws.TrReading.{octal_run};
 ghost use Rattle.ptlangs.specs.Private.TrParsing.{first_byte};
 
 use crate::faults::SetFaultKind;
