@@ -4,7 +4,7 @@
 use Rattle.ptopts.proofs
 use Rattle.ptopts.specs
 use proofs.Common.{Bool, Comm, Command, Cut, Err, Fault, Job, Join, List, None, Ok, Operands, Option, ParsedOption}
-use proofs.Common.{Paste, Result, RunJoin, RunPaste, Some, StandardTwice, Tool, Tr, Uniq, Valid, [], ap, arith, codes}
+use proofs.Common.{Paste, Result, RunPaste, Some, StandardTwice, Tool, Tr, Uniq, Valid, [], ap, arith, codes}
 use proofs.Common.{constraint_fault, constraints_fault, each_value_fault, false, find, first_some, has_option}
 use proofs.Common.{input_operands, is_file_number, is_some, is_standard, is_within, length, list_all, map, not}
 use proofs.Common.{ok_unless, operands_fault, option_and_then, option_map, parse_fault, refl, result_err}
@@ -18,7 +18,7 @@ use specs.Faults.{InString, NeedsList, Together, Value, count, cut_list, faults,
 use specs.Faults.{terminator_of, tr_plan, two_inputs}
 use specs.Laws.Theorems.{AreGivenOnce}
 use specs.Private.Faults.{cut_list_value, form, is_count, is_cut_list, is_delimiter_list, is_delimiter_value}
-use specs.Private.Faults.{is_field_number, is_output_list, plan_of_operands, strings_fault, value_fault}
+use specs.Private.Faults.{is_field_number, is_output_list, strings_fault, value_fault}
 use specs.Private.Jobs.{cut_from_options, delimiters_of, identity_plan, job, paste_from_options, values_fault}
 use specs.Private.Syntax.{constraints}
 use specs.Syntax.{letters}

@@ -16,7 +16,6 @@ use Rattle.ptlangs.specs.TrPlan.{ByteMap, byte_map}
 use Rattle.ptlangs.specs.TrTables.{byte_map_of}
 use Rattle.ptlangs.specs.declared.jobs.Show.{Show}
 use Rattle.ptlangs.specs.declared.jobs.Show.TheVariants.{All, Counts, Repeated, Single}
-use Rattle.ptlangs.specs.declared.outlist.OutField.{OutField}
 use Rattle.ptopts.specs.Args.{ParsedOption, has, is_flag, is_option_arg, takes_value, tool_of_name, value_of}
 use Rattle.ptopts.specs.Args.{values_of, with_value}
 use Rattle.ptopts.specs.Faults.{Fault, NeedsValue, NoTool, Twice, Unknown, cut_list, faults, is_repeated, is_standard}
