@@ -110,7 +110,7 @@ def join_lines(clause):
         return clause.split("\n")
     if len(one) <= WIDTH:
         return [one]
-    if not re.match(r"[^=]*= record \{", one):
+    if not re.match(r"[^=]*= (\w+ \()?record \{", one):
         return clause.split("\n")
     lines = [""]
     for field in one.split("; "):

@@ -57,10 +57,10 @@ turn** (`cut`, `tr`, `paste -s`), or **together** (the others). A file that coul
 *false*; `⊤` *true*. `λ x. e` is the function of x that gives e; `let x = a in e` is e with a for x; `f x y` is f of x
 and y. `{X : Type 0} →` stands for a parameter that is not written. A list of type `List A` is `[]` or `x ∷ xs`, an item
 before a list; an `Option A` is `None` or `Some x`; a `Result A B` is `Ok x` or `Err y`; a `Bool` is `true` or `false`.
-A byte is a number (`ℕ`), and so is a letter. `A × B` has the parts `p.0` and `p.1`. A record has fields, `r.field`;
-`record r { f = x; }` is r but for f. A record without values, as `IsRun`, holds if each of its fields does. A
-definition by several lines is that of the first line that fits. A line such as `Side = Side.First | Side.Second` is a
-type of the code, by its variants or its fields.
+A byte is a number (`ℕ`), and so is a letter. `A × B × C` has the parts `p.0`, `p.1` and `p.2`. A record has fields,
+`r.field`; `record r { f = x; }` is r but for f. A record without values, as `IsRun`, holds if each of its fields does.
+A definition by several lines is that of the first line that fits. A line such as `Side = Side.First | Side.Second` is
+a type of the code, by its variants or its fields.
 
 From the toolchain's library:
 

@@ -18,14 +18,16 @@ NAMES = {
     "ptmerge.MergeSpec": "distinct_keys",
     "ptmerge.Comm": "comm_entries",
     "ptmerge.Join": "join_entries join_fields join_key1",
-    "ptopts.Commands": "RunUniq",
-    "ptopts.Faults": "Unknown",
+    "ptopts.Args": "ParsedOption tool_of_name with_value",
+    "ptopts.Commands": "RunUniq command_of_args file_names input_operands order_from read_words",
+    "ptopts.Faults": "Fault NeedsValue Together Unknown Value faults",
     "ptrun.Decided": "at_end output whole",
     "ptrun.Merges": "comm comm_disorder join",
     "ptrun.Messages": "disorder_message fault_message unopened_message usage_message",
 }
 VARIANTS = {"ptlangs.declared.jobs.Show": "Counts", "ptmerge.declared.key_order.Side": "First",
-            "ptflow.declared.faults.FlowFault": "Read"}
+            "ptflow.declared.faults.FlowFault": "Read", "ptopts.declared.inputs.Input": "File, Standard",
+            "ptopts.declared.tool.Tool": "Cut as CutTool"}
 STEP_ROOTS = [f"{module}.{name}" for module, names in NAMES.items() for name in names.split()]
 
 MERGED = 'whole "a\\na\\nb\\n"', 'whole "a\\nc\\n"'
@@ -87,6 +89,18 @@ STEPS = {
         ('tr plan "aab"', '"xb"'),
         ('tr plan "bb"', '"bb"'),
     ]),
+    "Words": ("`cut -d : -f 2,1 -- FILE`, and words with faults", "given", "List ParsedOption",
+        '[with_value 100 ":", with_value 102 "2,1"]', [
+        ('tool_of_name "cut"', "Some Cut"),
+        ('read_words Cut [] None ["-d", ":", "-f", "2,1", "--", "FILE"]', 'Ok (given, ["FILE"])'),
+        ('read_words Cut [] None ["-f2,1", "-d"]', "Err (NeedsValue 100)"),
+        ('read_words Cut [] None ["-sx", "-f"]', 'Err (Unknown "-sx")'),
+        ('faults Cut given ["FILE"]', "[]"),
+        ('faults Cut [with_value 98 "1", with_value 102 "0"] []', '[Together 98 102, Value 102 "0"]'),
+        ('command_of_args ["cut", "-b1", "-f", "0"]', "Err (Together 98 102)"),
+        ('order_from 0 (input_operands Cut ["FILE", "-"])', "[File 0, Standard]"),
+        ('file_names ["FILE", "-"]', '["FILE"]'),
+    ]),
     "Messages": (None, None, None, None, [
         ('usage_message "cut" (Some (Unknown "-x"))', '"cut: unknown option in -x\\n"'),
         ('unopened_message "cut" "f"', '"cut: f: cannot be opened\\n"'),
@@ -99,6 +113,7 @@ STEPS = {
 def make_term(text):
     """The term that a text stands for."""
     text = re.sub(r"\((\w+), (\w+)\)", r"(\1,\2)", text).replace("[]", "NIL")
+    text = re.sub(r"\bCut\b", "CutTool", text)  # the tool; `Cut` is the type of its job there
     while re.search(r"\[[^\[\]]+\]", text):
         text = re.sub(r"\[([^\[\]]+)\]", lambda found: "(" + found[1].replace(", ", " ∷ ") + " ∷ NIL)", text)
     return re.sub(r'("(?:\\.|[^"\\])*")', r"(codes \1)", text.replace("NIL", "[]"))

@@ -1,18 +1,19 @@
 -- Words are read as the grammar spells them (`read_as_spelled`), and specify a command exactly if it gives them options
--- and operands that the tool allows: each fault is a condition that is not met.
+-- and operands without a fault.
 use Rattle.ptopts.proofs
 use proofs.Common.{Command, Err, Fault, IsTrue, List, None, Ok, Option, ParsedOption, ReadingMatchesGrammar, Result}
 use proofs.Common.{Some}
-use proofs.Common.{Spells, Tool, Valid, [], ap, append-nil, append_assoc, arith, command_of_args, command_of_tool}
-use proofs.Common.{false}
-use proofs.Common.{first_some, is_repeated, is_some, map, ok_unless, options, parse_fault, parsed_args, refl, subst}
+use proofs.Common.{Spells, Tool, Valid, [], ap, append-nil, append_assoc, arith, command_of_args, false}
+use proofs.Common.{is_repeated, is_some, map, ok_unless, options, parse_fault, parsed_args, refl, subst}
 use proofs.Common.{sym}
 use proofs.Common.{tool_of_name, ℕ, ◌++◌, ◌∙◌, ◌∷◌, ◌≡◌}
 use proofs.ParsedIsSpelled.{options-map, spelled_if_fine}
 use proofs.ReadWords.{read_is_told}
 use proofs.SpelledIsParsed.{spelled}
 use Rattle.ptlangs.specs.Numbers.{and_then}
-use Rattle.ptopts.specs.Commands.{checked_command, read_words}
+use Rattle.ptopts.specs.Faults.{NoTool}
+use Rattle.std.specs.Prelude.{ok_or}
+use Rattle.ptopts.specs.Commands.{checked_command, read_words, unless_faulty}
 use Rattle.ptopts.specs.Laws.Theorems.{AreGivenOnce, CommandsMatchGrammar, Spelled, SpellsCommand}
 
 -- like `AreGivenOnce`, for options after others
@@ -20,7 +21,7 @@ abbrev AreGivenOnceAfter : Tool → List ParsedOption → List ParsedOption → 
 AreGivenOnceAfter tool first os = (before after : List ParsedOption) (o : ParsedOption)
     → os ≡ before ++ o ∷ after → IsTrue (is_some o.value) → is_repeated tool (first ++ before) o.letter ≡ false
 
-step_once : (tool : Tool) (first os : List ParsedOption) (x : ParsedOption)
+pub step_once : (tool : Tool) (first os : List ParsedOption) (x : ParsedOption)
     → parse_fault tool first (map Valid (x ∷ os)) ≡ None
     → (IsTrue (is_some x.value) → is_repeated tool first x.letter ≡ false)
     × (parse_fault tool (first ++ x ∷ []) (map Valid os) ≡ None)
@@ -34,7 +35,7 @@ once_in tool first (x ∷ before) after o none =
     rw append_assoc at (once_in tool (first ++ x ∷ []) before after o
     (step_once tool first (before ++ o ∷ after) x none).1)
 
-once_to : (tool : Tool) (first os : List ParsedOption) → AreGivenOnceAfter tool first os
+pub once_to : (tool : Tool) (first os : List ParsedOption) → AreGivenOnceAfter tool first os
     → parse_fault tool first (map Valid os) ≡ None
 once_to _ _ [] once = refl
 once_to tool first (x ∷ os) once =
@@ -50,7 +51,7 @@ read_from : (tool : Tool) (words : List (List ℕ)) (os : List ParsedOption) (op
 read_from tool words os operands (s, once) =
     grind (arith, read_is_told, spelled, options-map, once_to tool [] os once)
 
-read_to : (tool : Tool) (words : List (List ℕ)) (os : List ParsedOption) (operands : List (List ℕ))
+pub read_to : (tool : Tool) (words : List (List ℕ)) (os : List ParsedOption) (operands : List (List ℕ))
     → read_words tool [] None words ≡ Ok (os, operands) → Spells tool words os operands × AreGivenOnce tool os
 read_to tool words os operands is =
     let r = parsed_args tool words in
@@ -64,23 +65,15 @@ read_to tool words os operands is =
 pub read_as_spelled : ReadingMatchesGrammar
 read_as_spelled tool words os operands = (read_from tool words os operands, read_to tool words os operands)
 
-none_of : {A : Type 0} (a b c d : Option A) → first_some (a ∷ b ∷ c ∷ d ∷ []) ≡ None
-    → (a ≡ None) × (b ≡ None) × (c ≡ None) × (d ≡ None)
-none_of = grind arith
+faultless_ok : {A : Type 0} (fs : List Fault) (x y : A) → unless_faulty fs x ≡ Ok y → (fs ≡ []) × (x ≡ y)
+faultless_ok = grind arith
 
 checked_ok : (name : List ℕ) (words : List (List ℕ)) (tool : Tool) (os : List ParsedOption) (operands : List (List ℕ))
     (c : Command) → tool_of_name name ≡ Some tool → Spells tool words os operands × AreGivenOnce tool os
     → checked_command tool (os, operands) ≡ Ok c → SpellsCommand (name ∷ words) c
 checked_ok name words tool os operands c named (s, once) is =
-    let (none, same) = unless_ok _ _ c is in
-    let (together, values, inputs, strings) = none_of _ _ _ _ none in
-    rw (sym same) (Spelled name words tool os operands named s (record {
-      once = once;
-      together = together;
-      values = values;
-      inputs = inputs;
-      strings = strings;
-    }))
+    let (none, same) = faultless_ok _ _ c is in
+    rw (sym same) (Spelled name words tool os operands named s (record { once = once; faultless = none }))
 
 spelled_if_meant : (name : List ℕ) (words : List (List ℕ)) (tool : Tool) (c : Command)
     (r : Result (List ParsedOption × List (List ℕ)) Fault) → tool_of_name name ≡ Some tool
@@ -93,7 +86,8 @@ meant_from : (words : List (List ℕ)) (c : Command) → SpellsCommand words c �
 meant_from _ c (Spelled name rest tool os operands named s a) = grind (arith, read_from)
 
 from_name : (name : List ℕ) (words : List (List ℕ)) (c : Command) (found : Option Tool) → tool_of_name name ≡ found
-    → command_of_tool found words ≡ Ok c → SpellsCommand (name ∷ words) c
+    → and_then (ok_or found NoTool) (λ (tool : Tool). and_then (read_words tool [] None words) (checked_command tool))
+    ≡ Ok c → SpellsCommand (name ∷ words) c
 from_name name words c None named is = cc
 from_name name words c (Some tool) named is = spelled_if_meant name words tool c _ named refl is
 

@@ -3,21 +3,25 @@ use Rattle.ptopts.specs
 use Rattle.std.proofs.lemmas
 pub use Rattle.ptlangs.proofs.Common.{usual}
 pub use Rattle.ptlangs.proofs.TrArrays.{on_fault}
-pub use specs.Laws.Args.{AreFlags, EndOfOptions, Flags, OperandsAlone, Spells}
+pub use specs.Laws.Args.{AreFlags, EndOfOptions, Flags, OperandsAlone, Spells, flag}
 pub use specs.Args.{ParsedOption}
 pub use specs.Private.Tokens.{MissingValue, Token, Valid}
 pub use specs.Laws.Args.{ValueAttached, ValueNext}
-pub use specs.Args.{flag, has_option, is_end_of_options, is_flag, is_option_arg}
+pub use specs.Args.{has_option, is_flag, is_option_arg}
+pub use specs.Private.Tokens.{is_end_of_options}
 pub use specs.Args.{takes_value, tool_of_name, value_of}
 pub use specs.Private.Tokens.{option_of_token, options, parse_fault, parsed_args, parsed_args_from, takes_next}
 pub use specs.Private.Tokens.{token_fault, tokens_in, tokens_of, value_token}
-pub use specs.Commands.{Command, Job, RunComm, RunJoin, RunPaste, RunUniq, command_of_args, command_of_tool}
-pub use specs.Commands.{file_names, input_operands, job, names_file, ok_unless, or_stdin, order_from, selected_set}
-pub use specs.Faults.{Fault, Operands, StandardTwice, constraint_fault, constraints_fault, each_value_fault}
-pub use specs.Faults.{first_some, is_file_number, is_repeated, is_standard, is_within, operands_fault}
+pub use specs.Commands.{Command, Job, RunComm, RunJoin, RunPaste, RunUniq, command_of_args}
+pub use specs.Commands.{file_names, input_operands, or_stdin, order_from}
+pub use specs.Private.Jobs.{job, names_file, ok_unless, selected_set}
+pub use specs.Faults.{Fault, Operands, StandardTwice}
+pub use specs.Private.Faults.{constraint_fault, constraints_fault, each_value_fault}
+pub use specs.Private.Faults.{first_some, is_file_number, is_within, operands_fault}
+pub use specs.Faults.{is_repeated, is_standard}
 pub use specs.Private.ParseSteps.{AreInputs, ArgsFaultPost, ArgsPost, CheckPost, GroupPost}
 pub use specs.Private.ParseSteps.{option_view, options_of, options_of_tokens, options_view}
-pub use specs.Syntax.{syntax}
+pub use specs.Private.Syntax.{syntax}
 pub use specs.Laws.Theorems.{ReadingMatchesGrammar}
 pub use specs.View.{CommandPost, fault_view}
 pub use specs.Commands.{with_inputs, words_view}

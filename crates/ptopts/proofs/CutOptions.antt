@@ -4,7 +4,7 @@ use Rattle.ptopts.proofs
 use Rattle.ptopts.specs
 use proofs.Common.{Bool, Cut, Fault, IsSome, List, None, ParsedOption, Some, [], arith, constraint_fault}
 use proofs.Common.{constraints_fault, false, has_option, refl, true, value_of, ℕ, ◌&&◌, ◌∷◌, ◌≡◌}
-use specs.Faults.{is_cut_list, value_fault}
+use specs.Private.Faults.{is_cut_list, value_fault}
 use specs.declared.tool.Constraint.TheVariants.{Conflict}
 use Rattle.std.specs.Prelude.{All, if◌then◌else◌}
 

@@ -9,5 +9,6 @@ pub mod ParsedIsSpelled
 pub mod ArgsInvariant
 pub mod OptionViews
 pub mod ReadWords
+pub mod SameFaults
 pub mod InputCounts
 pub mod SpelledIsParsed

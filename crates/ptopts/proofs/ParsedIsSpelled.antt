@@ -9,7 +9,7 @@ use proofs.Common.{ap, append_assoc, arith, codes, false, filter_map, flag}
 use proofs.Common.{is_end_of_options, is_flag, is_option_arg, is_some, list_all, map, option_of_token}
 use proofs.Common.{options, parse_fault, parsed_args_from, refl, rules, slice_get, subst, sym, takes_next, takes_value}
 use proofs.Common.{tokens_in, true, value_token, ℕ, ⊎_elim, ◌&&◌, ◌++◌, ◌∷◌, ◌≡◌, usual}
-use proofs.SpelledIsParsed.{spelled, takes_next-all_flags, takes_next-flags, tokens_in-all_flags, tokens_in-flags}
+use proofs.SpelledIsParsed.{takes_next-all_flags, takes_next-flags, tokens_in-all_flags, tokens_in-flags}
 use lemmas.Slice.Eq.{bytes_eq-Decides}
 use lemmas.Bool.{and_from, cases_Bool, not_from_false}
 use Rattle.ptlangs.specs.Numbers.{is_empty}

@@ -7,7 +7,8 @@ use proofs.Common.{Token, Tool, Valid, ValueAttached, ValueNext, [], ap, append-
 use proofs.Common.{list_all, map, parsed_args_from, refl, slice_get, sym, takes_next, takes_value, tokens_in}
 use proofs.Common.{true, ℕ, ⊎_elim, ◌++◌, ◌==◌, ◌∙◌, ◌∷◌, ◌≡◌}
 use proofs.EachTool.{syntax_is}
-use Rattle.ptopts.specs.Args.{has_letter, with_value}
+use Rattle.ptopts.specs.Args.{has_letter}
+use Rattle.ptopts.specs.Args.{with_value}
 use Rattle.ptopts.specs.Private.Tokens.{ParsedArgs, prepend_tokens}
 use Rattle.ptopts.specs.Laws.Args.{starts_with_operand}
 use Rattle.std.proofs.lemmas.Bool.{and_parts, eqb-true, ne_eqb, not-true, or_cases}

@@ -1,11 +1,12 @@
 -- Tools by name, the letters of their options, and options that were read. What words give is in Commands.
+use Prim.Native.String.{String}
 use Rattle.std.specs.Prelude.{ℕ, ◌==◌, ◌&&◌, List, [], ◌∷◌, Bool, false, not, Option, Some, None}
-use Rattle.std.specs.Prelude.{if◌then◌else◌, filter_map, codes, bytes_eq, find}
+use Rattle.std.specs.Prelude.{if◌then◌else◌, filter_map, bytes_eq, find}
 use Rattle.std.specs.Prelude.{option_map, option_and_then}
 use Rattle.std.specs.List.{list_any}
 use Rattle.std.specs.Str.{byte}
 use Rattle.ptlangs.specs.Numbers.{is_empty}
-use Rattle.ptopts.specs.Syntax.{syntax, tools}
+use Rattle.ptopts.specs.Syntax.{letters, tools}
 use Rattle.ptopts.specs.declared.tool.Tool.{Tool}
 
 -- the tool with this name; `None` if there is none
@@ -18,28 +19,20 @@ has_letter letter letters = list_any (λ l. l == letter) letters
 
 -- the letter is that of an option without a value
 abbrev pub is_flag : Tool → ℕ → Bool
-is_flag tool letter = has_letter letter (syntax tool).flags
+is_flag tool letter = has_letter letter (letters tool).0
 
 -- the letter is that of an option with a value
 abbrev pub takes_value : Tool → ℕ → Bool
-takes_value tool letter = has_letter letter (syntax tool).value_letters
+takes_value tool letter = has_letter letter (letters tool).1
 
 -- an option with its value, if it has one
 pub record ParsedOption : Type 0 where
   pub letter : ℕ
   pub value : Option (List ℕ)
 
--- an option without a value
-abbrev pub flag : ℕ → ParsedOption
-flag letter = record { letter = letter; value = None }
-
 -- an option with a value
 abbrev pub with_value : ℕ → List ℕ → ParsedOption
 with_value letter value = record { letter = letter; value = Some value }
-
--- the word `--`, which ends the options
-abbrev pub is_end_of_options : List ℕ → Bool
-is_end_of_options word = bytes_eq word (codes "--")
 
 -- the word is a dash and at least one more byte; a lone dash is an operand
 abbrev pub is_option_arg : List ℕ → Bool
@@ -51,6 +44,10 @@ is_option_arg (b ∷ bs) = (b == byte "-") && not (is_empty bs)
 -- the option is present
 abbrev pub has_option : ℕ → List ParsedOption → Bool
 has_option letter options = list_any (λ o. o.letter == letter) options
+
+-- the same, for an option by its text
+abbrev pub has : List ParsedOption → String → Bool
+has os option = has_option (byte option) os
 
 -- the value of an option that is present once
 abbrev pub value_of : ℕ → List ParsedOption → Option (List ℕ)

@@ -2,7 +2,7 @@
 //! `ptrun` and `ptrunc` use it.
 
 ghost use Rattle.std.specs.Prelude.{◌≡◌, IfOk, None, option_map};
-ghost use Rattle.ptopts.specs.Faults.{constraints_fault, operands_fault};
+ghost use Rattle.ptopts.specs.Private.Faults.{constraints_fault, operands_fault};
 ghost use Rattle.ptopts.specs.Private.Commands.{allowed_command};
 ghost use Rattle.ptopts.specs.Commands.{command_of_args, input_operands, output};
 ghost use Rattle.ptopts.specs.Commands.{words_view, command_view};

@@ -1,7 +1,7 @@
 //! Constraints between options: pairs that conflict, and options of which one is required. `command` checks them.
 
 ghost use Rattle.std.specs.Prelude.{is_some, ◌≡◌, ◌∷◌, []};
-ghost use Rattle.ptopts.specs.Faults.{first_some, constraint_fault, constraints_fault, first_value};
+ghost use Rattle.ptopts.specs.Private.Faults.{first_some, constraint_fault, constraints_fault, first_value};
 ghost use Rattle.ptopts.specs.Private.ParseSteps.{CheckPost, options_of};
 
 use crate::fault::UseFault;

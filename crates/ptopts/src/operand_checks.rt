@@ -5,7 +5,8 @@
 ghost use Rattle.std.specs.Prelude.{◌≡◌, length};
 ghost use Rattle.std.specs.List.{list_all};
 ghost use Rattle.ptopts.specs.Faults as faults;
-ghost use Rattle.ptopts.specs.Faults.{operands_fault};
+ghost use Rattle.ptopts.specs.Private.Faults as checks;
+ghost use Rattle.ptopts.specs.Private.Faults.{operands_fault};
 ghost use Rattle.ptopts.specs.Commands.{words_view};
 ghost use Rattle.ptopts.specs.Private.ParseSteps.{CheckPost, options_of, operands_of};
 
@@ -34,7 +35,7 @@ impl<'a, A: Allocator> ParsedArgs<'a, A> {
 
     /// Whether the tool accepts the number of operands.
     fn has_valid_count(&self, tool: Tool) -> bool
-        ensures { result ≡ faults.has_valid_count tool (options_of self.now) (length (operands_of self.now)) }
+        ensures { result ≡ checks.has_valid_count tool (options_of self.now) (length (operands_of self.now)) }
     {
         let syntax = tool.syntax();
         let count = self.operands.len();
@@ -43,7 +44,7 @@ impl<'a, A: Allocator> ParsedArgs<'a, A> {
 
     /// Whether `tr` accepts the number of its strings with these options; true for the other tools.
     fn fits_form(&self, tool: Tool) -> bool
-        ensures { result ≡ faults.fits_form tool (options_of self.now) (length (operands_of self.now)) }
+        ensures { result ≡ checks.fits_form tool (options_of self.now) (length (operands_of self.now)) }
     {
         if !matches!(tool, Tool::Tr) {
             return true;

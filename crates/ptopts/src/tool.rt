@@ -2,7 +2,7 @@
 //! use it.
 
 ghost use Rattle.std.specs.Prelude.{◌≡◌, Bool};
-ghost use Rattle.ptopts.specs.Syntax.{syntax};
+ghost use Rattle.ptopts.specs.Private.Syntax.{syntax};
 ghost use Rattle.ptopts.specs.Private.Syntax.{syntax_view};
 ghost use Rattle.ptopts.specs.Args.{tool_of_name, is_flag, takes_value, has_letter};
 

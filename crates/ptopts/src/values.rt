@@ -2,8 +2,10 @@
 
 ghost use Rattle.std.specs.Prelude.{◌≡◌, IfOk, option_map};
 ghost use Rattle.ptopts.specs.Args.{value_of};
-ghost use Rattle.ptopts.specs.Faults.{value_fault, terminator_of_options, is_delimiter_value, is_count};
-ghost use Rattle.ptopts.specs.Commands.{byte_value, number_value};
+ghost use Rattle.ptopts.specs.Private.Faults.{value_fault, is_delimiter_value, is_count};
+ghost use Rattle.ptopts.specs.Faults.{terminator_of};
+ghost use Rattle.ptopts.specs.Commands.{byte_value};
+ghost use Rattle.ptopts.specs.Private.Jobs.{number_value};
 ghost use Rattle.ptopts.specs.Private.ParseSteps.{CheckPost, options_of};
 
 use crate::fault::UseFault;
@@ -24,7 +26,7 @@ impl<'a, A: Allocator> ParsedArgs<'a, A> {
 
     /// The line terminator: NUL with `-z`, else newline.
     fn terminator(&self) -> u8
-        ensures { result ≡ terminator_of_options (options_of self.now) }
+        ensures { result ≡ terminator_of (options_of self.now) }
     {
         if self.has(b'z') { 0 } else { b'\n' }
     }
@@ -32,7 +34,7 @@ impl<'a, A: Allocator> ParsedArgs<'a, A> {
     /// The value of an option that must be one byte other than the line terminator.
     pub(crate) fn delimiter(&self, letter: u8) -> Result<Option<u8>, UseFault<'a>>
         ensures fault { let os = options_of self.now in
-            CheckPost result (value_fault os (letter, is_delimiter_value (terminator_of_options os))) }
+            CheckPost result (value_fault os (letter, is_delimiter_value (terminator_of os))) }
         ensures byte { IfOk result (λ b. b ≡ byte_value letter (options_of self.now)) }
     {
         let Some(text) = self.value(letter) else {

@@ -7,9 +7,10 @@ use Rattle.std.specs.List.{list_any}
 use Rattle.ptlines.specs.Sources.{SourceState}
 use Rattle.ptlangs.specs.Numbers.{and_then}
 use Rattle.ptopts.specs.Args.{ParsedOption}
-use Rattle.ptopts.specs.Commands.{Command, command, command_of_args, command_of_tool, file_names, ok_unless, or_stdin}
-use Rattle.ptopts.specs.Commands.{order_from, output, read_words, values_fault}
-use Rattle.ptopts.specs.Faults.{Fault, constraints_fault, first_some, is_standard, operands_fault, strings_fault}
+use Rattle.ptopts.specs.Commands.{Command, command, command_of_args, file_names, or_stdin}
+use Rattle.ptopts.specs.Commands.{order_from, output, read_words, unless_faulty}
+use Rattle.ptopts.specs.Faults.{Fault, faults, is_standard}
+use Rattle.ptopts.specs.Private.Commands.{command_of_tool}
 use Rattle.ptopts.specs.declared.inputs.Input.TheVariants.{File, Standard}
 use Rattle.ptopts.specs.Syntax.{tools}
 use Rattle.ptrun.specs.Files.{InputBytes, is_reader_unopened}
@@ -97,21 +98,21 @@ module _ (standard : SourceState) (content : ℕ → List ℕ → Option Content
         uniq_by (is_standard input) (is_standard written) input written inputs are (rw (two input written more) at some)
         (rw (two input written more) at none)
 
-    of_fault : (command : Command) (fault : Option Fault) → IsUnread (Ok command) → IsUnread (ok_unless fault command)
-    of_fault command None unread = unread
-    of_fault command (Some fault) unread = λ are some none. refl
+    of_fault : (command : Command) (found : List Fault) → IsUnread (Ok command) → IsUnread (unless_faulty found command)
+    of_fault command [] unread = unread
+    of_fault command (fault ∷ more) unread = λ are some none. refl
 
     of_read : {T : Type 0} (reads : T → Result (List ParsedOption × List (List ℕ)) Fault)
-        (check : T → List ParsedOption × List (List ℕ) → Option Fault)
+        (check : T → List ParsedOption × List (List ℕ) → List Fault)
         (made : T → List ParsedOption → List (List ℕ) → Command) (tool : T)
         → ((os : List ParsedOption) (operands : List (List ℕ)) → IsUnread (Ok (made tool os operands)))
         → IsUnread (and_then (reads tool) (λ (o : List ParsedOption × List (List ℕ)).
-        ok_unless (check tool o) (made tool o.0 o.1)))
+        unless_faulty (check tool o) (made tool o.0 o.1)))
     of_read reads check made tool unread = by_result (reads tool)
       where
         by_result : (read : Result (List ParsedOption × List (List ℕ)) Fault)
             → IsUnread (and_then read (λ (o : List ParsedOption × List (List ℕ)).
-            ok_unless (check tool o) (made tool o.0 o.1)))
+            unless_faulty (check tool o) (made tool o.0 o.1)))
         by_result (Ok (os, operands)) =
             of_fault (made tool os operands) (check tool (os, operands)) (unread os operands)
         by_result (Err fault) = λ are some none. refl
@@ -123,9 +124,7 @@ module _ (standard : SourceState) (content : ℕ → List ℕ → Option Content
         let (cut, (paste, (join, (comm, (uniq, (tr, _)))))) =
         every (λ tool. ((os : List ParsedOption) (operands : List (List ℕ)) → IsUnread (Ok (command tool os operands)))
         → IsUnread (command_of_tool (Some tool) words))
-        (λ tool unread. of_read (λ t. read_words t [] None words) (λ t o. first_some (
-        constraints_fault t o.0 ∷ values_fault t o.0 ∷ operands_fault t o.0 o.1 ∷ strings_fault t o.0 o.1 ∷ []))
-        command tool unread) tools in
+        (λ tool unread. of_read (λ t. read_words t [] None words) (λ t o. faults t o.0 o.1) command tool unread) tools in
         of_each (λ tool. IsUnread (command_of_tool tool words)) (λ t. bytes_eq name t.0) tools (λ are some none. refl) (
           cut (λ os operands are some none. absurd {0} (true≢false some)),
           (

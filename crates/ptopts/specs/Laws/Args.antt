@@ -1,10 +1,14 @@
 -- The grammar of options and operands, by the utility syntax guidelines (POSIX.1-2017, XBD 12.2).
-use Rattle.std.specs.Prelude.{ℕ, List, [], ◌∷◌, ◌++◌, Bool, true, not}
+use Rattle.std.specs.Prelude.{ℕ, List, [], ◌∷◌, ◌++◌, Bool, true, not, None}
 use Rattle.std.specs.Prelude.{map, codes, IsTrue}
 use Rattle.std.specs.List.{list_all}
 use Rattle.std.specs.Str.{byte}
-use Rattle.ptopts.specs.Args.{ParsedOption, flag, is_flag, is_option_arg, takes_value, with_value}
+use Rattle.ptopts.specs.Args.{ParsedOption, is_flag, is_option_arg, takes_value, with_value}
 use Rattle.ptopts.specs.declared.tool.Tool.{Tool}
+
+-- an option without a value
+abbrev pub flag : ℕ → ParsedOption
+flag letter = record { letter = letter; value = None }
 
 -- there is no word, or the first one is an operand
 abbrev pub starts_with_operand : List (List ℕ) → Bool

@@ -1,8 +1,8 @@
 -- Theorems on the grammar of words, their reading from left to right, and the commands that they specify.
 use Rattle.std.specs.Prelude.{◌≡◌, ◌↔◌, ℕ, List, [], ◌∷◌, ◌++◌, false, Some, None, Ok, IsTrue, is_some}
 use Rattle.ptopts.specs.Args.{ParsedOption, tool_of_name}
-use Rattle.ptopts.specs.Commands.{Command, command, command_of_args, read_words, values_fault}
-use Rattle.ptopts.specs.Faults.{constraints_fault, is_repeated, operands_fault, strings_fault}
+use Rattle.ptopts.specs.Commands.{Command, command, command_of_args, read_words}
+use Rattle.ptopts.specs.Faults.{faults, is_repeated}
 use Rattle.ptopts.specs.Laws.Args.{Spells}
 use Rattle.ptopts.specs.declared.tool.Tool.{Tool}
 
@@ -22,13 +22,10 @@ GrammarIsUnambiguous = (tool : Tool) (words : List (List ℕ)) (os os' : List Pa
     (operands operands' : List (List ℕ))
     → Spells tool words os operands → Spells tool words os' operands' → (os ≡ os') × (operands ≡ operands')
 
--- the options meet the constraints, and there is no fault in their values, the operands and the strings
+-- no option is given twice that must not be, and options and operands have no other fault
 pub record AreAllowed (tool : Tool) (os : List ParsedOption) (operands : List (List ℕ)) : Type 0 where
   pub once : AreGivenOnce tool os
-  pub together : constraints_fault tool os ≡ None
-  pub values : values_fault tool os ≡ None
-  pub inputs : operands_fault tool os operands ≡ None
-  pub strings : strings_fault tool os operands ≡ None
+  pub faultless : faults tool os operands ≡ []
 
 -- the name of a tool, and words whose options and operands are allowed, with the command that they specify
 pub data SpellsCommand : List (List ℕ) → Command → Type 0 where

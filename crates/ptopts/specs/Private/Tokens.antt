@@ -1,9 +1,10 @@
 -- The words as tokens, from left to right, by which the proofs compare `read_words` with the grammar.
 use Rattle.std.specs.Prelude.{ℕ, ◌&&◌, List, [], ◌∷◌, ◌++◌, Bool, true, false, not, Option, Some, None}
-use Rattle.std.specs.Prelude.{if◌then◌else◌, filter_map, drop, slice_get, is_some}
+use Rattle.std.specs.Prelude.{if◌then◌else◌, filter_map, drop, slice_get, is_some, bytes_eq, codes}
 use Rattle.std.specs.Option.{option_or, option_map_or}
 use Rattle.ptlangs.specs.Numbers.{is_empty}
-use Rattle.ptopts.specs.Args.{ParsedOption, flag, is_end_of_options, is_flag, is_option_arg, takes_value, with_value}
+use Rattle.ptopts.specs.Args.{ParsedOption, is_flag, is_option_arg, takes_value, with_value}
+use Rattle.ptopts.specs.Laws.Args.{flag}
 use Rattle.ptopts.specs.Faults.{Fault, NeedsValue, Twice, Unknown, is_repeated}
 use Rattle.ptopts.specs.declared.tool.Tool.{Tool}
 
@@ -46,6 +47,10 @@ tokens_of tool word next = tokens_in tool word next (drop 1 word)
 -- a parse with these tokens before its own
 abbrev pub prepend_tokens : List Token → ParsedArgs → ParsedArgs
 prepend_tokens tokens parsed_args = record { tokens = tokens ++ parsed_args.tokens; operands = parsed_args.operands }
+
+-- the word `--`, which ends the options
+abbrev pub is_end_of_options : List ℕ → Bool
+is_end_of_options word = bytes_eq word (codes "--")
 
 -- the parse of the words; if `taken`, the first word is the value of an option before it
 abbrev pub parsed_args_from : Tool → Bool → List (List ℕ) → ParsedArgs

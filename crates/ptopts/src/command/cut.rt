@@ -5,9 +5,9 @@ ghost use Rattle.ptlangs.specs.CutLists.{is_selected};
 ghost use Rattle.ptlangs.specs.Jobs as jobs;
 ghost use Rattle.ptopts.specs.declared.tool.Tool.TheVariants.{Cut};
 ghost use Rattle.ptopts.specs.Args.{value_of};
-ghost use Rattle.ptopts.specs.Faults.{value_fault, constraints_fault, is_cut_list};
-ghost use Rattle.ptopts.specs.Commands as commands;
-ghost use Rattle.ptopts.specs.Commands.{selected_set, values_fault};
+ghost use Rattle.ptopts.specs.Private.Faults.{value_fault, constraints_fault, is_cut_list};
+ghost use Rattle.ptopts.specs.Private.Jobs as made;
+ghost use Rattle.ptopts.specs.Private.Jobs.{selected_set, values_fault};
 ghost use Rattle.ptopts.specs.Private.ParseSteps.{CheckThenMemoryPost, CheckOrMemoryPost, options_of};
 
 use crate::fault::UseFault;
@@ -40,7 +40,7 @@ impl<'a, A: Allocator + Copy> ParsedArgs<'a, A> {
         ensures fault { CheckOrMemoryPost result (values_fault Cut (options_of self.now)) }
         ensures memory { result ≡ Err UseFault.Memory
             → All (λ letter. value_fault (options_of self.now) (letter, is_cut_list) ≡ None) (codes "bcf") }
-        ensures job { IfOk result (λ j. jobs.cut_job j ≡ commands.cut_from_options (options_of self.now)) }
+        ensures job { IfOk result (λ j. jobs.cut_job j ≡ made.cut_from_options (options_of self.now)) }
     {
         let bytes = self.cut_list(alloc, b'b')?;
         let characters = self.cut_list(alloc, b'c')?;

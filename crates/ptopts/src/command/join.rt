@@ -5,9 +5,9 @@ ghost use Rattle.std.specs.Str.{byte};
 ghost use Rattle.ptlangs.specs.Jobs as jobs;
 ghost use Rattle.ptopts.specs.declared.tool.Tool.TheVariants.{Join};
 ghost use Rattle.ptopts.specs.Args.{value_of};
-ghost use Rattle.ptopts.specs.Faults.{value_fault, each_value_fault, is_file_number, is_field_number, is_output_list};
-ghost use Rattle.ptopts.specs.Commands as commands;
-ghost use Rattle.ptopts.specs.Commands.{names_file, number_value, fields_of, values_fault};
+ghost use Rattle.ptopts.specs.Private.Faults.{value_fault, each_value_fault, is_file_number, is_field_number, is_output_list};
+ghost use Rattle.ptopts.specs.Private.Jobs as made;
+ghost use Rattle.ptopts.specs.Private.Jobs.{names_file, number_value, fields_of, values_fault};
 ghost use Rattle.ptopts.specs.Private.ParseSteps.{CheckPost, CheckThenMemoryPost, CheckOrMemoryPost, options_of};
 ghost use Rattle.ptopts.specs.Private.ParseSteps.{options_view};
 
@@ -87,7 +87,7 @@ impl<'a, A: Allocator + Copy> ParsedArgs<'a, A> {
         ensures fault { CheckOrMemoryPost result (values_fault Join (options_of self.now)) }
         ensures memory { result ≡ Err UseFault.Memory
             → value_fault (options_of self.now) (byte "o", is_output_list) ≡ None }
-        ensures job { IfOk result (λ j. jobs.join_job j ≡ commands.join_from_options (options_of self.now)) }
+        ensures job { IfOk result (λ j. jobs.join_job j ≡ made.join_from_options (options_of self.now)) }
     {
         let [also1, also2] = selected_files(&self.options, b'a')?;
         let [only1, only2] = selected_files(&self.options, b'v')?;

@@ -5,9 +5,9 @@ ghost use Rattle.std.specs.Str.{byte};
 ghost use Rattle.ptlangs.specs.Jobs as jobs;
 ghost use Rattle.ptopts.specs.declared.tool.Tool.TheVariants.{Paste};
 ghost use Rattle.ptopts.specs.Args.{value_of};
-ghost use Rattle.ptopts.specs.Faults.{value_fault, is_delimiter_list};
-ghost use Rattle.ptopts.specs.Commands as commands;
-ghost use Rattle.ptopts.specs.Commands.{delimiters_of, values_fault};
+ghost use Rattle.ptopts.specs.Private.Faults.{value_fault, is_delimiter_list};
+ghost use Rattle.ptopts.specs.Private.Jobs as made;
+ghost use Rattle.ptopts.specs.Private.Jobs.{delimiters_of, values_fault};
 ghost use Rattle.ptopts.specs.Private.ParseSteps.{CheckThenMemoryPost, options_of};
 
 use crate::fault::UseFault;
@@ -37,7 +37,7 @@ impl<'a, A: Allocator + Copy> ParsedArgs<'a, A> {
     /// The job of `paste`.
     pub(crate) fn paste_job(&self, alloc: A) -> Result<PasteJob<A>, UseFault<'a>>
         ensures fault { CheckThenMemoryPost result (values_fault Paste (options_of self.now)) }
-        ensures job { IfOk result (λ j. jobs.paste_job j ≡ commands.paste_from_options (options_of self.now)) }
+        ensures job { IfOk result (λ j. jobs.paste_job j ≡ made.paste_from_options (options_of self.now)) }
     {
         let delims = match self.delimiter_list(alloc)? {
             Some(delims) => delims,

@@ -2,10 +2,10 @@
 
 ghost use Rattle.std.specs.Prelude.{◌≡◌, IfOk, None, slice_get, option_copied};
 ghost use Rattle.ptopts.specs.declared.tool.Tool.TheVariants.{Tr};
-ghost use Rattle.ptopts.specs.Faults as faults;
-ghost use Rattle.ptopts.specs.Faults.{form_of_options, operands_fault, strings_fault};
+ghost use Rattle.ptopts.specs.Private.Faults as faults;
+ghost use Rattle.ptopts.specs.Private.Faults.{form_of_options, operands_fault, strings_fault};
 ghost use Rattle.ptlangs.specs.TrTables.{byte_map_of};
-ghost use Rattle.ptopts.specs.Commands.{char_map};
+ghost use Rattle.ptopts.specs.Private.Jobs.{char_map};
 ghost use Rattle.ptopts.specs.Private.ParseSteps.{CheckPost, options_of, operands_of};
 
 use crate::fault::UseFault;

@@ -4,7 +4,8 @@ ghost use Rattle.std.specs.Prelude.{◌≡◌, IfOk};
 ghost use Rattle.ptlangs.specs.Jobs as jobs;
 ghost use Rattle.ptopts.specs.declared.tool.Tool.TheVariants.{Uniq};
 ghost use Rattle.ptopts.specs.Commands as commands;
-ghost use Rattle.ptopts.specs.Commands.{values_fault};
+ghost use Rattle.ptopts.specs.Private.Jobs as made;
+ghost use Rattle.ptopts.specs.Private.Jobs.{values_fault};
 ghost use Rattle.ptopts.specs.Private.ParseSteps.{CheckPost, options_of};
 
 use crate::fault::UseFault;
@@ -31,7 +32,7 @@ impl<'a, A: Allocator + Copy> ParsedArgs<'a, A> {
     /// The job of `uniq`.
     pub(crate) fn uniq_job(&self) -> Result<UniqJob, UseFault<'a>>
         ensures fault { CheckPost result (values_fault Uniq (options_of self.now)) }
-        ensures job { IfOk result (λ j. jobs.uniq_job j ≡ commands.uniq_from_options (options_of self.now)) }
+        ensures job { IfOk result (λ j. jobs.uniq_job j ≡ made.uniq_from_options (options_of self.now)) }
     {
         let fields = self.number(b'f')?.unwrap_or(0);
         let chars = self.number(b's')?.unwrap_or(0);

@@ -9,14 +9,14 @@ returns-in_err-check_constraints-clause-parsed g c =
     rw c.in-Some.ensures.cases.0 (on_fault
     (λ r. CommandPost r (command_of_args (c.in-Some.name.now.now ∷ words_view c.in-Some.rest.now))) _ _
     c.from_residual-in_err-check_constraints.ensures.1
-    (meaning_refused c.in-Some.name.now.now _ _ _ _ _ (sym c.in-Some-from_name.ensures) c.in_ok-args.ensures.ok
+    (meaning_refused c.in-Some.name.now.now (words_view c.in-Some.rest.now) _ _ _ (sym c.in-Some-from_name.ensures) c.in_ok-args.ensures.ok _
     c.in_err-check_constraints.ensures.1))
 
 pub returns-clause-parsed : goal.returns-clause-parsed
 returns-clause-parsed g c =
     rw (
       c.in-Some.ensures.cases.0,
-      meaning_checked c.in-Some.name.now.now _ _ _ _ (sym c.in-Some-from_name.ensures)
+      meaning_checked c.in-Some.name.now.now (words_view c.in-Some.rest.now) _ _ _ (sym c.in-Some-from_name.ensures)
           c.in_ok-args.ensures.ok c.in_ok-check_constraints.ensures,
     ) c.read_command.ensures
 

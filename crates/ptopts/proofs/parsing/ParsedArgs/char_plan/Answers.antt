@@ -8,10 +8,10 @@ use Rattle.ptlangs.specs.TrPlan.{Plan, byte_map, plan}
 use Rattle.ptlangs.specs.TrTables.{Tables, byte_map_of}
 use Rattle.ptlangs.specs.Calls.TrTables.{tables}
 use Rattle.ptlangs.specs.declared.faults.SetFault.{SetFault}
-use Rattle.ptopts.specs.Commands.{identity_plan}
+use Rattle.ptopts.specs.Private.Jobs.{identity_plan}
 use Rattle.std.proofs.Math.ListN.{get_or}
 use Rattle.std.specs.Result.{result_unwrap_or}
-use Rattle.ptopts.specs.Faults.{plan_of_operands}
+use Rattle.ptopts.specs.Private.Faults.{plan_of_operands}
 use Rattle.ptopts.specs.Private.ParseSteps.{options_of, operands_of}
 use Rattle.std.specs.Prelude.{option_copied}
 use Rattle.std.proofs.Common.{ap, ◌∙◌}
