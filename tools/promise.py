@@ -89,9 +89,11 @@ PROMISE = Page("docs/PROMISE.md", PROMISE_WORDS, [
             "ptrun.MessageWrites.HasSaid"),
     Section("A run", "From a job and what was received to output, messages, status and bound.",
             "ptrun.SpecOfArgs.spec_of_args ptrun.SpecOfArgs.spec_of_result ptrun.SpecOfArgs.command_spec "
-            "ptrun.Decided.output ptrun.Decided.decided ptrun.Decided.at_end ptrun.Decided.decided_of_one ptrun.Decided.decided_of_all ptrun.Decided.reads_in_turn ptrun.Bounds.bound",
+            "ptrun.Decided.output ptrun.Decided.decided ptrun.Decided.at_end ptrun.Decided.decided_of_one "
+            "ptrun.Decided.decided_of_all ptrun.Decided.reads_in_turn ptrun.Bounds.bound",
             "ptrun.SpecOfArgs ptrun.CommandSpec ptrun.Decided ptrun.Bounds ptrun.Operands"),
-    Section("Bytes and lines", "", "ptlines.Text.lines ptrun.Lines.known_lines", "ptlines.Text ptlines.ByteOrder ptrun.Lines"),
+    Section("Bytes and lines", "", "ptlines.Text.lines ptrun.Lines.known_lines",
+            "ptlines.Text ptlines.ByteOrder ptrun.Lines"),
     Section("Jobs", "A job is the options of a tool as plain values.", "", "ptlangs.Jobs"),
     Section("uniq", "", "ptrun.Uniq.uniq_decided", "ptflow.Uniqs"),
     Section("cut", "", "ptrun.Cut.cut_decided", "ptrun.Cut ptflow.Cuts"),
