@@ -35,9 +35,17 @@ CONTRACTS = [
     ("crates/ptfiles/src/shell.rt", "run_over_files"),
     ("crates/ptext/src/perform.rt", "perform"),
 ]
-# Modules that no contract of a run rests on. The contracts of the engines name them.
-OF_ENGINES = """ptlines.Engines ptflow.ToolSpec ptflow.Passes ptflow.PasteCall ptflow.Cuts ptflow.PasteText
-    ptflow.TrOutput ptflow.Uniqs ptmerge.MergeSpec ptmerge.Comm ptmerge.Join""".split()
+# What no contract of a run rests on, and is in specs/ itself: modules, or definitions of one.
+OF_ENGINES = {
+    # what a call of an engine promises: the contracts of all engines name it
+    *"ptlines.Engines ptflow.ToolSpec ptflow.Passes ptflow.PasteCall".split(),
+    # the outputs, decided parts and sizes that the contracts of the engines name; a run has them by fewer definitions,
+    # which are proved equal (ptrun/proofs, SameLines to SameSpecs)
+    *"ptflow.Cuts ptflow.PasteText ptflow.TrOutput ptflow.Uniqs ptmerge.MergeSpec ptmerge.Comm ptmerge.Join".split(),
+    # lines and bytes, of which the same holds
+    *"ptlines.Received.known_lines ptlines.Text.onto_first_if_any ptlines.Text.complete_lines ptlines.Text.max_length "
+    "ptlines.Text.max_line_length ptlines.Slots.total_bytes".split(),
+}
 
 
 class Section(NamedTuple):
@@ -60,9 +68,10 @@ class Page(NamedTuple):
 
 BEYOND = Page("docs/BEYOND.md", BEYOND_WORDS, [
     Section("Slots, and inputs that are not touched", "", "",
-            "ptrun.Slots ptmerge.Join.max_group_lines ptlines.Slots.Slots ptrun.CommandSpec.ended_operands "
+            "ptrun.Slots ptrun.CommandSpec.may_touch ptlines.Slots.Slots ptrun.CommandSpec.ended_operands "
             "ptrun.CommandSpec.IsUnwritten ptrun.CommandSpec.IsUnfinished ptrun.Files.AreReadToEnd "
-            "ptrun.Files.IsOneUnended ptlines.Readers.IsDone ptrun.Runs.IsRunInStore ptrun.Runs.HasWrittenNothing "
+            "ptrun.Files.IsOneUnended ptlines.Readers.IsDone ptrun.Runs.IsRunBeyond ptlines.Sinks.flushes_after "
+            "ptrun.Files.is_reader_unopened ptrun.Runs.IsRunInStore ptrun.Runs.HasWrittenNothing "
             "ptrun.Runs.IsUnchangedIfUnread ptrun.Runs.IsStoreUnchangedIfUnread"),
     Section("Lag", "", "", "ptlines.Lag ptrun.Lag"),
     Section("Names of files", "", "", "ptfiles.Files ptfiles.Outputs ptfiles.Shell ptext.Perform"),
@@ -75,22 +84,22 @@ BEYOND = Page("docs/BEYOND.md", BEYOND_WORDS, [
 ])
 PROMISE = Page("docs/PROMISE.md", PROMISE_WORDS, [
     Section("The theorem", "First what holds if nothing fails, then what holds whatever fails; then what they name.",
-            "ptrun.Runs.IsExactUnlessFailed ptrun.Runs.IsExact ptrun.Runs.IsRun ptrun.Runs.RunEnd "
-            "ptrun.Runs.IsComplete ptrun.Runs.IsStopped ptrun.Runs.HasCause",
+            "ptrun.Runs.IsExactUnlessFailed ptrun.Runs.IsExact ptrun.Runs.IsRun ptrun.Runs.RunEnd ptrun.Runs.HasCause",
             "ptrun.Runs ptrun.Files ptlines.Received ptlines.Readers ptlines.Sinks ptlines.Engines "
             "ptrun.MessageWrites.HasSaid"),
     Section("A run", "From a job and what was received to output, messages, status and bound.",
             "ptrun.SpecOfArgs.spec_of_args ptrun.SpecOfArgs.spec_of_result ptrun.SpecOfArgs.command_spec "
-            "ptrun.SpecOfArgs.spec_of_job ptrun.Decided.output ptrun.Decided.decided ptrun.Decided.at_end "
-            "ptrun.Decided.decided_of_one ptrun.Decided.decided_of_all ptrun.Decided.reads_in_turn ptrun.Bounds.bound",
+            "ptrun.Decided.output ptrun.Decided.decided ptrun.Decided.at_end ptrun.Decided.decided_of_one "
+            "ptrun.Decided.decided_of_all ptrun.Decided.reads_in_turn ptrun.Bounds.bound",
             "ptrun.SpecOfArgs ptrun.CommandSpec ptrun.Decided ptrun.Bounds ptrun.Operands"),
-    Section("Bytes and lines", "", "", "ptlines.Text ptlines.ByteOrder ptlines.Slots"),
+    Section("Bytes and lines", "", "ptlines.Text.lines ptrun.Lines.known_lines",
+            "ptlines.Text ptlines.ByteOrder ptrun.Lines"),
     Section("Jobs", "A job is the options of a tool as plain values.", "", "ptlangs.Jobs"),
-    Section("uniq", "", "ptflow.Uniqs.uniq_decided", "ptflow.Uniqs"),
-    Section("cut", "", "ptflow.Cuts.cut_decided", "ptflow.Cuts"),
-    Section("paste", "", "ptflow.PasteText.paste_decided ptflow.PasteText.paste_serial_decided", "ptflow.PasteText"),
-    Section("comm", "", "ptrun.Merges.comm ptrun.Merges.comm_disorder", "ptmerge.Comm"),
-    Section("join", "", "ptrun.Merges.join ptrun.Merges.join_disorder", "ptmerge.Join"),
+    Section("uniq", "", "ptrun.Uniq.uniq_decided", "ptflow.Uniqs"),
+    Section("cut", "", "ptrun.Cut.cut_decided", "ptrun.Cut ptflow.Cuts"),
+    Section("paste", "", "ptrun.Paste.paste_decided ptrun.Paste.paste_serial_decided", "ptrun.Paste ptflow.PasteText"),
+    Section("comm", "", "ptrun.Comm.comm", "ptrun.Comm ptmerge.Comm"),
+    Section("join", "", "ptrun.Join.join", "ptrun.Join ptmerge.Join"),
     Section("Merges", "`comm` and `join` are merges of two lists of lines by their keys.", "ptrun.Merges.merged",
             "ptrun.Merges ptmerge.Orders ptmerge.MergeSpec"),
     Section("tr", "First what it does to a text; then its strings, from characters to the plan that two of them make.",
@@ -110,7 +119,7 @@ def join_lines(clause):
         return clause.split("\n")
     if len(one) <= WIDTH:
         return [one]
-    if not re.match(r"[^=]*= (\w+ \()?record \{", one):
+    if not re.match(r"[^{]*(= (\w+ \()?|in )record \{", one):
         return clause.split("\n")
     lines = [""]
     for field in one.split("; "):
@@ -397,6 +406,12 @@ def find_promise(specs):
     return specs.find_needed([root for contract in CONTRACTS for root in find_roots(specs, *contract)])[0]
 
 
+def is_of_engines(module, definition):
+    """Whether only the contracts of engines name a definition."""
+    name = f"{module.crate}.{module.name}"
+    return name in OF_ENGINES or f"{name}.{definition.names[0]}" in OF_ENGINES
+
+
 def find_misplaced(specs):
     """The definitions that are not where they belong, one a line."""
     promise, found = find_promise(specs), []
@@ -406,7 +421,7 @@ def find_misplaced(specs):
             is_promised = any(definition is other for other in promise.get(path, []))
             if is_promised and "." in module.name:
                 found.append((module, definition, "is part of the promise, so it belongs in specs/ itself"))
-            elif not is_promised and "." not in module.name and f"{module.crate}.{module.name}" not in OF_ENGINES:
+            elif not is_promised and "." not in module.name and not is_of_engines(module, definition):
                 found.append((module, definition, "is no part of the promise, so it belongs in a folder of specs/"))
     return [f"{relpath(module.path, TOP)}: {definition.names[0]} {why}" for module, definition, why in found]
 

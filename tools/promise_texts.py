@@ -24,12 +24,12 @@ hold whatever fails.
 | Fail or not, at most so many bytes of lines are in the store at any moment | FIELD(ptrun.Runs.IsRun.bounded) | what else takes memory: up to 8,192 bytes of a line that `uniq` keeps beside the store, buffers, spare room. And `peak` is a number that the run reports; one that reports 0 would meet this line. That it is the store's own is stated by `run_with_store`, in its clause `store` |
 | Whatever fails, what was written is a beginning of the right output, however the inputs may go on | FIELD(ptrun.Runs.IsRun.is_prefix) | how much was written |
 | A run ends with all output, messages and status; or it stopped, with status 1, for a failure that happened | FIELD(ptrun.Runs.IsRun.ends) | which failure is named, if several of a kind happened; a write is named before memory, and memory before a read |
-| A run that stopped has the messages about the operands before, and one about the failure | FIELD(ptrun.Runs.IsStopped.messages) | |
+| A run that stopped has the messages about the operands before, and one about the failure | `message ≡ operand_messages m w n ++ fault_message m.tool m.names fault` | |
 | If a read failed and no write did, that read is named | FIELD(ptrun.Runs.IsRun.names_failed_read) | |
 | and what is decided is written | FIELD(ptrun.Runs.IsRun.decided_is_written) | more than `decided`: after 80,000 bytes of `a` lines and a failed read, `uniq` may have written nothing, as they are one run |
-| What is decided is not nothing: the whole output is what is decided by inputs that are known whole, and of `uniq` also the last run (the law `output_is_decided`) | `output job positions w = decided job positions (all_received w) ++ at_end job positions w` | what is decided of an input whose end was not reached: one that gives nothing there would meet this line |
+| What is decided is not nothing: the whole output is what is decided by inputs that are known whole, and of `uniq` also the last run (the law `output_is_decided`) | `output job positions r = decided job positions r ++ at_end job positions r`, where `r` is `all_received w` | what `paste`, `comm` and `join` decide before the end of an input. Of `cut`, `tr` and `uniq` the law says that the output for complete lines is decided |
 | Inputs may go on as any that are consistent with what was received | `AreInputsConsistent r w` | |
-| If the words are no command, one message names the first fault, the status is 2 and nothing is read or written | `spec_of_result tool (Err fault) = message_only (usage_message tool (Some fault)) 2` | |
+| If the words are no command, one message names the first fault, the status is 2 and nothing is read or written | `spec_of_result tool (Err fault) = message_only (usage_text tool fault) 2` | |
 | If memory ran out while the words were read, one message says so, and the status is 1 | `spec_unless_memory` | when that happens |
 
 A file that could not be opened is no failure: it has a message, and the status is 1. These are the clauses of the
@@ -84,10 +84,10 @@ and of `CommandSpec` that say these things.
 
 | Sentence | Formal line | What it does not say |
 |---|---|---|
-| Inputs that were not begun are unchanged, and operands that are done were read to their ends | `untouched` and `ended` of `IsRun` | |
-| If memory ran out, something was left to do | `left` of `IsRun` | that there really was no memory |
-| After any failure, all output that was decided two blocks (16,384 bytes) of input earlier is written, but for at most one block after a failed write | `bounded_lag` of `IsRun` | anything while a run goes on, or of more than `decided` |
-| Unless a write failed, all output is flushed, once | `flushed` and `flushes` of `IsRun` | of a run that is to read nothing, or of bytes that were unflushed before it |
+| Inputs that were not begun are unchanged, and operands that are done were read to their ends | `untouched` and `ended` of `IsRunBeyond` | |
+| If memory ran out, something was left to do | `left` of `IsRunBeyond` | that there really was no memory |
+| After any failure, all output that was decided two blocks (16,384 bytes) of input earlier is written, but for at most one block after a failed write | `bounded_lag` of `IsRunBeyond` | anything while a run goes on, or of more than `decided` |
+| Unless a write failed, all output is flushed, once | `flushed` and `flushes` of `IsRunBeyond` | of a run that is to read nothing, or of bytes that were unflushed before it |
 | If the words are no command, or an input that has to be there is not, nothing is read, written or kept | `reads_nothing` of `run` | |
 | The store has no more slots than these lines need | `slots` of `IsRunInStore` | how much memory a slot takes |
 | The files that the words name are opened in order, each once, and no other; the output file is created if all inputs were opened | `RunOverFilesPost` of `run_over_files` | |

@@ -11,27 +11,34 @@ NAMES = {
     "ptlines.ByteOrder": "byte_cmp",
     "ptlangs.Jobs": "Comm Cut Join Paste Uniq",
     "ptlangs.TrPlan": "ByteMap",
-    "ptflow.Uniqs": "key output_of runs uniq_decided",
-    "ptflow.Cuts": "cut_decided cut_line is_field_delimiter select_from",
-    "ptflow.PasteText": "columns paste_decided rows rows_text",
+    "ptflow.Uniqs": "key output_of runs",
+    "ptflow.Cuts": "select_from",
+    "ptflow.PasteText": "join_with_cycle",
     "ptflow.TrOutput": "tr translation",
     "ptmerge.MergeSpec": "distinct_keys",
-    "ptmerge.Comm": "comm_entries",
-    "ptmerge.Join": "join_entries join_fields join_key1",
     "ptopts.Args": "ParsedOption tool_of_name with_value",
     "ptopts.Commands": "RunUniq command_of_args file_names input_operands order_from read_words",
     "ptopts.Faults": "Fault NeedsValue Together Unknown Value faults",
-    "ptrun.Decided": "at_end output whole",
-    "ptrun.Merges": "comm comm_disorder join",
-    "ptrun.Messages": "disorder_message fault_message unopened_message usage_message",
+    "ptrun.Comm": "comm comm_entries",
+    "ptrun.Cut": "cut_decided cut_line",
+    "ptrun.Decided": "all_received at_end input_of output whole",
+    "ptrun.Join": "join join_entries join_fields join_key",
+    "ptrun.Lines": "known_lines",
+    "ptrun.Merges": "disorder_of merged",
+    "ptrun.Messages": "disorder_message fault_message unopened_message usage_text",
+    "ptrun.Paste": "columns paste_decided",
+    "ptrun.Uniq": "uniq_decided",
 }
 VARIANTS = {"ptlangs.declared.jobs.Show": "Counts", "ptmerge.declared.key_order.Side": "First",
             "ptflow.declared.faults.FlowFault": "Read", "ptopts.declared.inputs.Input": "File, Standard",
             "ptopts.declared.tool.Tool": "Cut as CutTool"}
 STEP_ROOTS = [f"{module}.{name}" for module, names in NAMES.items() for name in names.split()]
 
-MERGED = 'whole "a\\na\\nb\\n"', 'whole "a\\nc\\n"'
-PAIRED = 'whole "a 1\\na 2\\nc 9\\n"', 'whole "a x\\nb z\\n"'
+# What was received of two inputs, by the first and the second operand.
+BOTH = 'input_of [Some (whole "a\\na\\nb\\n"), Some (whole "a\\nc\\n")] [0, 1]'
+UNENDED = 'input_of [Some (record { bytes = "a\\na\\nb\\n"; eof = false }), Some (whole "a\\nc\\n")] [0, 1]'
+DISORDERED = 'input_of [Some (whole "b\\na\\n"), Some (whole "c\\n")] [0, 1]'
+PAIRED = 'input_of [Some (whole "a 1\\na 2\\nc 9\\n"), Some (whole "a x\\nb z\\n")] [0, 1]'
 COMM = "record { hide1 = false; hide2 = false; hide3 = false; terminator = 10; descending = false }"
 JOIN = (
     "record { pairs = true; unpaired1 = false; unpaired2 = false; empty = []; list = None; separator = None; "
@@ -48,12 +55,13 @@ STEPS = {
         ('output_of counts (runs counts ["1 x", "2 x", "3 y"])', '"2 1 x\\n1 3 y\\n"'),
         ('uniq_decided counts (record { bytes = "1 x\\n2 x\\n"; eof = false })', "[]"),
         ('uniq_decided counts (record { bytes = "1 x\\n2 x\\n3 y\\n"; eof = false })', '"2 1 x\\n"'),
-        ('at_end (RunUniq counts) [0] [Some "1 x\\n2 x\\n3 y\\n"]', '"1 3 y\\n"'),
-        ('output (RunUniq counts) [0] [Some "1 x\\n2 x\\n3 y\\n"]', '"2 1 x\\n1 3 y\\n"'),
+        ('at_end (RunUniq counts) [0] (all_received [Some "1 x\\n2 x\\n3 y\\n"])', '"1 3 y\\n"'),
+        ('output (RunUniq counts) [0] (all_received [Some "1 x\\n2 x\\n3 y\\n"])', '"2 1 x\\n1 3 y\\n"'),
     ]),
     "cut": ("`cut -d , -f 1,3` over `a,b,c`, `x` and an unfinished `y,`", "fields", "Cut",
         "record { fields = true; selected = λ n. n == 1 || n == 3; delimiter = 44; only = false; terminator = 10 }", [
-        ('slice_split (is_field_delimiter fields) "a,b,c"', '["a", "b", "c"]'),
+        ('known_lines 10 (record { bytes = "a,b,c\\nx\\ny,"; eof = false })', '["a,b,c", "x"]'),
+        ('slice_split (λ b. b == 44) "a,b,c"', '["a", "b", "c"]'),
         ('select_from fields.selected 1 ["a", "b", "c"]', '["a", "c"]'),
         ('cut_line fields "a,b,c"', '["a,c"]'),
         ('cut_line fields "x"', '["x"]'),
@@ -63,25 +71,25 @@ STEPS = {
     "paste": ("`paste -d , - -` over the lines `1`, `2`, `3`", "two", "Paste",
         "record { serial = false; delimiters = [Some 44]; terminator = 10 }", [
         ('columns [0, 0] (λ input. ["1", "2", "3"])', '[["1", "3"], ["2"]]'),
-        ('rows [["1", "3"], ["2"]]', '[["1", "2"], ["3", []]]'),
-        ('rows_text two [["1", "2"], ["3", []]]', '"1,2\\n3,\\n"'),
+        ('join_with_cycle [Some 44] 0 ["3", []]', '"3,"'),
         ('paste_decided two [0, 0] (λ input. record { bytes = "1\\n2\\n3\\n"; eof = false })', '"1,2\\n"'),
         ('paste_decided two [0, 0] (λ input. whole "1\\n2\\n3\\n")', '"1,2\\n3,\\n"'),
     ]),
     "comm": ("`comm f g` over `a`, `a`, `b` and `a`, `c`", "all", "Comm", COMM, [
         ('distinct_keys byte_cmp ["a", "a", "b", "a", "c"]', '["a", "b", "c"]'),
         ('comm_entries all "a" ["a", "a"] ["a"]', '["\\t\\ta", "a"]'),
-        (f"comm all ({MERGED[0]}) ({MERGED[1]})", '"\\t\\ta\\na\\nb\\n\\tc\\n"'),
-        (f'comm all (record {{ bytes = "a\\na\\nb\\n"; eof = false }}) ({MERGED[1]})', '"\\t\\ta\\na\\n"'),
-        ('comm_disorder all "b\\na\\n" "c\\n"', 'Some (record { file = First; last_key = "b"; line = 2 })'),
-        ('comm all (whole "b\\na\\n") (whole "c\\n")', '"b\\n"'),
+        (f"merged (comm all) ({BOTH})", '"\\t\\ta\\na\\nb\\n\\tc\\n"'),
+        (f"merged (comm all) ({UNENDED})", '"\\t\\ta\\na\\n"'),
+        (f"disorder_of (comm all) ({DISORDERED})",
+            'Some (record { file = First; last_key = "b"; line = 2 })'),
+        (f"merged (comm all) ({DISORDERED})", '"b\\n"'),
     ]),
     "join": ("`join f g` over `a 1`, `a 2`, `c 9` and `a x`, `b z`", "pairs", "Join", JOIN, [
         ('join_fields None "a  1"', '["a", "1"]'),
-        ('map (join_key1 pairs) ["a 1", "a 2", "c 9"]', '["a", "a", "c"]'),
+        ('map (join_key pairs First) ["a 1", "a 2", "c 9"]', '["a", "a", "c"]'),
         ('join_entries pairs "a" ["a 1", "a 2"] ["a x"]', '["a 1 x", "a 2 x"]'),
         ('join_entries pairs "c" ["c 9"] []', "[]"),
-        (f"join pairs ({PAIRED[0]}) ({PAIRED[1]})", '"a 1 x\\na 2 x\\n"'),
+        (f"merged (join pairs) ({PAIRED})", '"a 1 x\\na 2 x\\n"'),
     ]),
     "tr": ("what `tr -s a x` does to bytes", "plan", "ByteMap",
         "record { deletes = λ b. false; image = λ b. if b == 97 then 120 else b; squeezes = λ b. b == 120 }", [
@@ -102,7 +110,7 @@ STEPS = {
         ('file_names ["FILE", "-"]', '["FILE"]'),
     ]),
     "Messages": (None, None, None, None, [
-        ('usage_message "cut" (Some (Unknown "-x"))', '"cut: unknown option in -x\\n"'),
+        ('usage_text "cut" (Unknown "-x")', '"cut: unknown option in -x\\n"'),
         ('unopened_message "cut" "f"', '"cut: f: cannot be opened\\n"'),
         ('disorder_message "comm" ["f", "g"] 2 7', '"comm: g: line 7 is out of order\\n"'),
         ('fault_message "uniq" [] (Read 0)', '"uniq: standard input: read failed\\n"'),

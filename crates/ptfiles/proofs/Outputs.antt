@@ -109,8 +109,7 @@ module _ (kind : ℕ) (written after : List ℕ) (m : CommandSpec) (old new : Li
       → RunEnd m received old new pushed message (record o { out = mark kind after s' }) done fault
       → RunEnd m received old new pushed message (record o { out = s' }) done fault
   stopped received pushed message done None ends = ends
-  stopped received pushed message done (Some fault) ends =
-      record { within = ends.within; messages = ends.messages; cause = ends.cause; status_is = ends.status_is }
+  stopped received pushed message done (Some fault) ends = ends
 
   is_run_behind : IsRun m old new (sinks (mark kind written s) messages) (record o { out = mark kind after s' })
       → IsRun m old new (sinks s messages) (record o { out = s' })
@@ -119,21 +118,23 @@ module _ (kind : ℕ) (written after : List ℕ) (m : CommandSpec) (old new : Li
     came = r.came;
     written = r.written;
     output = added_behind kind written after s.accepted s'.accepted r.written r.output;
-    flushed = r.flushed;
-    flushes = r.flushes;
     message = r.message;
     has_said = r.has_said;
     operands_done = r.operands_done;
     fault = r.fault;
     ends = stopped r.received r.written r.message r.operands_done r.fault r.ends;
-    untouched = r.untouched;
-    ended = r.ended;
-    left = r.left;
     is_prefix = r.is_prefix;
     names_failed_read = r.names_failed_read;
     decided_is_written = r.decided_is_written;
-    bounded_lag = r.bounded_lag;
     bounded = r.bounded;
+    beyond = record {
+      flushed = r.beyond.flushed;
+      flushes = r.beyond.flushes;
+      untouched = r.beyond.untouched;
+      ended = r.beyond.ended;
+      left = r.beyond.left;
+      bounded_lag = r.beyond.bounded_lag;
+    };
   }
 
   pub run_behind : (lent left : Slots)

@@ -24,15 +24,15 @@ pub use Rattle.ptopts.specs.Commands.{file_names, order_from}
 pub use Rattle.ptopts.specs.View.{CommandPost, fault_view}
 pub use Rattle.ptopts.specs.Commands.{command_view, words_view}
 pub use Rattle.ptopts.specs.declared.inputs.Input.{Input}
-pub use specs.CommandSpec.{CommandSpec, ended_operands, messages, unopened_messages}
+pub use specs.CommandSpec.{CommandSpec, ended_operands, messages}
 pub use specs.Private.Driver.{AreSoundAt, DecidesAll, HasIndexBelow, InputsPre, RunInputsEnd, RunInputsPost}
 pub use specs.Files.{AreInputsConsistent, AreReadToEnd, HasReadFailed, HaveReceived, InputBytes, IsTooLong}
 pub use specs.Files.{ReceivedInputs, is_reader_unopened, is_unopened}
 pub use specs.Private.Lag.{IsPushedUpToBlock}
 pub use specs.MessageWrites.{HasSaid, line_of}
 pub use specs.Calls.MessageWrites.{SayPost, texts}
-pub use specs.Messages.{name_of, unopened_message, usage_message}
-pub use specs.Private.Messages.{usage_status}
+pub use specs.Messages.{name_of, unopened_message}
+pub use specs.Private.Messages.{unopened_messages, usage_message, usage_status}
 pub use specs.Decided.{up_to_unended}
 pub use specs.Operands.{position, positions}
 pub use specs.Private.Sequential.{decided_in_order}

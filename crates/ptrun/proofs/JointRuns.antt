@@ -38,7 +38,8 @@ use specs.Private.Engines.{end_at, in_run}
 use specs.Files.{IsNew, IsNewOrUnopened, at}
 use Rattle.std.proofs.Math.Seq.{take-length}
 use Rattle.std.proofs.lemmas.List.{get_or-set_other, get_or-set_same, set-append_left, set-append_right}
-use specs.Decided.{bytes_of, has_unopened, operand, received_in}
+use specs.Decided.{has_unopened, operand, received_in}
+use specs.Private.Operands.{bytes_of}
 use specs.Private.Joint.{JointTool, joint_spec, one_input_tool, paste_rows_tool, two_input_tool}
 use Rattle.ptmerge.specs.declared.key_order.Side.TheVariants.{First, Second}
 use Rattle.ptmerge.specs.Calls.MergeSpec.{MergeTool}

@@ -17,9 +17,9 @@ use proofs.MessageWrites.{said_trans}
 use Rattle.ptflow.specs.Private.PasteCall.{update_at}
 use Rattle.ptlines.proofs.KnownBytes.{append_known-append}
 use Rattle.ptlines.proofs.Lag.{bounded_lag_now, known_length}
-use specs.Files.{HasReceivedAt, IsConsistentAt, IsNewOrUnopened, at, input_of_operand, inputs_of_operands}
-use specs.Files.{opened_inputs, opened_values}
-use specs.Bounds.{maximum}
+use specs.Files.{HasReceivedAt, IsConsistentAt, IsNewOrUnopened, at}
+use specs.Private.Operands.{input_of_operand, inputs_of_operands, opened_inputs, opened_values}
+use specs.Lines.{maximum}
 use Rattle.std.proofs.Math.ListN.{get_or-map as get_or-map_any}
 use specs.Lag.{BoundedLagAs, HasBoundedLag, IsWrittenUpToBlock, LagOfAny, LagOfLast}
 use Rattle.ptlines.specs.declared.sizes.TheConstants.{BLOCK}

@@ -11,9 +11,10 @@ use proofs.Common.{RunInputsPost, SinkState, Slots, Some, Write, [], ap, append-
 use proofs.Common.{usual, tool_spec, cond, ended_operands, false, false≢true, fault_view, is_reader_unopened}
 use proofs.Common.{is_unopened, length, length-append, map, messages, position, positions, push_trans, reader_at, refl}
 use proofs.Common.{rules, sinks, spec_of_parsed, spec_of_tool, subst, sym, true, usage_message, usage_status, ℕ, ⊎_elim, ◌++◌}
-use proofs.Common.{◌<◌, ◌==◌, ◌∙◌, ◌≡◌, ◌≤◌}
+use proofs.Common.{◌<◌, ◌==◌, ◌∙◌, ◌∷◌, ◌≡◌, ◌≤◌}
 use proofs.MessageWrites.{said_trans}
 use proofs.OperandInputs.{earlier_map, fresh_all, kept_up, least_bytes, least_consistent, nothing_decided, nothing_read}
+use proofs.SameSpecs.{spec_same}
 use proofs.OperandInputs.{positions_within, received_at, received_of, some_same}
 use Rattle.ptlines.proofs.KnownBytes.{append_known-nil}
 use Rattle.ptopts.proofs.EachTool.{AreInputsOf, are_inputs}
@@ -24,9 +25,12 @@ use specs.Files.{AreNewInputs, HasBytesAt, HasReceivedAt, IsConsistentAt, IsNewO
 use specs.Runs.{IsExact, IsExactUnlessFailed, IsUnchangedIfUnread, Outcome, RunEnd, Sinks}
 use Rattle.std.proofs.lemmas.List.{append_cancel_left, nil_from_length}
 use Rattle.ptopts.specs.declared.command.Command as code
-use specs.Private.Tools.{tool_of_job}
-use specs.SpecOfArgs.{is_memory_fault, message_only, spec_of_args, tool_name, word_of_job}
-use Rattle.ptopts.specs.Commands.{Command, Job, RunComm, RunCut, RunJoin, RunPaste, RunTr, RunUniq, command_of_args}
+use specs.Private.Tools.{tool_of_job, word_of_job}
+use specs.SpecOfArgs.{command_spec, is_memory_fault, message_only, spec_of_args, tool_name}
+use Rattle.ptopts.specs.Commands.{Command, Job, RunComm, RunCut, RunJoin, RunPaste, RunTr, RunUniq, command_of_args, job}
+use Rattle.ptopts.specs.Syntax.{tools}
+use Rattle.std.proofs.lemmas.Slice.Eq.{bytes_eq-Decides}
+use Rattle.std.specs.Prelude.{⊤, bytes_eq, find, option_map}
 
 -- ---- the bytes that reached the sink
 
@@ -99,13 +103,13 @@ exact_of_run m old new before o fresh k w bytes none fine not_denied = by_fault 
 
     by_fault : (fault : Option FlowFault) → RunEnd m k.received old new k.written k.message o k.operands_done fault
         → IsExact m w before o
-    by_fault None (complete, says) = record {
+    by_fault None (all, unbroken, fits, read, says) = let (out, message, status) = says w agrees in record {
       out = grind (arith, agrees);
       messages = grind (arith, append-nil, agrees);
-      status_is = let (message, status) = says w agrees in status;
+      status_is = status;
       bounded = k.bounded w agrees;
     }
-    by_fault (Some fault) e = absurd (unfailed k.operands_done fault e.cause)
+    by_fault (Some fault) (within, status, cause, says) = absurd (unfailed k.operands_done fault cause)
 
 -- ---- a run that reads nothing
 
@@ -126,23 +130,25 @@ unread m {old} {out} {messages_old} {messages_new} {text} status at_once nothing
       came = came;
       written = [];
       output = sym (append_known-nil _);
-      flushed = λ settled _. settled;
-      flushes = grind arith;
       message = text;
       has_said = has_said;
       operands_done = length m.positions;
       fault = None;
       ends = grind (arith, received_at);
-      untouched = λ q other. refl;
-      ended = ended;
-      left = λ memory. cc;
       is_prefix = grind arith;
       names_failed_read = grind arith;
       decided_is_written = grind arith;
-      bounded_lag = rw at_once
-          (nothing_decided m.positions m.decided (map received_of old) out.failed
-          (grind arith));
       bounded = λ w agrees. omega arith;
+      beyond = record {
+        flushed = λ settled _. settled;
+        flushes = grind arith;
+        untouched = λ q other. refl;
+        ended = ended;
+        left = λ memory. cc;
+        bounded_lag = rw at_once
+            (nothing_decided m.positions m.decided (map received_of old) out.failed
+            (grind arith));
+      };
     }
 
 pub message_only_run : {text : List ℕ} {is : ℕ} {old : List Reader} {out messages_old messages_new : SinkState}
@@ -170,10 +176,12 @@ module _ {text : List ℕ} {status : ℕ} {old new : List Reader} {before : Sink
   said : (fault : Option FlowFault)
       → RunEnd (message_only text status) k.received old new k.written k.message o k.operands_done fault
       → (k.message ≡ text) × (o.status ≡ status)
-  said None (complete, says) = says (least_bytes k.received) (least_consistent k.received)
-  said (Some (Read p)) e = let named = e.cause.0 in cc
-  said (Some Write) e = let (same, nothing) = unread refl in let out_is = nothing.0 in cc
-  said (Some Memory) e = let (same, nothing) = unread refl in let not_denied = nothing.2 in let denied = e.cause.0 in cc
+  said None (all, unbroken, fits, read, says) =
+      let (out, message, status) = says (least_bytes k.received) (least_consistent k.received) in (message, status)
+  said (Some (Read p)) (within, status, cause, says) = let named = cause.0 in cc
+  said (Some Write) (within, status, cause, says) = let (same, nothing) = unread refl in let out_is = nothing.0 in cc
+  said (Some Memory) (within, status, cause, says) =
+      let (same, nothing) = unread refl in let not_denied = nothing.2 in let denied = cause.0 in cc
 
   message_over_others : {others : List Reader} → All IsNewOrUnopened others
       → IsRun (message_only text status) others others before o
@@ -253,24 +261,26 @@ module _ {m : CommandSpec} {old new : List Reader} {was is : Output}
     came = k.came;
     written = reached.front;
     output = grind arith;
-    flushed = grind arith;
-    flushes = grind arith;
     message = k.message ++ last_message;
     has_said = search (rules, said_trans);
     operands_done = k.operands_done;
     fault = fault_of final_result;
     ends = ends_as _ refl (grind arith);
-    untouched = k.untouched;
-    ended = grind arith;
-    left = grind (arith, f, rules);
     is_prefix = begins;
     names_failed_read = grind arith;
     decided_is_written = grind (arith, rules);
-    bounded_lag = earlier_map m _ _ _ _
-        (λ bytes up. kept_up bytes was is is' k.pushed reached.front reached.rest up (ap (λ o. o.buffered) made)
-        reached.split reached.accepted f.wrote.kept reached.unknown o.out.failed (grind arith))
-        k.bounded_lag;
     bounded = grind arith;
+    beyond = record {
+      flushed = grind arith;
+      flushes = grind arith;
+      untouched = k.untouched;
+      ended = grind arith;
+      left = grind (arith, f, rules);
+      bounded_lag = earlier_map m _ _ _ _
+          (λ bytes up. kept_up bytes was is is' k.pushed reached.front reached.rest up (ap (λ o. o.buffered) made)
+          reached.split reached.accepted f.wrote.kept reached.unknown o.out.failed (grind arith))
+          k.bounded_lag;
+    };
   }
 
   pub stored : (m.reads_nothing (is_reader_unopened old) ≡ true → ⊥)
@@ -315,6 +325,38 @@ inputs_pre_of_spelled words c readers (Spelled name rest tool os operands named 
       accepts_operands = is.accepts_operands;
       few = is.few;
     }
+
+-- ---- the name of the tool
+
+-- Each of these tools has this word as its name.
+abbrev AreNamed : {T : Type 0} → (T → List ℕ) → List (List ℕ × T) → Type 0
+AreNamed word_of [] = ⊤
+AreNamed word_of (t ∷ ts) = (t.0 ≡ word_of t.1) × AreNamed word_of ts
+
+named_in : {T : Type 0} (word_of : T → List ℕ) (name : List ℕ) (ts : List (List ℕ × T)) (tool : T)
+    → AreNamed word_of ts
+    → option_map (λ (t : List ℕ × T). t.1) (find (λ (t : List ℕ × T). bytes_eq name t.0) ts) ≡ Some tool
+    → name ≡ word_of tool
+named_in word_of name [] tool all is = cc
+named_in {T} word_of name (t ∷ ts) tool all is = by_test (bytes_eq name t.0) refl is (named_in word_of name ts tool all.1)
+  where
+    by_test : (same : Bool) → bytes_eq name t.0 ≡ same
+        → option_map (λ (t : List ℕ × T). t.1) (cond same (Some t) (find (λ (t : List ℕ × T). bytes_eq name t.0) ts))
+        ≡ Some tool
+        → (option_map (λ (t : List ℕ × T). t.1) (find (λ (t : List ℕ × T). bytes_eq name t.0) ts) ≡ Some tool
+        → name ≡ word_of tool)
+        → name ≡ word_of tool
+    by_test true same is later = (bytes_eq-Decides name t.0).0 same ∙ (all.0 ∙ ap word_of (some_same is))
+    by_test false same is later = later is
+
+-- The first word is the name of the tool, by which the specification of the command is that of its tool.
+pub spec_of_spelled : (words : List (List ℕ)) (c : Command) → SpellsCommand words c
+    → command_spec (tool_name words) c ≡ tool_spec c
+spec_of_spelled words c (Spelled name rest tool os operands named s allowed) =
+    ap (λ word. command_spec word c)
+    (named_in (λ tool. word_of_job (job tool os operands)) name tools tool (refl, (refl, (refl, (refl, (refl, (refl, tt))))))
+    named)
+    ∙ spec_same (word_of_job c.job) c
 
 -- the main theorem for arguments, if parsing did not run out of memory
 pub exact_for_args : {A : Type 0} (command : Result (code.Command A) UseFault) (words : List (List ℕ))

@@ -1,43 +1,55 @@
--- The specification of a command by functions of its inputs (`command_spec`) is that by its tool (`tool_spec`), which the
--- proofs of runs use. The whole output of a tool is what it decides of inputs that are known whole; of `uniq` also the
--- last run.
+-- The specification of a command by functions of its inputs (`command_spec`) is that by its tool (`spec_of_tool`),
+-- which the proofs of runs use. The whole output of a tool is what it decides of inputs that are known whole; of `uniq`
+-- also the last run.
 use Rattle.ptrun.proofs
 use Rattle.ptrun.specs
 use proofs.Common.{Bool, List, None, Option, Received, Some, [], ap, append-nil, arith, command_spec, empty_input, false}
-use proofs.Common.{flat_map, flat_map-append, is_in, map, option_map, position, refl, spec_of_tool, sym, tool_spec}
-use proofs.Common.{true, up_to_unended, ℕ, ◌++◌, ◌∙◌, ◌∷◌, ◌≡◌}
+use proofs.Common.{flat_map, flat_map-append, is_in, map, option_map, positions, refl, spec_of_tool}
+use proofs.Common.{true, up_to_unended, ℕ, ◌++◌, ◌+◌, ◌∙◌, ◌∷◌, ◌≡◌}
 use proofs.OperandInputs.{any_same}
+use proofs.SameLines.{in_turn_same, longest_whole}
 use proofs.SameMerges.{comm_same, join_same, reported_same, short}
+use proofs.SameTools.{cut_same, first_key_same, group_same, map_twice, paste_same, second_key_same, serial_same}
+use proofs.SameTools.{uniq_same}
 use mathlib.Core.Path.{fun_ext}
 use Rattle.std.proofs.Math.ListN.{get_or-map as get_or-map_any}
 use Rattle.std.specs.List.{last_or}
-use Rattle.std.specs.Prelude.{◌&&◌, filter, if◌then◌else◌, is_none, option_to_list, unwrap_or}
-use Rattle.ptflow.specs.Cuts.{cut, cut_decided}
-use Rattle.ptflow.specs.PasteText.{columns, is_row_known, paste, paste_decided, paste_serial, paste_serial_decided}
-use Rattle.ptflow.specs.PasteText.{row_at, rows_text}
+use Rattle.std.specs.Prelude.{◌&&◌, ◌*◌, ◌||◌, filter, if◌then◌else◌, is_none, is_some, length, option_to_list, sum_by}
+use Rattle.std.specs.Prelude.{unwrap_or}
+use Rattle.ptflow.specs.Cuts as old_cut
+use Rattle.ptflow.specs.PasteText as old_paste
+use Rattle.ptflow.specs.PasteText.{columns, is_row_known, paste, paste_serial, row_at, rows_text}
 use Rattle.ptflow.specs.TrOutput.{tr, tr_decided}
-use Rattle.ptflow.specs.Uniqs.{Run, init, output_of, runs, uniq, uniq_decided}
-use Rattle.ptlangs.specs.Jobs.{Paste, Uniq}
+use Rattle.ptflow.specs.Uniqs as old_uniq
+use Rattle.ptflow.specs.Uniqs.{Run, init, output_of, runs, uniq}
+use Rattle.ptlangs.specs.Jobs.{Comm, Join, Paste, Uniq}
 use Rattle.ptlines.specs.ByteOrder.{Cmp}
-use Rattle.ptlines.specs.Text.{lines}
+use Rattle.ptlines.specs.Slots.{total_bytes}
+use Rattle.ptlines.specs.Text.{lines, max_line_length, unlines}
 use Rattle.ptmerge.specs.Comm as old_comm
 use Rattle.ptmerge.specs.Comm.{comm_entries, itself}
 use Rattle.ptmerge.specs.Join as old_join
-use Rattle.ptmerge.specs.Join.{join_entries, join_key1, join_key2}
+use Rattle.ptmerge.specs.Join.{join_entries, join_key1, join_key2, max_over_keys}
 use Rattle.ptmerge.specs.MergeSpec.{Entries, Lines, MergeDisorder, disordered_line, entries_of_keys, is_up_to, merged}
 use Rattle.ptmerge.specs.MergeSpec.{merged_so_far, reported_disorder, sorted_prefix}
 use Rattle.ptmerge.specs.Orders.{Key, line_cmp}
-use Rattle.ptlines.specs.Text.{unlines}
+use Rattle.ptmerge.specs.declared.key_order.Side.{Side}
 use Rattle.ptmerge.specs.declared.key_order.Side.TheVariants.{First, Second}
 use Rattle.ptopts.specs.Commands.{Command, Job, RunComm, RunCut, RunJoin, RunPaste, RunTr, RunUniq}
-use specs.Bounds.{place_of}
-use specs.Decided.{all_received, bytes_of, has_unopened, operand, received_in, whole}
-use specs.Merges.{comm, comm_disorder, join, join_disorder}
-use specs.Files.{InputBytes, at, inputs_of_operands, opened_inputs, opened_values}
+use specs.Comm.{comm}
+use specs.Cut.{cut_decided}
+use specs.Decided.{all_received, has_unopened, input_of, inputs_in_turn, operand, received_in, whole}
+use specs.Files.{InputBytes, ReceivedInputs, at}
+use specs.Join.{join, join_key, max_group}
+use specs.Lines.{known_lines, longest, maximum}
+use specs.Paste.{paste_serial_decided}
+use specs.Uniq.{uniq_decided}
+use specs.Merges.{Disorder, disorder_of}
 use specs.Private.Engines.{line_at}
+use specs.Private.Messages.{disorder_status, disorder_text}
+use specs.Private.Operands.{bytes_of, inputs_of_operands, opened_inputs, opened_values}
 use specs.Private.Tools.{tool_of_job}
-use specs.Messages.{disorder_status, disorder_text}
-use specs.SpecOfArgs.{spec_of_job, word_of_job}
+use specs.SpecOfArgs.{text_of_disorder}
 
 -- ---- what is decided of inputs that are known whole
 
@@ -52,7 +64,7 @@ filter_all test [] all = refl
 filter_all test (x ∷ xs) all = rw (all x) (ap (λ l. x ∷ l) (filter_all test xs all))
 
 paste_whole : (job : Paste) (cells : List ℕ) (texts : ℕ → List ℕ)
-    → paste_decided job cells (λ p. whole (texts p)) ≡ paste job cells texts
+    → old_paste.paste_decided job cells (λ p. whole (texts p)) ≡ paste job cells texts
 paste_whole job cells texts =
     let cols = columns cells (λ input. lines job.terminator (texts input)) in
     ap (λ rs. rows_text job (map (row_at cols) rs)) (filter_all _ _ (all_known cols cells))
@@ -76,7 +88,7 @@ output_append : (job : Uniq) (rs ss : List Run) → output_of job rs ++ output_o
 output_append job rs ss = grind (arith, flat_map-append)
 
 uniq_whole : (job : Uniq) (bytes : List ℕ)
-    → uniq_decided job (whole bytes) ++ output_of job (option_to_list (last_or None (runs job (lines job.terminator bytes))))
+    → old_uniq.uniq_decided job (whole bytes) ++ output_of job (option_to_list (last_or None (runs job (lines job.terminator bytes))))
     ≡ uniq job bytes
 uniq_whole job bytes = let rs = runs job (lines job.terminator bytes) in
     output_append job (init rs) (option_to_list (last_or None rs)) ∙ ap (output_of job) (init_last rs)
@@ -124,7 +136,14 @@ opened_all : (w : InputBytes) (ps : List ℕ)
     → opened_inputs empty_input (all_received w) ps ≡ map whole (opened_inputs [] w ps)
 opened_all w ps = ap opened_values (inputs_all w [] ps) ∙ values_all (inputs_of_operands [] w [] ps)
 
--- ---- the output
+input_whole : (w : InputBytes) (ps : List ℕ) (side : Side)
+    → input_of (all_received w) ps side ≡ whole (bytes_of w (operand ps side))
+input_whole w ps side = ap (λ (f : ℕ → Received). f (operand ps side)) (received_all w)
+
+in_turn_whole : (w : InputBytes) (ps : List ℕ) → inputs_in_turn (all_received w) ps ≡ map whole (opened_inputs [] w ps)
+in_turn_whole w ps = in_turn_same (all_received w) ps ∙ opened_all w ps
+
+-- ---- tools that read one operand after another
 
 outputs_in_turn : (one : Received → List ℕ) (text : List ℕ → List ℕ) → ((bytes : List ℕ) → one (whole bytes) ≡ text bytes)
     → (xs : List (List ℕ)) → flat_map one (up_to_unended (map whole xs)) ≡ flat_map text xs
@@ -133,109 +152,229 @@ outputs_in_turn one text same (x ∷ xs) = λ i. same x i ++ outputs_in_turn one
 
 out_in_turn : (one : Received → List ℕ) (text : List ℕ → List ℕ) → ((bytes : List ℕ) → one (whole bytes) ≡ text bytes)
     → (w : InputBytes) (ps : List ℕ)
-    → flat_map one (up_to_unended (opened_inputs empty_input (all_received w) ps)) ++ []
-    ≡ flat_map text (opened_inputs [] w ps)
+    → flat_map one (up_to_unended (inputs_in_turn (all_received w) ps)) ++ [] ≡ flat_map text (opened_inputs [] w ps)
 out_in_turn one text same w ps = append-nil _
-    ∙ (ap (λ inputs. flat_map one (up_to_unended inputs)) (opened_all w ps)
+    ∙ (ap (λ inputs. flat_map one (up_to_unended inputs)) (in_turn_whole w ps)
     ∙ outputs_in_turn one text same (opened_inputs [] w ps))
+
+decided_in_turn : (one old : Received → List ℕ) → ((given : Received) → one given ≡ old given)
+    → (r : ReceivedInputs) (ps : List ℕ) → flat_map one (up_to_unended (inputs_in_turn r ps))
+    ≡ flat_map old (up_to_unended (opened_inputs empty_input r ps))
+decided_in_turn one old same r ps = λ i. flat_map (λ given. same given i) (up_to_unended (in_turn_same r ps i))
+
+bound_in_turn : (one : Received → ℕ) (size : List ℕ → ℕ) → ((bytes : List ℕ) → one (whole bytes) ≡ size bytes)
+    → (w : InputBytes) (ps : List ℕ)
+    → maximum (map one (inputs_in_turn (all_received w) ps)) ≡ maximum (map size (opened_inputs [] w ps))
+bound_in_turn one size same w ps = ap (λ inputs. maximum (map one inputs)) (in_turn_whole w ps)
+    ∙ (ap maximum (map_twice one whole (opened_inputs [] w ps))
+    ∙ ap (λ (size : List ℕ → ℕ). maximum (map size (opened_inputs [] w ps))) (fun_ext same))
+
+if_nil : (b : Bool) → ◌≡◌ {A = List ℕ} (if b then [] else []) []
+if_nil true = refl
+if_nil false = refl
+
+unopened_status : (b : Bool) → ◌≡◌ {A = ℕ} (if b || false then 1 else 0) (if b then 1 else 0)
+unopened_status true = refl
+unopened_status false = refl
+
+-- ---- tools that read their operands together
+
+if_same : {X : Type 0} (a b : Bool) (none x y : X) → a ≡ b → x ≡ y → (if a then none else x) ≡ (if b then none else y)
+if_same a b none x y test same = λ i. if test i then none else same i
 
 unless : (b : Bool) (xs last ys : List ℕ) → xs ++ last ≡ ys
     → (if b then [] else xs) ++ (if b then [] else last) ≡ (if b then [] else ys)
 unless true xs last ys same = refl
 unless false xs last ys same = same
 
-out_together : (w : InputBytes) (ps : List ℕ) (all : (ℕ → Received) → List ℕ) (last text : List ℕ)
-    → all (λ p. whole (bytes_of w p)) ++ last ≡ text
-    → (if has_unopened ps (all_received w) then [] else all (received_in (all_received w)))
-    ++ (if has_unopened ps w then [] else last) ≡ (if has_unopened ps w then [] else text)
+out_together : (w : InputBytes) (ps : List ℕ) (all last text : List ℕ) → all ++ last ≡ text
+    → (if has_unopened ps (all_received w) then [] else all) ++ (if has_unopened ps (all_received w) then [] else last)
+    ≡ (if has_unopened ps w then [] else text)
 out_together w ps all last text same =
-    ap (λ b. (if b then [] else all (received_in (all_received w))) ++ (if has_unopened ps w then [] else last))
-    (unopened_all w ps)
-    ∙ unless (has_unopened ps w) (all (received_in (all_received w))) last text (ap (λ f. all f ++ last) (received_all w) ∙ same)
-
-if_nil : (b : Bool) → ◌≡◌ {A = List ℕ} (if b then [] else []) []
-if_nil true = refl
-if_nil false = refl
+    unless (has_unopened ps (all_received w)) all last text same
+    ∙ ap (λ b. if b then [] else text) (unopened_all w ps)
 
 -- the output of a tool that has nothing to add at the end
-out_at_once : (w : InputBytes) (ps : List ℕ) (all : (ℕ → Received) → List ℕ) (text : List ℕ)
-    → all (λ p. whole (bytes_of w p)) ≡ text
-    → (if has_unopened ps (all_received w) then [] else all (received_in (all_received w))) ++ []
-    ≡ (if has_unopened ps w then [] else text)
-out_at_once w ps all text same =
-    ap (λ l. (if has_unopened ps (all_received w) then [] else all (received_in (all_received w))) ++ l)
-    (sym (if_nil (has_unopened ps w)))
-    ∙ out_together w ps all [] text (append-nil _ ∙ same)
+out_at_once : (w : InputBytes) (ps : List ℕ) (all text : List ℕ) → all ≡ text
+    → (if has_unopened ps (all_received w) then [] else all) ++ [] ≡ (if has_unopened ps w then [] else text)
+out_at_once w ps all text same = append-nil _ ∙ if_same _ _ [] all text (unopened_all w ps) same
 
-place_same : (ps : List ℕ) (found : Option MergeDisorder)
-    → place_of ps (option_map short found) ≡ option_map (line_at (operand ps)) (option_map disordered_line found)
+number_together : (w : InputBytes) (ps : List ℕ) (all size : ℕ) → all ≡ size
+    → (if has_unopened ps (all_received w) then 0 else all) ≡ (if has_unopened ps w then 0 else size)
+number_together w ps all size same = if_same _ _ 0 all size (unopened_all w ps) same
+
+-- ---- lines out of order
+
+place : List ℕ → Disorder → ℕ × ℕ
+place ps d = (operand ps d.file, d.line)
+
+place_same : (ps : List ℕ) (found : Option MergeDisorder) → option_map (place ps) (option_map short found)
+    ≡ option_map (line_at (operand ps)) (option_map disordered_line found)
+unfolding place
 place_same ps None = refl
 place_same ps (Some d) = refl
 
+status_same : (ps : List ℕ) (unopened : Bool) (found : Option Disorder)
+    → (if unopened || is_some found then 1 else 0)
+    ≡ (if unopened then 1 else disorder_status (option_map (place ps) found))
+status_same ps true found = refl
+status_same ps false None = refl
+status_same ps false (Some d) = refl
+
+text_same : (word : List ℕ) (names : List (List ℕ)) (ps : List ℕ) (found : Option Disorder)
+    → text_of_disorder word names ps found ≡ disorder_text word names (option_map (place ps) found)
+unfolding place
+text_same word names ps None = refl
+text_same word names ps (Some d) = refl
+
+both_whole : (w : InputBytes) (ps : List ℕ) → input_of (all_received w) ps ≡ (λ side. whole (bytes_of w (operand ps side)))
+both_whole w ps = fun_ext (input_whole w ps)
+
+comm_place : (job : Comm) (w : InputBytes) (ps : List ℕ)
+    → option_map (place ps) (disorder_of (comm job) (input_of (all_received w) ps))
+    ≡ option_map (line_at (operand ps)) (option_map disordered_line
+    (old_comm.comm_disorder job (bytes_of w (operand ps First)) (bytes_of w (operand ps Second))))
+comm_place job w ps =
+    ap (λ (given : Side → Received). option_map (place ps) (disorder_of (comm job) given)) (both_whole w ps)
+    ∙ (ap (option_map (place ps)) (reported_same (comm job) (λ side. whole (bytes_of w (operand ps side))))
+    ∙ place_same ps _)
+
+join_place : (job : Join) (w : InputBytes) (ps : List ℕ)
+    → option_map (place ps) (disorder_of (join job) (input_of (all_received w) ps))
+    ≡ option_map (line_at (operand ps)) (option_map disordered_line
+    (old_join.join_disorder job (bytes_of w (operand ps First)) (bytes_of w (operand ps Second))))
+join_place job w ps =
+    ap (λ (given : Side → Received). option_map (place ps) (disorder_of (join job) given)) (both_whole w ps)
+    ∙ (ap (option_map (place ps)) (reported_same (join job) (λ side. whole (bytes_of w (operand ps side))))
+    ∙ (place_same ps _ ∙ (λ i. option_map (line_at (operand ps)) (option_map disordered_line
+    (reported_disorder (line_cmp job.descending) (first_key_same job i) (second_key_same job i)
+    (lines job.terminator (bytes_of w (operand ps First))) (lines job.terminator (bytes_of w (operand ps Second))))))))
+
+-- ---- bounds
+
+longest_input : (t : ℕ) (w : InputBytes) (ps : List ℕ) (side : Side)
+    → longest t (input_of (all_received w) ps side) ≡ max_line_length t (bytes_of w (operand ps side))
+longest_input t w ps side = ap (longest t) (input_whole w ps side) ∙ longest_whole t (bytes_of w (operand ps side))
+
+longest_columns : (t : ℕ) (w : InputBytes) (ps : List ℕ)
+    → sum_by (λ p. longest t (received_in (all_received w) p)) ps ≡ sum_by (λ p. max_line_length t (bytes_of w p)) ps
+longest_columns t w ps = ap (λ (size : ℕ → ℕ). sum_by size ps)
+    (fun_ext (λ p. ap (λ (f : ℕ → Received). longest t (f p)) (received_all w) ∙ longest_whole t (bytes_of w p)))
+
+group_whole : (measure : Lines → ℕ) (job : Join) (w : InputBytes) (ps : List ℕ)
+    → max_group measure (join_key job Second) (known_lines job.terminator (input_of (all_received w) ps Second))
+    ≡ max_over_keys measure (join_key2 job) (lines job.terminator (bytes_of w (operand ps Second)))
+    (lines job.terminator (bytes_of w (operand ps Second)))
+group_whole measure job w ps =
+    ap (λ g. max_group measure (join_key job Second) (known_lines job.terminator g)) (input_whole w ps Second)
+    ∙ group_same measure job (lines job.terminator (bytes_of w (operand ps Second)))
+
 -- ---- the specification
 
-spec_of_paste : (job : Paste) (serial : Bool) (names : List (List ℕ)) (ps : List ℕ)
-    → spec_of_job (RunPaste (record job { serial = serial })) names ps
-    ≡ spec_of_tool (word_of_job (RunPaste job)) (tool_of_job (RunPaste (record job { serial = serial }))) names ps
-spec_of_paste job true names ps = λ i. record (spec_of_job (RunPaste (record job { serial = true })) names ps) {
-  out = λ w. out_in_turn (paste_serial_decided job) (paste_serial job) (λ bytes. refl) w ps i;
-  final_message = λ w. if_nil (has_unopened ps w) i;
-}
-spec_of_paste job false names ps = λ i. record (spec_of_job (RunPaste (record job { serial = false })) names ps) {
-  out = λ w. out_at_once w ps (paste_decided job ps) _ (paste_whole job ps (bytes_of w)) i;
-}
+spec_of_paste : (word : List ℕ) (job : Paste) (serial : Bool) (c : Command)
+    → command_spec word (record c { job = RunPaste (record job { serial = serial }) })
+    ≡ spec_of_tool word (tool_of_job (RunPaste (record job { serial = serial }))) c.names
+    (positions c.order)
+spec_of_paste word job true c = let ps = positions c.order in
+    λ i. record (command_spec word (record c { job = RunPaste (record job { serial = true }) })) {
+      out = λ w. out_in_turn (paste_serial_decided job) (paste_serial job) (λ bytes. refl) w ps i;
+      status = λ w. unopened_status (has_unopened ps w) i;
+      memory_bound = λ w. bound_in_turn (longest job.terminator) (max_line_length job.terminator)
+          (longest_whole job.terminator) w ps i;
+      slot_bound = λ w. bound_in_turn (λ given. 0) (λ bytes. 0) (λ bytes. refl) w ps i;
+      decided = λ r. decided_in_turn (paste_serial_decided job) (old_paste.paste_serial_decided job) (serial_same job) r ps i;
+      sequential = Some (λ given. serial_same job given i);
+      final_message = λ w. if_nil (has_unopened ps w) i;
+    }
+spec_of_paste word job false c = let ps = positions c.order in
+    λ i. record (command_spec word (record c { job = RunPaste (record job { serial = false }) })) {
+      out = λ w. out_at_once w ps _ _ (paste_same job ps (received_in (all_received w))
+          ∙ (ap (old_paste.paste_decided job ps) (received_all w) ∙ paste_whole job ps (bytes_of w))) i;
+      status = λ w. status_same ps (has_unopened ps w) None i;
+      memory_bound = λ w. number_together w ps _ _ (longest_columns job.terminator w ps) i;
+      slot_bound = λ w. number_together w ps (length ps) (length ps) refl i;
+      decided = λ r. if has_unopened ps r then [] else paste_same job ps (received_in r) i;
+    }
 
-same_job : (job : Job) (names : List (List ℕ)) (ps : List ℕ)
-    → spec_of_job job names ps ≡ spec_of_tool (word_of_job job) (tool_of_job job) names ps
-same_job (RunCut job) names ps = λ i. record (spec_of_job (RunCut job) names ps) {
-  out = λ w. out_in_turn (cut_decided job) (cut job) (λ bytes. refl) w ps i;
-  final_message = λ w. if_nil (has_unopened ps w) i;
-}
-same_job (RunTr m) names ps = λ i. record (spec_of_job (RunTr m) names ps) {
-  out = λ w. out_in_turn (tr_decided m) (tr m) (λ bytes. refl) w ps i;
-  final_message = λ w. if_nil (has_unopened ps w) i;
-}
-same_job (RunPaste job) names ps = spec_of_paste job job.serial names ps
-same_job (RunUniq job) names ps = λ i. record (spec_of_job (RunUniq job) names ps) {
-  out = λ w. out_together w ps (λ given. uniq_decided job (given (operand ps First))) _ _
-      (uniq_whole job (bytes_of w (operand ps First))) i;
-}
-same_job (RunComm job) names ps =
-    let first : InputBytes → List ℕ = λ w. bytes_of w (operand ps First) in
-    let second : InputBytes → List ℕ = λ w. bytes_of w (operand ps Second) in
-    let place : (w : InputBytes) → place_of ps (comm_disorder job (first w) (second w))
-    ≡ option_map (line_at (operand ps)) (option_map disordered_line (old_comm.comm_disorder job (first w) (second w))) = λ w.
-    ap (place_of ps) (reported_same (line_cmp job.descending) itself itself
-    (lines job.terminator (first w)) (lines job.terminator (second w))) ∙ place_same ps _ in
-    λ i. record (spec_of_job (RunComm job) names ps) {
-      out = λ w. out_at_once w ps
-          (λ given. comm job (given (operand ps First)) (given (operand ps Second))) _
-          (comm_same job (whole (first w)) (whole (second w))
+same_job : (word : List ℕ) (job : Job) (c : Command) → command_spec word (record c { job = job })
+    ≡ spec_of_tool word (tool_of_job job) c.names (positions c.order)
+same_job word (RunCut job) c = let ps = positions c.order in
+    λ i. record (command_spec word (record c { job = RunCut job })) {
+      out = λ w. out_in_turn (cut_decided job) (old_cut.cut job) (λ bytes. refl) w ps i;
+      status = λ w. unopened_status (has_unopened ps w) i;
+      memory_bound = λ w. bound_in_turn (longest job.terminator) (max_line_length job.terminator)
+          (longest_whole job.terminator) w ps i;
+      slot_bound = λ w. bound_in_turn (λ given. if job.fields then 1 else 0) (λ bytes. if job.fields then 1 else 0)
+          (λ bytes. refl) w ps i;
+      decided = λ r. decided_in_turn (cut_decided job) (old_cut.cut_decided job) (cut_same job) r ps i;
+      sequential = Some (λ given. cut_same job given i);
+      final_message = λ w. if_nil (has_unopened ps w) i;
+    }
+same_job word (RunTr m) c = let ps = positions c.order in
+    λ i. record (command_spec word (record c { job = RunTr m })) {
+      out = λ w. out_in_turn (tr_decided m) (tr m) (λ bytes. refl) w ps i;
+      status = λ w. unopened_status (has_unopened ps w) i;
+      memory_bound = λ w. bound_in_turn (λ given. 0) (λ bytes. 0) (λ bytes. refl) w ps i;
+      slot_bound = λ w. bound_in_turn (λ given. 0) (λ bytes. 0) (λ bytes. refl) w ps i;
+      decided = λ r. decided_in_turn (tr_decided m) (tr_decided m) (λ given. refl) r ps i;
+      final_message = λ w. if_nil (has_unopened ps w) i;
+    }
+same_job word (RunPaste job) c = spec_of_paste word job job.serial c
+same_job word (RunUniq job) c = let ps = positions c.order in
+    λ i. record (command_spec word (record c { job = RunUniq job })) {
+      out = λ w. out_together w ps (uniq_decided job (input_of (all_received w) ps First))
+          (output_of job (option_to_list (last_or None (runs job
+          (known_lines job.terminator (input_of (all_received w) ps First))))))
+          (uniq job (bytes_of w (operand ps First)))
+          (ap (λ g. uniq_decided job g ++ output_of job (option_to_list (last_or None (runs job (known_lines job.terminator g)))))
+          (input_whole w ps First)
+          ∙ (ap (λ l. l ++ output_of job (option_to_list (last_or None (runs job (lines job.terminator
+          (bytes_of w (operand ps First)))))))
+          (uniq_same job (whole (bytes_of w (operand ps First))))
+          ∙ uniq_whole job (bytes_of w (operand ps First)))) i;
+      status = λ w. status_same ps (has_unopened ps w) None i;
+      memory_bound = λ w. number_together w ps _ _ (ap (λ n. 2 * n) (longest_input job.terminator w ps First)) i;
+      slot_bound = λ w. number_together w ps 2 2 refl i;
+      decided = λ r. if has_unopened ps r then [] else uniq_same job (input_of r ps First) i;
+    }
+same_job word (RunComm job) c = let ps = positions c.order in
+    λ i. record (command_spec word (record c { job = RunComm job })) {
+      out = λ w. out_at_once w ps _ _
+          (comm_same job (input_of (all_received w) ps)
+          ∙ (ap (λ (given : Side → Received). old_comm.comm_decided job (given First) (given Second)) (both_whole w ps)
           ∙ ap (unlines job.terminator) (merged_whole (line_cmp job.descending) itself itself (comm_entries job)
-          (lines job.terminator (first w)) (lines job.terminator (second w)))) i;
-      decided = λ r. if has_unopened ps r then [] else
-          comm_same job (received_in r (operand ps First)) (received_in r (operand ps Second)) i;
-      status = λ w. if has_unopened ps w then 1 else disorder_status (place w i);
-      final_message = λ w. if has_unopened ps w then [] else disorder_text (word_of_job (RunComm job)) names (place w i);
+          (lines job.terminator (bytes_of w (operand ps First))) (lines job.terminator (bytes_of w (operand ps Second)))))) i;
+      status = λ w. (status_same ps (has_unopened ps w) (disorder_of (comm job) (input_of (all_received w) ps))
+          ∙ ap (λ found. if has_unopened ps w then 1 else disorder_status found) (comm_place job w ps)) i;
+      memory_bound = λ w. number_together w ps _ _
+          (λ i. 2 * longest_input job.terminator w ps First i + 2 * longest_input job.terminator w ps Second i) i;
+      slot_bound = λ w. number_together w ps 4 4 refl i;
+      decided = λ r. if has_unopened ps r then [] else comm_same job (input_of r ps) i;
+      final_message = λ w. if has_unopened ps w then [] else
+          (text_same word c.names ps (disorder_of (comm job) (input_of (all_received w) ps))
+          ∙ ap (disorder_text word c.names) (comm_place job w ps)) i;
     }
-same_job (RunJoin job) names ps =
-    let first : InputBytes → List ℕ = λ w. bytes_of w (operand ps First) in
-    let second : InputBytes → List ℕ = λ w. bytes_of w (operand ps Second) in
-    let place : (w : InputBytes) → place_of ps (join_disorder job (first w) (second w))
-    ≡ option_map (line_at (operand ps)) (option_map disordered_line (old_join.join_disorder job (first w) (second w))) = λ w.
-    ap (place_of ps) (reported_same (line_cmp job.descending) (join_key1 job) (join_key2 job)
-    (lines job.terminator (first w)) (lines job.terminator (second w))) ∙ place_same ps _ in
-    λ i. record (spec_of_job (RunJoin job) names ps) {
-      out = λ w. out_at_once w ps
-          (λ given. join job (given (operand ps First)) (given (operand ps Second))) _
-          (join_same job (whole (first w)) (whole (second w))
-          ∙ ap (unlines job.terminator) (merged_whole (line_cmp job.descending) (join_key1 job) (join_key2 job) (join_entries job)
-          (lines job.terminator (first w)) (lines job.terminator (second w)))) i;
-      decided = λ r. if has_unopened ps r then [] else
-          join_same job (received_in r (operand ps First)) (received_in r (operand ps Second)) i;
-      status = λ w. if has_unopened ps w then 1 else disorder_status (place w i);
-      final_message = λ w. if has_unopened ps w then [] else disorder_text (word_of_job (RunJoin job)) names (place w i);
+same_job word (RunJoin job) c = let ps = positions c.order in
+    λ i. record (command_spec word (record c { job = RunJoin job })) {
+      out = λ w. out_at_once w ps _ _
+          (join_same job (input_of (all_received w) ps)
+          ∙ (ap (λ (given : Side → Received). old_join.join_decided job (given First) (given Second)) (both_whole w ps)
+          ∙ ap (unlines job.terminator) (merged_whole (line_cmp job.descending) (join_key1 job) (join_key2 job)
+          (join_entries job)
+          (lines job.terminator (bytes_of w (operand ps First))) (lines job.terminator (bytes_of w (operand ps Second)))))) i;
+      status = λ w. (status_same ps (has_unopened ps w) (disorder_of (join job) (input_of (all_received w) ps))
+          ∙ ap (λ found. if has_unopened ps w then 1 else disorder_status found) (join_place job w ps)) i;
+      memory_bound = λ w. number_together w ps _ _
+          (λ i. (2 * longest_input job.terminator w ps First i + 2 * longest_input job.terminator w ps Second i)
+          + (if job.pairs then group_whole total_bytes job w ps i else 0)) i;
+      slot_bound = λ w. number_together w ps _ _
+          (λ i. 4 + (if job.pairs then group_whole length job w ps i else 0)) i;
+      decided = λ r. if has_unopened ps r then [] else join_same job (input_of r ps) i;
+      final_message = λ w. if has_unopened ps w then [] else
+          (text_same word c.names ps (disorder_of (join job) (input_of (all_received w) ps))
+          ∙ ap (disorder_text word c.names) (join_place job w ps)) i;
     }
 
-pub spec_same : (c : Command) → command_spec c ≡ tool_spec c
-spec_same c = same_job c.job c.names (map position c.order)
+pub spec_same : (word : List ℕ) (c : Command)
+    → command_spec word c ≡ spec_of_tool word (tool_of_job c.job) c.names (positions c.order)
+spec_same word c = same_job word c.job c

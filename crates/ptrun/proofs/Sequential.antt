@@ -17,11 +17,13 @@ use proofs.Common.{up_to_unended, usual, ℕ, ⊎_elim, ◌++◌, ◌+◌, ◌<�
 use proofs.MessageWrites.{said_nothing}
 use proofs.OperandInputs.{IsAtEof, IsEndedAt, OpenedInput, all_earlier, any_before, any_now, completion_with}
 use proofs.OperandInputs.{consistent_before, consistent_bytes, decided_inputs, fresh_all, holds_more, is_in-same}
+use proofs.SameLines.{in_turn_same}
 use proofs.OperandInputs.{last_earlier, least_bytes, least_consistent, maximum-append, none_received, not_more}
 use proofs.OperandInputs.{nothing_read, nth_here, opened_inputs_none, opened_inputs_some, opened_receives, received_at}
 use proofs.OperandInputs.{received_of, said_more, sends_after, sends_now}
 use specs.Private.Driver.{fault_at}
-use specs.Files.{IsNewOrUnopened, at, input_of_operand, inputs_of_operands, opened_inputs, opened_values}
+use specs.Files.{IsNewOrUnopened, at}
+use specs.Private.Operands.{input_of_operand, inputs_of_operands, opened_inputs, opened_values}
 use specs.Private.Sequential.{sequential_bound, sequential_decided, sequential_output, sequential_slots, sequential_spec}
 use Rattle.std.proofs.Math.Seq.{take-append-add, take-append_seam, take-length}
 
@@ -114,7 +116,8 @@ module _ {word : List ℕ} {t : ToolSpec} {names : List (List ℕ)} {old : List 
       is_prefix = grind (arith, append-nil);
       names_failed_read = λ q failed clean. absurd (none q failed);
       decided_is_written = λ q failed clean. absurd (none q failed);
-      bounded_lag = search (rules, all_taken, all_earlier, processing, sends_now);
+      bounded_lag = rw (in_turn_same, all_taken) (all_earlier t (opened_inputs empty_input k.inputs_read done)
+          (λ bytes. IsPushedUpToBlock bytes was is k.pushed) (search (rules, processing, sends_now)));
       peak = λ w agrees. (k.bounds w agrees).0;
       slots = λ w agrees. (k.bounds w agrees).1;
     })
@@ -418,6 +421,7 @@ module _ {word : List ℕ} {t : ToolSpec} {names : List (List ℕ)} {old : List 
               (e.call.decided_is_written tt refl here clean);
           bounded_lag =
               rw (
+                in_turn_same,
                 take-append-add done (p ∷ more) 1,
                 opened_inputs_some _ _ _ p [] given_here input_given,
               )

@@ -8,13 +8,13 @@ use mathlib.Core.Bool.{true≢false}
 use Rattle.std.specs.List.{list_any}
 use Rattle.ptrun.proofs.SameSpecs.{spec_same}
 use Rattle.ptrun.specs.Files.{is_unopened}
-use Rattle.ptrun.specs.CommandSpec.{unopened_messages}
-use Rattle.ptrun.specs.Messages.{disorder_status, disorder_text, string_word, kind_word, usage_message}
+use Rattle.ptrun.specs.Messages.{string_word, kind_word}
+use Rattle.ptrun.specs.Private.Messages.{disorder_status, disorder_text, unopened_messages, usage_message}
 use Rattle.ptrun.specs.Private.Tools.{ToolInRun, OneByOne, Together, spec_of_tool, tool_of_job}
 use Rattle.ptopts.specs.Faults.{Fault, NoTool, Unknown, NeedsValue, Twice, Together as Conflict, Value, Operands}
 use Rattle.ptopts.specs.Faults.{StandardTwice, NeedsList, InString}
 use Rattle.ptopts.specs.Commands.{Command, command_of_args}
-use Rattle.ptrun.specs.SpecOfArgs.{spec_of_result, word_of_job, tool_name}
+use Rattle.ptrun.specs.SpecOfArgs.{spec_of_result, tool_name}
 use Rattle.ptrun.specs.Laws.Silence.{SilentIfZero, IsSilentIfZero}
 
 not_empty : (xs : List ℕ) → xs ++ 10 ∷ [] ≡ [] → ⊥
@@ -91,7 +91,7 @@ usage_not_empty tool (InString fault) e =
 
 of_result : (tool : List ℕ) (r : Result Command Fault) → IsSilentIfZero (spec_of_result tool r)
 of_result tool (Ok c) w =
-    subst (λ m. IsSilentIfZero m) (sym (spec_same c)) (of_tool (word_of_job c.job) c.names (tool_of_job c.job) _) w
+    subst (λ m. IsSilentIfZero m) (sym (spec_same tool c)) (of_tool tool c.names (tool_of_job c.job) _) w
 of_result tool (Err fault) w =
     (λ e. absurd (omega (arith, e)), λ e. absurd (usage_not_empty tool fault e))
 

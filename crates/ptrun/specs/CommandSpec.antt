@@ -1,7 +1,7 @@
 -- The requirements on one command, in terms of the bytes of its inputs. The inputs have positions: 0 is standard
 -- input, and `i` + 1 the `i`-th file. And what they say of a run: its messages, the operands that it has read to
 -- their ends, and when something was left to do.
-use Rattle.std.specs.Prelude.{◌≡◌, ◌≢◌, ◌⊎◌, ℕ, ◌==◌, Option, List, [], ◌++◌, Bool, true, flat_map, is_none, length}
+use Rattle.std.specs.Prelude.{◌≡◌, ◌≢◌, ◌⊎◌, ℕ, ◌+◌, ◌==◌, Option, List, [], ◌++◌, Bool, true, flat_map, is_none, length}
 use Rattle.std.specs.Prelude.{take, if◌then◌else◌}
 use Rattle.ptlines.specs.Readers.{Reader}
 use Rattle.ptlines.specs.Received.{Received}
@@ -20,8 +20,7 @@ pub record CommandSpec : Type 0 where
   pub keeps_groups : Bool
   -- the output that is decided by what was received, regardless of the bytes that follow
   pub decided : ReceivedInputs → List ℕ
-  -- what of its output is decided by one operand, if the tool reads them one after another; `None` if it reads them
-  -- together
+  -- what one operand decides, if they are read one after another
   pub sequential : Option (Received → List ℕ)
   -- the message after those about unopened files: that about a line out of order, or empty
   pub final_message : InputBytes → List ℕ
@@ -29,21 +28,16 @@ pub record CommandSpec : Type 0 where
   pub reads_nothing : (ℕ → Bool) → Bool
   -- whether the tool accepts operands at these positions
   pub accepts : Bool
-  -- the positions of the operands in order, and those that may have been read once `n` operands are done
+  -- the positions of the operands, in order
   pub positions : List ℕ
-  pub may_touch : ℕ → List ℕ
   -- the name of the tool, and the names of the files
   pub tool : List ℕ
   pub names : List (List ℕ)
 
--- A message for each position that passes the test, in order: its file could not be opened.
-abbrev pub unopened_messages : List ℕ → List (List ℕ) → (ℕ → Bool) → List ℕ → List ℕ
-unopened_messages tool names test positions =
-    flat_map (λ p. if test p then unopened_message tool (name_of names p) else []) positions
-
--- The messages about the first `n` operands: one for each that could not be opened.
+-- A message for each of the first `n` operands that is unopened.
 abbrev pub operand_messages : CommandSpec → InputBytes → ℕ → List ℕ
-operand_messages m w n = unopened_messages m.tool m.names (is_unopened w) (take n m.positions)
+operand_messages m w n =
+    flat_map (λ p. if is_unopened w p then unopened_message m.tool (name_of m.names p) else []) (take n m.positions)
 
 -- All messages of a run in which no call fails.
 abbrev pub messages : CommandSpec → InputBytes → List ℕ
@@ -55,6 +49,10 @@ abbrev pub ended_operands : CommandSpec → ℕ → ℕ → List ℕ
 ended_operands m n status =
     if is_none m.sequential then (if status == 0 then m.positions else []) else take n m.positions
 
+-- The positions that may have been read once `n` operands are done.
+abbrev pub may_touch : CommandSpec → ℕ → List ℕ
+may_touch m n = if is_none m.sequential then m.positions else take (n + 1) m.positions
+
 -- The written bytes are not the whole output, regardless of the bytes that follow in the inputs.
 abbrev pub IsUnwritten : CommandSpec → ReceivedInputs → List ℕ → Type 0
 IsUnwritten m r written = (w : InputBytes) → AreInputsConsistent r w → written ≢ m.out w
@@ -64,4 +62,4 @@ IsUnwritten m r written = (w : InputBytes) → AreInputsConsistent r w → writt
 -- some output was left to write.
 abbrev pub IsUnfinished : CommandSpec → ReceivedInputs → List Reader → List ℕ → ℕ → Type 0
 IsUnfinished m r new written n =
-    IsOneUnended new (m.may_touch n) ⊎ ((m.keeps_groups ≡ true) × IsUnwritten m r written)
+    IsOneUnended new (may_touch m n) ⊎ ((m.keeps_groups ≡ true) × IsUnwritten m r written)

@@ -1,29 +1,32 @@
 -- The output of a command: what is decided by what was received of its inputs. The whole output is what is decided by
 -- inputs that are known whole; of `uniq` also the last run, which goes on until the input ends.
-use Rattle.std.specs.Prelude.{ℕ, Bool, true, false, List, [], ◌∷◌, ◌++◌, Option, None, map, unwrap_or, slice_index_or}
-use Rattle.std.specs.Prelude.{option_map, option_to_list, if◌then◌else◌}
-use Rattle.std.specs.List.{flat_map, last_or, list_any}
+use Rattle.std.specs.Prelude.{ℕ, Bool, true, List, [], ◌∷◌, ◌++◌, Option, Some, None, map, take, unwrap_or}
+use Rattle.std.specs.Prelude.{filter_map, is_some, option_map, option_to_list, slice_index_or, if◌then◌else◌}
+use Rattle.std.specs.Option.{option_map_or}
+use Rattle.std.specs.List.{enumerate_from, flat_map, last_or, list_any}
+use Rattle.ptlines.specs.Engines.{is_in}
 use Rattle.ptlines.specs.Received.{Received, empty_input}
-use Rattle.ptlines.specs.Text.{lines}
-use Rattle.ptflow.specs.Cuts.{cut_decided}
-use Rattle.ptflow.specs.PasteText.{paste_decided, paste_serial_decided}
 use Rattle.ptflow.specs.TrOutput.{tr_decided}
-use Rattle.ptflow.specs.Uniqs.{output_of, runs, uniq_decided}
+use Rattle.ptflow.specs.Uniqs.{output_of, runs}
 use Rattle.ptmerge.specs.declared.key_order.Side.{Side}
 use Rattle.ptmerge.specs.declared.key_order.Side.TheVariants.{First, Second}
 use Rattle.ptopts.specs.Commands.{Job, RunComm, RunCut, RunJoin, RunPaste, RunTr, RunUniq}
-use Rattle.ptrun.specs.Files.{InputBytes, ReceivedInputs, at, is_unopened, opened_inputs}
-use Rattle.ptrun.specs.Merges.{comm, join}
-
--- Whether the tool reads its operands one after another, and skips those that could not be opened. Otherwise it reads
--- them together, and writes nothing if one of them could not be opened.
-abbrev pub reads_in_turn : Job → Bool
-reads_in_turn (RunCut job) = true
-reads_in_turn (RunTr m) = true
-reads_in_turn (RunPaste job) = job.serial
-reads_in_turn _ = false
+use Rattle.ptrun.specs.Comm.{comm}
+use Rattle.ptrun.specs.Cut.{cut_decided}
+use Rattle.ptrun.specs.Files.{InputBytes, ReceivedInputs, at, is_unopened}
+use Rattle.ptrun.specs.Join.{join}
+use Rattle.ptrun.specs.Lines.{known_lines}
+use Rattle.ptrun.specs.Merges.{merged}
+use Rattle.ptrun.specs.Paste.{paste_decided, paste_serial_decided}
+use Rattle.ptrun.specs.Uniq.{uniq_decided}
 
 -- ---- inputs
+
+-- The operands' inputs that were opened. One read before is empty.
+abbrev pub inputs_in_turn : ReceivedInputs → List ℕ → List Received
+inputs_in_turn r positions =
+    filter_map (λ (c : ℕ × ℕ). option_map (λ g. if is_in (take c.0 positions) c.1 then empty_input else g) (at r c.1))
+    (enumerate_from 0 positions)
 
 -- The inputs up to and including the first whose end was not reached.
 abbrev pub up_to_unended : List Received → List Received
@@ -35,13 +38,13 @@ abbrev pub operand : List ℕ → Side → ℕ
 operand positions First = slice_index_or positions 0 0
 operand positions Second = slice_index_or positions 1 0
 
--- The bytes of the input at a position.
-abbrev pub bytes_of : InputBytes → ℕ → List ℕ
-bytes_of w position = unwrap_or (at w position) []
-
 -- The received part of the input at a position.
 abbrev pub received_in : ReceivedInputs → ℕ → Received
 received_in r position = unwrap_or (at r position) empty_input
+
+-- That of the first or of the second operand.
+abbrev pub input_of : ReceivedInputs → List ℕ → Side → Received
+input_of r positions side = received_in r (operand positions side)
 
 -- An operand could not be opened.
 abbrev pub has_unopened : {X : Type 0} → List ℕ → List (Option X) → Bool
@@ -57,39 +60,39 @@ all_received w = map (λ input. option_map whole input) w
 
 -- ---- output
 
--- The output that is decided by what was received of one operand, for a tool that reads them one after another.
-abbrev pub decided_of_one : Job → Received → List ℕ
-decided_of_one (RunCut job) given = cut_decided job given
-decided_of_one (RunTr m) given = tr_decided m given
-decided_of_one (RunPaste job) given = paste_serial_decided job given
-decided_of_one _ given = []
+-- The output that is decided by what was received of one operand, for a tool that reads them one after another, and
+-- skips those that could not be opened. Other tools read them together, and write nothing if one could not be opened.
+abbrev pub decided_of_one : Job → Option (Received → List ℕ)
+decided_of_one (RunCut job) = Some (cut_decided job)
+decided_of_one (RunTr m) = Some (tr_decided m)
+decided_of_one (RunPaste job) = if job.serial then Some (paste_serial_decided job) else None
+decided_of_one _ = None
 
--- The output that is decided by what was received of all operands, for a tool that reads them together. The inputs of
--- the operands are those at these positions.
-abbrev pub decided_of_all : Job → List ℕ → (ℕ → Received) → List ℕ
-decided_of_all (RunPaste job) positions given = paste_decided job positions given
-decided_of_all (RunUniq job) positions given = uniq_decided job (given (operand positions First))
-decided_of_all (RunComm job) positions given =
-    comm job (given (operand positions First)) (given (operand positions Second))
-decided_of_all (RunJoin job) positions given =
-    join job (given (operand positions First)) (given (operand positions Second))
-decided_of_all _ positions given = []
+-- The tool reads its operands one after another.
+abbrev pub reads_in_turn : Job → Bool
+reads_in_turn job = is_some (decided_of_one job)
+
+-- The output that is decided, for a tool that reads them together.
+abbrev pub decided_of_all : Job → List ℕ → ReceivedInputs → List ℕ
+decided_of_all (RunPaste job) positions r = paste_decided job positions (received_in r)
+decided_of_all (RunUniq job) positions r = uniq_decided job (input_of r positions First)
+decided_of_all (RunComm job) positions r = merged (comm job) (input_of r positions)
+decided_of_all (RunJoin job) positions r = merged (join job) (input_of r positions)
+decided_of_all _ positions r = []
 
 -- The output that is decided by what was received. If operands are read in turn, nothing is decided after the first
 -- input whose end was not reached.
 abbrev pub decided : Job → List ℕ → ReceivedInputs → List ℕ
-decided job positions r =
-    if reads_in_turn job then flat_map (decided_of_one job) (up_to_unended (opened_inputs empty_input r positions))
-    else (if has_unopened positions r then [] else decided_of_all job positions (received_in r))
+decided job positions r = let inputs = up_to_unended (inputs_in_turn r positions) in
+    option_map_or (λ (one : Received → List ℕ). flat_map one inputs) (decided_of_one job)
+    (if has_unopened positions r then [] else decided_of_all job positions r)
 
--- The output that only the end of the input decides: that of the last run of `uniq`.
-abbrev pub at_end : Job → List ℕ → InputBytes → List ℕ
-at_end (RunUniq job) positions w =
-    if has_unopened positions w then []
-    else output_of job (option_to_list
-    (last_or None (runs job (lines job.terminator (bytes_of w (operand positions First))))))
-at_end _ positions w = []
+-- What only the end of the input decides: the last run of `uniq`.
+abbrev pub at_end : Job → List ℕ → ReceivedInputs → List ℕ
+at_end (RunUniq job) positions r = let ls = known_lines job.terminator (input_of r positions First) in
+    if has_unopened positions r then [] else output_of job (option_to_list (last_or None (runs job ls)))
+at_end _ positions r = []
 
 -- The output.
-abbrev pub output : Job → List ℕ → InputBytes → List ℕ
-output job positions w = decided job positions (all_received w) ++ at_end job positions w
+abbrev pub output : Job → List ℕ → ReceivedInputs → List ℕ
+output job positions r = decided job positions r ++ at_end job positions r

@@ -1,8 +1,7 @@
 -- The inputs of a command by position, and what was received from them. Position 0 is standard input, and `i` + 1 is
--- the `i`-th file. Then the inputs of operands, and the readers by position: new, read to their ends, failed, or with
--- these bytes to give.
-use Rattle.std.specs.Prelude.{◌≡◌, ℕ, ◌+◌, ◌<◌, ◌≤◌, ◌^◌, List, [], ◌∷◌, ◌++◌, Bool, true, false, Option, Some}
-use Rattle.std.specs.Prelude.{None, IfSome, if◌then◌else◌, slice_index_or, option_map, filter_map, is_none, length, ⊤, All}
+-- the `i`-th file. Then the readers by position: new, read to their ends, failed, or with these bytes to give.
+use Rattle.std.specs.Prelude.{◌≡◌, ℕ, ◌+◌, ◌<◌, ◌≤◌, ◌^◌, List, [], Bool, true, false, Option, Some, None, IfSome}
+use Rattle.std.specs.Prelude.{slice_index_or, is_none, length, ⊤, All}
 use Rattle.ptlines.specs.Engines.{is_in}
 use Rattle.ptlines.specs.Readers.{Reader, IsDone, remaining_bytes, reader_at}
 use Rattle.ptlines.specs.Received.{Received, HasReceived}
@@ -35,27 +34,6 @@ IsConsistentAt (Some g) (Some bytes) = one.IsConsistent g bytes
 -- received from each other input is a prefix of its bytes, and all of them if its end was reached.
 abbrev pub AreInputsConsistent : ReceivedInputs → InputBytes → Type 0
 AreInputsConsistent r w = (position : ℕ) → IsConsistentAt (at r position) (at w position)
-
--- ---- operands, as positions
-
--- The input of an operand: that at its position, or `rest` if an operand before it has read that input.
-abbrev pub input_of_operand : {X : Type 0} → X → List (Option X) → List ℕ → ℕ → Option X
-input_of_operand rest xs before position = option_map (λ x. if is_in before position then rest else x) (at xs position)
-
--- The inputs of operands in order; `before` are the positions of the operands before them.
-abbrev pub inputs_of_operands : {X : Type 0} → X → List (Option X) → List ℕ → List ℕ → List (Option X)
-inputs_of_operands rest xs before [] = []
-inputs_of_operands rest xs before (p ∷ ps) =
-    input_of_operand rest xs before p ∷ inputs_of_operands rest xs (before ++ p ∷ []) ps
-
--- The inputs among these that were opened.
-abbrev pub opened_values : {X : Type 0} → List (Option X) → List X
-opened_values os = filter_map (λ o. o) os
-
--- The inputs of the operands that were opened, in order. Of an input that was read by an earlier operand only `rest` is
--- left.
-abbrev pub opened_inputs : {X : Type 0} → X → List (Option X) → List ℕ → List X
-opened_inputs rest xs positions = opened_values (inputs_of_operands rest xs [] positions)
 
 -- ---- readers
 
@@ -111,7 +89,7 @@ abbrev pub IsTooLong : Option Received → Type 0
 IsTooLong None = ⊥
 IsTooLong (Some g) = 2 ^ 63 ≤ length g.bytes
 
--- The reader has these bytes to give, fewer than 2^63; or its file could not be opened.
+-- It has these bytes to give, fewer than 2^63; or could not be opened.
 abbrev pub HasBytesAt : Reader → Option (List ℕ) → Type 0
 HasBytesAt r None = r.refused ≡ true
 HasBytesAt r (Some bytes) = (r.refused ≡ false) × (remaining_bytes r ≡ Some bytes) × (length bytes < 2 ^ 63)

@@ -4,10 +4,10 @@ use Rattle.std.specs.Prelude.{◌≡◌, ◌≤◌, ℕ, ◌+◌, Bool, true, fa
 use Rattle.std.specs.Prelude.{flat_map, take, set}
 use Rattle.ptlines.specs.Engines.{is_in}
 use Rattle.ptlines.specs.Lag.{LaggedInput}
-use Rattle.ptlines.specs.Received.{IsPrefix, Received, empty_input}
+use Rattle.ptlines.specs.Received.{IsPrefix, Received}
 use Rattle.ptrun.specs.CommandSpec.{CommandSpec}
-use Rattle.ptrun.specs.Files.{ReceivedInputs, at, opened_inputs}
-use Rattle.ptrun.specs.Decided.{up_to_unended}
+use Rattle.ptrun.specs.Files.{ReceivedInputs, at}
+use Rattle.ptrun.specs.Decided.{inputs_in_turn, up_to_unended}
 use Rattle.ptlines.specs.declared.sizes.TheConstants.{BLOCK}
 
 -- `bytes` were written: all of them, or after a failed write all except at most one block (8,192 bytes).
@@ -21,7 +21,7 @@ pub record IsWrittenUpToBlock (bytes written : List ℕ) (failed : Bool) : Type 
 
 -- The received parts of the first `n` operands and of the next one, in order.
 abbrev pub received_so_far : ReceivedInputs → List ℕ → ℕ → List Received
-received_so_far r positions n = opened_inputs empty_input r (take (n + 1) positions)
+received_so_far r positions n = inputs_in_turn r (take (n + 1) positions)
 
 -- `P` holds of the output that was decided when at most two blocks fewer of the last input were received. The inputs
 -- before it count whole.

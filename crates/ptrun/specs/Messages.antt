@@ -1,5 +1,5 @@
 -- The texts of the messages. Each ends with newline.
-use Rattle.std.specs.Prelude.{ℕ, ◌-◌, ◌==◌, List, [], ◌∷◌, ◌++◌, map, Option, Some, None, codes, decimal, encode_utf8}
+use Rattle.std.specs.Prelude.{ℕ, ◌-◌, ◌==◌, List, [], ◌∷◌, codes, decimal, encode_utf8}
 use Rattle.std.specs.Prelude.{if◌then◌else◌, slice_index_or}
 use Rattle.ptflow.specs.declared.faults.FlowFault.{FlowFault}
 use Rattle.ptflow.specs.declared.faults.FlowFault.TheVariants.{Memory, Read, Write}
@@ -8,7 +8,6 @@ use Rattle.ptlangs.specs.declared.faults.SetFaultKind.{SetFaultKind}
 use Rattle.ptlangs.specs.declared.faults.SetString.{SetString}
 use Rattle.ptopts.specs.Faults.{Fault, InString, NeedsList, NeedsValue, NoTool, Operands, StandardTwice, Together}
 use Rattle.ptopts.specs.Faults.{Twice, Unknown, Value}
-use Rattle.ptopts.specs.Syntax.{tools}
 use Rattle.ptrun.specs.MessageWrites.{line_of}
 use Rattle.ptlangs.specs.declared.faults.SetFaultKind.TheVariants as kind
 use Rattle.ptlangs.specs.declared.faults.SetString.TheVariants as string
@@ -18,7 +17,7 @@ abbrev pub string_word : SetString → List ℕ
 string_word string.First = codes "string1"
 string_word string.Second = codes "string2"
 
--- The reason why a string operand of `tr` is invalid, in one word. A lack of memory has a message of its own.
+-- The reason why a string operand of `tr` is invalid, in one word.
 abbrev pub kind_word : SetFaultKind → List ℕ
 kind_word kind.Empty = codes "empty"
 kind_word kind.Octal = codes "octal"
@@ -37,20 +36,9 @@ abbrev pub string_fault_text : SetFault → List ℕ
 string_fault_text fault =
     line_of (codes "tr: wrong " ∷ string_word fault.string ∷ codes ": " ∷ kind_word fault.kind ∷ [])
 
--- A list as in a sentence, `a, b or c`, that begins with `name`.
-abbrev pub or_list_from : List ℕ → List (List ℕ) → List ℕ
-or_list_from name [] = name
-or_list_from name (next ∷ []) = name ++ codes " or " ++ next
-or_list_from name (next ∷ after ∷ more) = name ++ codes ", " ++ or_list_from next (after ∷ more)
-
--- The names as in a sentence, `a, b or c`.
-abbrev pub or_list : List (List ℕ) → List ℕ
-or_list [] = []
-or_list (name ∷ names) = or_list_from name names
-
 -- The message about a usage fault in the arguments of `tool`.
 abbrev pub usage_text : List ℕ → Fault → List ℕ
-usage_text tool NoTool = line_of (codes "ptext: first word: " ∷ or_list (map (λ t. t.0) tools) ∷ [])
+usage_text tool NoTool = line_of (codes "ptext: first word: " ∷ codes "cut, paste, join, comm, uniq or tr" ∷ [])
 usage_text tool (Unknown word) = line_of (tool ∷ codes ": unknown option in " ∷ word ∷ [])
 usage_text tool (NeedsValue l) = line_of (tool ∷ codes ": option -" ∷ encode_utf8 l ∷ codes " needs a value" ∷ [])
 usage_text tool (Twice l) = line_of (tool ∷ codes ": option -" ∷ encode_utf8 l ∷ codes " is given twice" ∷ [])
@@ -68,13 +56,7 @@ usage_text tool (InString fault) = string_fault_text fault
 abbrev pub memory_message : List ℕ → List ℕ
 memory_message tool = line_of (tool ∷ codes ": out of memory" ∷ [])
 
--- The message about arguments that are no command: that about the usage fault, or that about a lack of memory while
--- they were parsed (`None`).
-abbrev pub usage_message : List ℕ → Option Fault → List ℕ
-usage_message tool None = memory_message tool
-usage_message tool (Some fault) = usage_text tool fault
-
--- The name of the input at a position: `standard input` at 0, and that of the file elsewhere.
+-- The name of the input at a position: `standard input` at 0, that of the file elsewhere.
 abbrev pub name_of : List (List ℕ) → ℕ → List ℕ
 name_of names position = if position == 0 then codes "standard input" else slice_index_or names (position - 1) []
 
@@ -82,23 +64,13 @@ name_of names position = if position == 0 then codes "standard input" else slice
 abbrev pub unopened_message : List ℕ → List ℕ → List ℕ
 unopened_message tool name = line_of (tool ∷ codes ": " ∷ name ∷ codes ": cannot be opened" ∷ [])
 
--- The message about a line out of order, by the position of its input and its number, counted from 1.
+-- The message about a line out of order. Lines count from 1.
 abbrev pub disorder_message : List ℕ → List (List ℕ) → ℕ → ℕ → List ℕ
 disorder_message tool names position line =
     line_of (tool ∷ codes ": " ∷ name_of names position ∷ codes ": line " ∷ decimal line ∷ codes " is out of order"
     ∷ [])
 
--- The message about a line out of order, if there is one.
-abbrev pub disorder_text : List ℕ → List (List ℕ) → Option (ℕ × ℕ) → List ℕ
-disorder_text word names None = []
-disorder_text word names (Some found) = disorder_message word names found.0 found.1
-
--- The exit status: 1 if a line is out of order.
-abbrev pub disorder_status : Option (ℕ × ℕ) → ℕ
-disorder_status None = 0
-disorder_status (Some found) = 1
-
--- The message about a failed call. A failed read names the input at its position.
+-- The message about a failed call. A failed read names its input.
 abbrev pub fault_message : List ℕ → List (List ℕ) → FlowFault → List ℕ
 fault_message tool names (Read position) =
     line_of (tool ∷ codes ": " ∷ name_of names position ∷ codes ": read failed" ∷ [])

@@ -6,5 +6,6 @@ pub mod Engines
 pub mod Joint
 pub mod Lag
 pub mod Messages
+pub mod Operands
 pub mod Sequential
 pub mod Tools

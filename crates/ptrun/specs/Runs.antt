@@ -9,7 +9,7 @@ use Rattle.ptlines.specs.Readers.{Reader, reader_at}
 use Rattle.ptlines.specs.Received.{IsPrefix}
 use Rattle.ptlines.specs.Sinks.{SinkState, flushes_after}
 use Rattle.ptlines.specs.Slots.{Slots}
-use Rattle.ptrun.specs.CommandSpec.{CommandSpec, IsUnfinished, ended_operands, messages, operand_messages}
+use Rattle.ptrun.specs.CommandSpec.{CommandSpec, IsUnfinished, ended_operands, may_touch, messages, operand_messages}
 use Rattle.ptrun.specs.Files.{AreInputsConsistent, AreReadToEnd, HasBytes, HasReadFailed, HaveReceived, InputBytes}
 use Rattle.ptrun.specs.Files.{IsTooLong, ReceivedInputs, at, is_reader_unopened}
 use Rattle.ptrun.specs.Lag.{HasBoundedLag, IsWrittenUpToBlock}
@@ -42,15 +42,6 @@ outcome out messages r =
 
 -- ---- how a run ended
 
--- All operands are done, the whole output was pushed, and no call failed.
-pub record IsComplete (m : CommandSpec) (r : ReceivedInputs) (old new : List Reader) (pushed : List ℕ)
-    (failed denied : Bool) (operands_done : ℕ) : Type 0 where
-  pub all : operands_done ≡ length m.positions
-  pub out : (w : InputBytes) → AreInputsConsistent r w → pushed ≡ m.out w
-  pub no_write_failed : failed ≡ false
-  pub not_denied : denied ≡ false
-  pub read : (position : ℕ) → HasReadFailed old new position ⊎ IsTooLong (at r position) → ⊥
-
 -- The reported failure happened. A failed read is that of operand `n`, whose input no earlier operand names; if a write
 -- failed or memory ran out, no read is reported.
 abbrev pub HasCause : CommandSpec → ReceivedInputs → List Reader → List Reader → Bool → Bool → ℕ → FlowFault → Type 0
@@ -60,61 +51,62 @@ HasCause m r old new failed denied n (Read p) =
 HasCause m r old new failed denied n Write = failed ≡ true
 HasCause m r old new failed denied n Memory = (denied ≡ true) × (failed ≡ false)
 
--- The run stopped after `n` operands: its messages are those about these operands and the one about the failure.
-pub record IsStopped (m : CommandSpec) (r : ReceivedInputs) (old new : List Reader) (message : List ℕ)
-    (o : Outcome) (n : ℕ) (fault : FlowFault) : Type 0 where
-  pub within : n ≤ length m.positions
-  pub messages : (w : InputBytes) → AreInputsConsistent r w
-      → message ≡ operand_messages m w n ++ fault_message m.tool m.names fault
-  pub cause : HasCause m r old new o.out.failed o.denied n fault
-  pub status_is : o.status ≡ 1
-
--- How a run ended: with the whole output, its messages and its status, or with a failure.
+-- How a run ended: no call failed, and it has all output, with the messages and the status of the command; or it
+-- stopped after `n` operands, with the messages about these and the one about a failure.
 abbrev pub RunEnd : CommandSpec → ReceivedInputs → List Reader → List Reader → List ℕ → List ℕ → Outcome → ℕ
     → Option FlowFault → Type 0
 RunEnd m r old new written message o n None =
-    IsComplete m r old new written o.out.failed o.denied n
-    × ((w : InputBytes) → AreInputsConsistent r w → (message ≡ messages m w) × (o.status ≡ m.status w))
-RunEnd m r old new written message o n (Some fault) = IsStopped m r old new message o n fault
+    (n ≡ length m.positions) × (o.out.failed ≡ false) × (o.denied ≡ false)
+    × ((position : ℕ) → HasReadFailed old new position ⊎ IsTooLong (at r position) → ⊥)
+    × ((w : InputBytes) → AreInputsConsistent r w
+    → (written ≡ m.out w) × (message ≡ messages m w) × (o.status ≡ m.status w))
+RunEnd m r old new written message o n (Some fault) =
+    (n ≤ length m.positions) × (o.status ≡ 1) × HasCause m r old new o.out.failed o.denied n fault
+    × ((w : InputBytes) → AreInputsConsistent r w → message ≡ operand_messages m w n ++ fault_message m.tool m.names fault)
 
 -- ---- a run
 
--- The postcondition of a run.
-pub record IsRun (m : CommandSpec) (old new : List Reader) (before : Sinks) (o : Outcome) : Type 0 where
-  -- what was received from the inputs, the bytes that reached the output, all flushed unless a write failed, and the
-  -- messages
-  pub received : ReceivedInputs
-  pub came : HaveReceived old new received
-  pub written : List ℕ
-  pub output : o.out.accepted ≡ append_known before.out.accepted written
+-- What a run does beyond output, messages, status and memory.
+pub record IsRunBeyond (m : CommandSpec) (received : ReceivedInputs) (old new : List Reader) (before : Sinks)
+    (o : Outcome) (written : List ℕ) (operands_done : ℕ) (fault : Option FlowFault) : Type 0 where
+  -- all output was flushed unless a write failed
   pub flushed : before.out.unflushed ≡ false → o.out.failed ≡ false → o.out.unflushed ≡ false
   -- unless nothing was to be read, the output was flushed exactly once, or never if a write or the flush failed
   pub flushes : m.reads_nothing (is_reader_unopened old) ≡ false
       → o.out.flushes ≡ (if o.out.failed then before.out.flushes else flushes_after before.out.flushes)
+  -- the inputs that were not begun are unchanged
+  pub untouched : (position : ℕ) → is_in (may_touch m operands_done) position ≡ false
+      → reader_at new position ≡ reader_at old position
+  -- operands that are done were read to their end
+  pub ended : AreReadToEnd new (ended_operands m operands_done o.status)
+  -- if memory ran out, something was left to do
+  pub left : fault ≡ Some Memory → IsUnfinished m received new written operands_done
+  -- after any failure, all output that was decided two blocks of input earlier is written, except for at most one block
+  -- after a failed write
+  pub bounded_lag : HasBoundedLag m received operands_done (λ decided. IsWrittenUpToBlock decided written o.out.failed)
+
+-- What holds of a run.
+pub record IsRun (m : CommandSpec) (old new : List Reader) (before : Sinks) (o : Outcome) : Type 0 where
+  -- what was received from the inputs, the bytes that reached the output, and the messages
+  pub received : ReceivedInputs
+  pub came : HaveReceived old new received
+  pub written : List ℕ
+  pub output : o.out.accepted ≡ append_known before.out.accepted written
   pub message : List ℕ
   pub has_said : HasSaid before.messages o.messages message
   -- the number of operands that are done, and the failure after them, if any
   pub operands_done : ℕ
   pub fault : Option FlowFault
   pub ends : RunEnd m received old new written message o operands_done fault
-  -- the inputs that were not begun are unchanged
-  pub untouched : (position : ℕ) → is_in (m.may_touch operands_done) position ≡ false
-      → reader_at new position ≡ reader_at old position
-  -- operands that are done were read to their end
-  pub ended : AreReadToEnd new (ended_operands m operands_done o.status)
-  -- if memory ran out, something was left to do
-  pub left : fault ≡ Some Memory → IsUnfinished m received new written operands_done
-  -- the output is a prefix of the command's output, regardless of the bytes that follow in the inputs
+  -- whatever bytes follow in the inputs: the output is a prefix of the command's, and the memory is bounded
   pub is_prefix : (w : InputBytes) → AreInputsConsistent received w → IsPrefix written (m.out w)
+  pub bounded : (w : InputBytes) → AreInputsConsistent received w → o.peak ≤ m.memory_bound w
   -- a failed read is reported, and all output that was decided by then is written, unless a write failed
   pub names_failed_read : (position : ℕ) → HasReadFailed old new position → o.out.failed ≡ false
       → fault ≡ Some (Read position)
   pub decided_is_written : (position : ℕ) → HasReadFailed old new position → o.out.failed ≡ false
       → IsPrefix (m.decided received) written
-  -- after any failure, all output that was decided two blocks of input earlier is written, except for at most one block
-  -- after a failed write
-  pub bounded_lag : HasBoundedLag m received operands_done (λ decided. IsWrittenUpToBlock decided written o.out.failed)
-  pub bounded : (w : InputBytes) → AreInputsConsistent received w → o.peak ≤ m.memory_bound w
+  pub beyond : IsRunBeyond m received old new before o written operands_done fault
 
 -- The postcondition of a run with a lent store: besides, the store has no more slots than the command needs for its
 -- inputs, or than it had before.

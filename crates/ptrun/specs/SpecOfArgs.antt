@@ -1,17 +1,17 @@
 -- From the arguments of a command to its specification.
-use Rattle.std.specs.Prelude.{ℕ, List, [], Bool, true, false, Option, Some, None, Result, Ok, Err, codes, length}
-use Rattle.std.specs.Prelude.{slice_index_or, is_none, if◌then◌else◌}
-use Rattle.ptopts.specs.Commands.{Command, Job, RunComm, RunCut, RunJoin, RunPaste, RunTr, RunUniq, command_of_args}
-use Rattle.ptopts.specs.Commands.{command_view}
+use Rattle.std.specs.Prelude.{ℕ, List, [], Bool, true, false, ◌||◌, Option, Some, None, Result, Ok, Err, length}
+use Rattle.std.specs.Prelude.{slice_index_or, is_none, is_some, if◌then◌else◌}
+use Rattle.ptopts.specs.Commands.{Command, command_of_args, command_view}
 use Rattle.ptopts.specs.Faults.{Fault}
 use Rattle.ptopts.specs.View.{fault_view}
 use Rattle.ptopts.specs.declared.fault.UseFault.{UseFault}
 use Rattle.ptrun.specs.CommandSpec.{CommandSpec}
 use Rattle.ptrun.specs.Bounds.{bound, disorder}
-use Rattle.ptrun.specs.Decided.{bytes_of, decided, decided_of_one, has_unopened, output, reads_in_turn}
-use Rattle.ptrun.specs.Messages.{disorder_status, disorder_text, usage_message}
+use Rattle.ptrun.specs.Decided.{all_received, decided, decided_of_one, has_unopened, operand, output}
+use Rattle.ptrun.specs.Merges.{Disorder}
+use Rattle.ptrun.specs.Messages.{disorder_message, memory_message, usage_text}
 use Rattle.ptrun.specs.Operands.{positions}
-use Rattle.ptrun.specs.Slots.{accepts, keeps_groups, may_touch, reads_nothing, slot_bound}
+use Rattle.ptrun.specs.Slots.{accepts, keeps_groups, reads_nothing, slot_bound}
 use Rattle.ptopts.specs.declared.command.Command as code
 
 -- Nothing is read, nothing is written to the output, and `text` is the only message.
@@ -28,43 +28,33 @@ message_only text status = record {
   reads_nothing = λ is_unopened_at. true;
   accepts = true;
   positions = [];
-  may_touch = λ n. [];
   tool = [];
   names = [];
 }
 
--- The name of this tool.
-abbrev pub word_of_job : Job → List ℕ
-word_of_job (RunCut job) = codes "cut"
-word_of_job (RunPaste job) = codes "paste"
-word_of_job (RunUniq job) = codes "uniq"
-word_of_job (RunComm job) = codes "comm"
-word_of_job (RunJoin job) = codes "join"
-word_of_job (RunTr m) = codes "tr"
+-- The message about a disorder, if there is one.
+abbrev pub text_of_disorder : List ℕ → List (List ℕ) → List ℕ → Option Disorder → List ℕ
+text_of_disorder tool names operands None = []
+text_of_disorder tool names operands (Some d) = disorder_message tool names (operand operands d.file) d.line
 
--- The specification of a job, with operands at these positions and files of these names.
-abbrev pub spec_of_job : Job → List (List ℕ) → List ℕ → CommandSpec
-spec_of_job job names operands = record {
-  out = output job operands;
-  status = λ w. if has_unopened operands w then 1 else disorder_status (disorder job operands (bytes_of w));
-  memory_bound = bound job operands;
-  slot_bound = slot_bound job operands;
-  keeps_groups = keeps_groups job;
-  decided = decided job operands;
-  sequential = if reads_in_turn job then Some (decided_of_one job) else None;
-  final_message = λ w. if has_unopened operands w then [] else disorder_text (word_of_job job) names
-      (disorder job operands (bytes_of w));
-  reads_nothing = reads_nothing job operands;
-  accepts = accepts job operands;
+-- The specification of a command of the tool with this name.
+abbrev pub command_spec : List ℕ → Command → CommandSpec
+command_spec tool c = let operands = positions c.order in record {
+  out = λ w. output c.job operands (all_received w);
+  status = λ w. if has_unopened operands w || is_some (disorder c.job operands (all_received w)) then 1 else 0;
+  memory_bound = λ w. bound c.job operands (all_received w);
+  slot_bound = λ w. slot_bound c.job operands (all_received w);
+  keeps_groups = keeps_groups c.job;
+  decided = decided c.job operands;
+  sequential = decided_of_one c.job;
+  final_message = λ w. if has_unopened operands w then [] else
+      text_of_disorder tool c.names operands (disorder c.job operands (all_received w));
+  reads_nothing = reads_nothing c.job operands;
+  accepts = accepts c.job operands;
   positions = operands;
-  may_touch = may_touch job operands;
-  tool = word_of_job job;
-  names = names;
+  tool = tool;
+  names = c.names;
 }
-
--- The specification of a parsed command.
-abbrev pub command_spec : Command → CommandSpec
-command_spec c = spec_of_job c.job c.names (positions c.order)
 
 -- The name of the tool: the first argument, or empty if there is none.
 abbrev pub tool_name : List (List ℕ) → List ℕ
@@ -72,8 +62,8 @@ tool_name words = slice_index_or words 0 []
 
 -- The specification for a result of parsing: that of the command, or the message about the usage fault with status 2.
 abbrev pub spec_of_result : List ℕ → Result Command Fault → CommandSpec
-spec_of_result tool (Ok command) = command_spec command
-spec_of_result tool (Err fault) = message_only (usage_message tool (Some fault)) 2
+spec_of_result tool (Ok command) = command_spec tool command
+spec_of_result tool (Err fault) = message_only (usage_text tool fault) 2
 
 -- The specification of the command that these arguments are.
 abbrev pub spec_of_args : List (List ℕ) → CommandSpec
@@ -88,7 +78,7 @@ is_memory_fault (Err fault) = is_none (fault_view fault)
 -- status 1.
 abbrev pub spec_unless_memory : List (List ℕ) → Bool → CommandSpec
 spec_unless_memory words out_of_memory =
-    if out_of_memory then message_only (usage_message (tool_name words) None) 1 else spec_of_args words
+    if out_of_memory then message_only (memory_message (tool_name words)) 1 else spec_of_args words
 
 -- The specification for the arguments and the result that parsing returned.
 abbrev pub spec_of_parsed : {A : Type 0} → Result (code.Command A) UseFault → List (List ℕ) → CommandSpec

@@ -292,23 +292,23 @@ module _ {A : Type 0} (words : List (List ℕ)) (input : List ℕ) (files : Inpu
         ⊎ ((h.ran.run.run.message ≡ messages m (w false)) × (false ≡ false) × (o.denied ≡ false)
         × (out.rest.failed ≡ false) × (has_failed file ≡ false))
     cause_of n None ends =
-        let fine = d.failed ends.0.no_write_failed in
-        inr ((ends.1 (w false) (are_consistent false h)).0, refl, ends.0.not_denied, fine.0, fine.1)
+        let fine = d.failed ends.1 in
+        inr ((ends.4 (w false) (are_consistent false h)).1, refl, ends.2, fine.0, fine.1)
     cause_of n (Some Memory) ends = inl (record {
       operands = n;
       fault = Memory;
       of_memory = tt;
-      text_is = ends.messages (w false) (are_consistent false h);
+      text_is = ends.3 (w false) (are_consistent false h);
     })
     cause_of n (Some Write) ends = inl (record {
       operands = n;
       fault = Write;
       of_memory = tt;
-      text_is = ends.messages (w false) (are_consistent false h);
+      text_is = ends.3 (w false) (are_consistent false h);
     })
     cause_of n (Some (Read p)) ends = absurd (⊎_elim (λ failed. no_read_fails (h.failures p failed))
         (λ long. not_too_long (reader_at (new_readers (source_of input) h.inputs) p) (at h.ran.run.run.received p)
-        (at (w false) p) (are_consistent false h p) (old_bytes false h p) long) ends.cause.2)
+        (at (w false) p) (are_consistent false h p) (old_bytes false h p) long) ends.2.2)
 
     ran_over : Ran words (w false) (filling_bytes out ++ bytes_of_file file) (filling_bytes messages') o.status false
         o.denied out.rest.failed (has_failed file) messages'.rest.failed
@@ -354,9 +354,9 @@ module _ {A : Type 0} (words : List (List ℕ)) (input : List ℕ) (files : Inpu
             → RunEnd (spec_unless_memory words true) h.ran.run.run.received (new_readers (source_of input) h.inputs) h.new
             h.ran.run.run.written h.ran.run.run.message (record o { out = h.ran.sink_after }) n fault
             → h.ran.run.run.message ≡ memory_message (tool_name words)
-        text_of n None ends = (ends.1 (w true) (are_consistent true h)).0
-        text_of n (Some Memory) ends = absurd (true≢false (sym ends.cause.0 ∙ unread.1.2))
-        text_of n (Some Write) ends = absurd (true≢false (sym ends.cause
+        text_of n None ends = (ends.4 (w true) (are_consistent true h)).1
+        text_of n (Some Memory) ends = absurd (true≢false (sym ends.2.0 ∙ unread.1.2))
+        text_of n (Some Write) ends = absurd (true≢false (sym ends.2
             ∙ ap (λ (s : SinkState). s.failed) (unread.1.0 ∙ h.ran.directed.1)))
         text_of n (Some (Read p)) ends = absurd cc
 

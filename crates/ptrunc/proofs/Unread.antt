@@ -14,10 +14,6 @@ use Rattle.ptopts.specs.Private.Commands.{command_of_tool}
 use Rattle.ptopts.specs.declared.inputs.Input.TheVariants.{File, Standard}
 use Rattle.ptopts.specs.Syntax.{tools}
 use Rattle.ptrun.specs.Files.{InputBytes, is_reader_unopened}
-use Rattle.ptrun.specs.Bounds.{disorder}
-use Rattle.ptrun.specs.Decided.{bytes_of, has_unopened}
-use Rattle.ptrun.specs.Messages.{disorder_status}
-use Rattle.ptrun.specs.Operands.{positions}
 use Rattle.ptrun.specs.SpecOfArgs.{spec_of_args, spec_of_result, spec_unless_memory, tool_name}
 use Rattle.ptfiles.specs.Files.{AreContents, Content, Input, new_readers}
 use Rattle.ptfiles.specs.Shell.{command_to_run, has_standard_output, input_names, name_of_output, output_names}
@@ -157,16 +153,13 @@ nothing_is_read words false standard inputs count content are some none =
 
 -- ---- the status of a command
 
-status_of_run : (unopened : Bool) (found : Option (ℕ × ℕ))
-    → ◌≡◌ {A = ℕ} (if unopened then 1 else disorder_status found) 4 → ⊥
-status_of_run true found is = absurd (omega (arith, is))
-status_of_run false None is = absurd (omega (arith, is))
-status_of_run false (Some line) is = absurd (omega (arith, is))
+status_of_run : (failed : Bool) → ◌≡◌ {A = ℕ} (if failed then 1 else 0) 4 → ⊥
+status_of_run true is = absurd (omega (arith, is))
+status_of_run false is = absurd (omega (arith, is))
 
 pub status_is_low : (words : List (List ℕ)) (w : InputBytes) → (spec_of_args words).status w ≡ 4 → ⊥
 status_is_low words w = of_result (command_of_args words)
   where
     of_result : (r : Result Command Fault) → (spec_of_result (tool_name words) r).status w ≡ 4 → ⊥
-    of_result (Ok c) is = let operands = positions c.order in
-        status_of_run (has_unopened operands w) (disorder c.job operands (bytes_of w)) is
+    of_result (Ok c) is = status_of_run _ is
     of_result (Err fault) is = absurd (omega (arith, is))

@@ -28,7 +28,7 @@ module _ {old new : List Reader} {before : Sinks} {o : Outcome} where
   -- `f` or `g`, except that about the failure.
   stops_at_f : (k : IsRun (spec_of_args (words "cut -c 1 f g")) old new before o) → (reader_at new 1).refused ≡ false
       → (reader_at new 1).eof ≡ false → k.operands_done ≡ 0
-  stops_at_f k opened going = by_count k.operands_done k.ended
+  stops_at_f k opened going = by_count k.operands_done k.beyond.ended
     where
       by_count : (n : ℕ) → AreReadToEnd new (take n (1 ∷ 2 ∷ [])) → n ≡ 0
       by_count zero ended = refl
@@ -37,7 +37,7 @@ module _ {old new : List Reader} {before : Sinks} {o : Outcome} where
   -- and `g` is unchanged
   leaves_g : (k : IsRun (spec_of_args (words "cut -c 1 f g")) old new before o) → (reader_at new 1).refused ≡ false
       → (reader_at new 1).eof ≡ false → reader_at new 2 ≡ reader_at old 2
-  leaves_g k opened going = by_count k.operands_done (stops_at_f k opened going) k.untouched
+  leaves_g k opened going = by_count k.operands_done (stops_at_f k opened going) k.beyond.untouched
     where
       by_count : (n : ℕ) → n ≡ 0
           → ((p : ℕ) → list_any (λ q. q == p) (take (n + 1) (1 ∷ 2 ∷ [])) ≡ false → reader_at new p ≡ reader_at old p)
@@ -53,8 +53,8 @@ module _ {old new : List Reader} {before : Sinks} {o : Outcome} where
       by_fault : (fault : Option FlowFault)
           → RunEnd (spec_of_args (words "tr -d a")) k.received old new k.written k.message o k.operands_done fault
           → IsDone (reader_at new 0)
-      by_fault None ends = (rw ends.0.all at k.ended) 0 refl opened
-      by_fault (Some fault) ends = absurd (omega (arith, ends.status_is, well))
+      by_fault None ends = (rw ends.0 at k.beyond.ended) 0 refl opened
+      by_fault (Some fault) ends = absurd (omega (arith, ends.1, well))
 
   -- Memory does not run out once standard input has ended.
   needs_no_memory_at_the_end : (k : IsRun (spec_of_args (words "cut -f 1")) old new before o) → IsDone (reader_at new 0)
@@ -62,7 +62,7 @@ module _ {old new : List Reader} {before : Sinks} {o : Outcome} where
   needs_no_memory_at_the_end k ended memory = ⊎_elim
       (λ (p, named, opened, unended). by_position p
       (is_zero p (rw (take_all {A = ℕ} (k.operands_done + 1) (0 ∷ []) (omega arith)) at named)) unended)
-      (λ (keeps, unwritten). false≢true keeps) (k.left memory)
+      (λ (keeps, unwritten). false≢true keeps) (k.beyond.left memory)
     where
       is_zero : (p : ℕ) → ((0 == p) || false) ≡ true → p ≡ 0
       is_zero p named = ⊎_elim (λ same. sym same.1)
@@ -76,20 +76,20 @@ module _ {old new : List Reader} {before : Sinks} {o : Outcome} where
       → IsDone (reader_at new 1) → IsDone (reader_at new 2) → k.fault ≡ Some Memory → ⊥
   paste_needs_no_memory_at_the_end k first second memory = ⊎_elim
       (λ (p, named, opened, unended). unended (one_of_two (λ q. IsDone (reader_at new q)) p named first second))
-      (λ (keeps, unwritten). false≢true keeps) (k.left memory)
+      (λ (keeps, unwritten). false≢true keeps) (k.beyond.left memory)
 
   comm_needs_no_memory_at_the_end : (k : IsRun (spec_of_args (words "comm f g")) old new before o)
       → IsDone (reader_at new 1) → IsDone (reader_at new 2) → k.fault ≡ Some Memory → ⊥
   comm_needs_no_memory_at_the_end k first second memory = ⊎_elim
       (λ (p, named, opened, unended). unended (one_of_two (λ q. IsDone (reader_at new q)) p named first second))
-      (λ (keeps, unwritten). false≢true keeps) (k.left memory)
+      (λ (keeps, unwritten). false≢true keeps) (k.beyond.left memory)
 
   -- Nor for a `join` that writes no pairs.
   join_without_pairs_needs_no_memory_at_the_end : (k : IsRun (spec_of_args (words "join -v 1 f g")) old new before o)
       → IsDone (reader_at new 1) → IsDone (reader_at new 2) → k.fault ≡ Some Memory → ⊥
   join_without_pairs_needs_no_memory_at_the_end k first second memory = ⊎_elim
       (λ (p, named, opened, unended). unended (one_of_two (λ q. IsDone (reader_at new q)) p named first second))
-      (λ (keeps, unwritten). false≢true keeps) (k.left memory)
+      (λ (keeps, unwritten). false≢true keeps) (k.beyond.left memory)
 
   -- Any other `join` may run out of memory then, but not once its output is written, for example if it has nothing to
   -- write.
@@ -99,7 +99,7 @@ module _ {old new : List Reader} {before : Sinks} {o : Outcome} where
       → k.fault ≡ Some Memory → ⊥
   join_needs_no_memory_for_nothing k first second w agrees written memory = ⊎_elim
       (λ (p, named, opened, unended). unended (one_of_two (λ q. IsDone (reader_at new q)) p named first second))
-      (λ (keeps, unwritten). unwritten w agrees written) (k.left memory)
+      (λ (keeps, unwritten). unwritten w agrees written) (k.beyond.left memory)
 
 -- The slots that commands need: none for `tr`, for `cut` by bytes, and if no operand was opened.
 slot_bounds : map (λ (example : List (List ℕ) × InputBytes). (spec_of_args example.0).slot_bound example.1)

@@ -1,6 +1,6 @@
 -- The contracts between a tool and the driver that runs it: the conditions before and after each of the driver's steps,
 -- and the specification of a tool over its operands.
-use Rattle.std.specs.Prelude.{◌≡◌, ℕ, ◌+◌, ◌<◌, ◌≤◌, Bool, true, false, List, [], All}
+use Rattle.std.specs.Prelude.{◌≡◌, ◌⊎◌, ℕ, ◌+◌, ◌<◌, ◌≤◌, Bool, true, false, List, [], All}
 use Rattle.std.specs.Prelude.{None, Option, Some, Result, Ok, Err, length, max}
 use Rattle.std.specs.List.{list_any}
 use Rattle.ptflow.specs.ToolSpec.{ToolSpec}
@@ -20,9 +20,9 @@ use Rattle.ptmerge.specs.declared.faults.MergeFault.{MergeFault}
 use Rattle.ptmerge.specs.declared.key_order.Side.{Side}
 use Rattle.ptopts.specs.Commands.{words_view}
 use Rattle.ptopts.specs.declared.inputs.Inputs.{Inputs}
-use Rattle.ptrun.specs.CommandSpec.{CommandSpec, IsUnfinished, ended_operands, operand_messages, unopened_messages}
+use Rattle.ptrun.specs.CommandSpec.{CommandSpec, IsUnfinished, ended_operands, may_touch, operand_messages}
 use Rattle.ptrun.specs.Files.{AreInputsConsistent, AreReadToEnd, HasReadFailed, HaveReceived, InputBytes}
-use Rattle.ptrun.specs.Files.{IsNewOrUnopened, ReceivedInputs, is_reader_unopened}
+use Rattle.ptrun.specs.Files.{IsNewOrUnopened, IsTooLong, ReceivedInputs, at, is_reader_unopened}
 use Rattle.ptrun.specs.Lag.{HasBoundedLag}
 use Rattle.ptrun.specs.MessageWrites.{HasSaid}
 use Rattle.ptrun.specs.Messages.{disorder_message, fault_message}
@@ -30,8 +30,9 @@ use Rattle.ptrun.specs.Operands.{positions}
 use Rattle.ptrun.specs.Private.Engines.{end_at, in_run}
 use Rattle.ptrun.specs.Private.Joint.{JointTool, joint_spec}
 use Rattle.ptrun.specs.Private.Lag.{IsPushedUpToBlock}
+use Rattle.ptrun.specs.Private.Messages.{unopened_messages}
 use Rattle.ptrun.specs.Private.Sequential.{sequential_spec}
-use Rattle.ptrun.specs.Runs.{HasCause, IsComplete, IsRunInStore, IsStoreUnchangedIfUnread, IsUnchangedIfUnread}
+use Rattle.ptrun.specs.Runs.{HasCause, IsRunInStore, IsStoreUnchangedIfUnread, IsUnchangedIfUnread}
 use Rattle.ptrun.specs.Runs.{Outcome, Sinks}
 use Rattle.ptrun.specs.declared.driver.Completion.{Completion}
 use Rattle.ptrun.specs.declared.driver.Completion.TheVariants.{AllWritten, Disordered, Unopened}
@@ -158,6 +159,15 @@ fault_at p Memory = Memory
 abbrev pub merge_found : (Side → ℕ) → Result (Unit {0}) MergeFault → Result (Option Disorder) FlowFault
 merge_found position result = result_of_end (end_at position (merge_end result))
 
+-- All operands are done, the whole output was pushed, and no call failed.
+pub record IsComplete (m : CommandSpec) (r : ReceivedInputs) (old new : List Reader) (pushed : List ℕ)
+    (failed denied : Bool) (operands_done : ℕ) : Type 0 where
+  pub all : operands_done ≡ length m.positions
+  pub out : (w : InputBytes) → AreInputsConsistent r w → pushed ≡ m.out w
+  pub no_write_failed : failed ≡ false
+  pub not_denied : denied ≡ false
+  pub read : (position : ℕ) → HasReadFailed old new position ⊎ IsTooLong (at r position) → ⊥
+
 -- How processing ended after `n` operands: with the whole output, or with a failure and its cause.
 abbrev pub RunInputsEnd : CommandSpec → ReceivedInputs → List Reader → List Reader → List ℕ → Bool → Bool → ℕ
     → Result Completion FlowFault → Type 0
@@ -183,7 +193,7 @@ pub record RunInputsPost (m : CommandSpec) (old new : List Reader) (was is : Out
   pub names : (w : InputBytes) → AreInputsConsistent received w → message ≡ operand_messages m w operands_done
   pub ends : RunInputsEnd m received old new pushed is.write_failed store.denied operands_done result
   pub position : HasIndexBelow (length old) result
-  pub untouched : (position : ℕ) → is_in (m.may_touch operands_done) position ≡ false
+  pub untouched : (position : ℕ) → is_in (may_touch m operands_done) position ≡ false
       → reader_at new position ≡ reader_at old position
   pub ended : AreReadToEnd new (ended_operands m operands_done (result_status result))
   pub left : result ≡ Err Memory → IsUnfinished m received new pushed operands_done

@@ -11,9 +11,10 @@ use Rattle.ptflow.specs.ToolSpec.{ToolSpec}
 use Rattle.ptmerge.specs.declared.key_order.Side.{Side}
 use Rattle.ptmerge.specs.declared.key_order.Side.TheVariants.{First, Second}
 use Rattle.ptrun.specs.CommandSpec.{CommandSpec}
-use Rattle.ptrun.specs.Decided.{bytes_of, has_unopened, operand, received_in}
-use Rattle.ptrun.specs.Messages.{disorder_status, disorder_text}
+use Rattle.ptrun.specs.Decided.{has_unopened, operand, received_in}
 use Rattle.ptrun.specs.Private.Engines.{at_positions}
+use Rattle.ptrun.specs.Private.Messages.{disorder_status, disorder_text}
+use Rattle.ptrun.specs.Private.Operands.{bytes_of}
 
 -- A tool that reads its inputs together. The operands are given as positions.
 pub record JointTool : Type 0 where
@@ -62,7 +63,6 @@ joint_spec word t names positions = record {
   reads_nothing = λ is_unopened_at. list_any is_unopened_at positions;
   accepts = t.accepts positions;
   positions = positions;
-  may_touch = λ n. positions;
   tool = word;
   names = names;
 }

@@ -1,13 +1,14 @@
 -- Tools that read their operands one after another: `cut`, `paste -s` and `tr`. A file that could not be opened is
 -- reported and skipped.
-use Rattle.std.specs.Prelude.{Some, ℕ, ◌+◌, true, false, List, [], map, flat_map, take, if◌then◌else◌}
+use Rattle.std.specs.Prelude.{Some, ℕ, true, false, List, [], map, flat_map, if◌then◌else◌}
 use Rattle.std.specs.List.{list_any}
 use Rattle.ptlines.specs.Received.{Received, empty_input}
 use Rattle.ptflow.specs.ToolSpec.{ToolSpec}
-use Rattle.ptrun.specs.Bounds.{maximum}
+use Rattle.ptrun.specs.Lines.{maximum}
 use Rattle.ptrun.specs.CommandSpec.{CommandSpec}
 use Rattle.ptrun.specs.Decided.{up_to_unended}
-use Rattle.ptrun.specs.Files.{InputBytes, ReceivedInputs, is_unopened, opened_inputs}
+use Rattle.ptrun.specs.Files.{InputBytes, ReceivedInputs, is_unopened}
+use Rattle.ptrun.specs.Private.Operands.{opened_inputs}
 
 -- The output over operands at these positions: that of each input in turn.
 abbrev pub sequential_output : ToolSpec → InputBytes → List ℕ → List ℕ
@@ -44,7 +45,6 @@ sequential_spec word t names positions = record {
   reads_nothing = λ is_unopened_at. false;
   accepts = true;
   positions = positions;
-  may_touch = λ n. take (n + 1) positions;
   tool = word;
   names = names;
 }

@@ -1,6 +1,6 @@
 -- A tool in a run: it reads its operands one after another or together. And the specification of a command, by its
 -- tool.
-use Rattle.std.specs.Prelude.{ℕ, List, if◌then◌else◌}
+use Rattle.std.specs.Prelude.{ℕ, List, codes, if◌then◌else◌}
 use Rattle.ptflow.specs.Cuts.{cut_tool}
 use Rattle.ptflow.specs.PasteText.{paste_serial_tool}
 use Rattle.ptflow.specs.ToolSpec.{ToolSpec}
@@ -14,7 +14,6 @@ use Rattle.ptrun.specs.CommandSpec.{CommandSpec}
 use Rattle.ptrun.specs.Operands.{positions}
 use Rattle.ptrun.specs.Private.Joint.{JointTool, joint_spec, one_input_tool, paste_rows_tool, two_input_tool}
 use Rattle.ptrun.specs.Private.Sequential.{sequential_spec}
-use Rattle.ptrun.specs.SpecOfArgs.{word_of_job}
 
 -- A tool that reads one operand after another, or one that reads all operands together. (`uniq` has one operand, and
 -- belongs to the second kind: if its input could not be opened, nothing else is done.)
@@ -46,6 +45,15 @@ tool_of_job (RunUniq job) = Together (one_input_tool (uniq_tool job))
 tool_of_job (RunComm job) = Together (two_input_tool (comm_engine job))
 tool_of_job (RunJoin job) = Together (two_input_tool (join_engine job))
 tool_of_job (RunTr m) = OneByOne (tr_tool m)
+
+-- The name of this tool.
+abbrev pub word_of_job : Job → List ℕ
+word_of_job (RunCut job) = codes "cut"
+word_of_job (RunPaste job) = codes "paste"
+word_of_job (RunUniq job) = codes "uniq"
+word_of_job (RunComm job) = codes "comm"
+word_of_job (RunJoin job) = codes "join"
+word_of_job (RunTr m) = codes "tr"
 
 -- The specification of a parsed command, by its tool. It is `command_spec`.
 abbrev pub tool_spec : Command → CommandSpec

@@ -3,8 +3,8 @@
 -- unless a call failed.
 use Rattle.ptrun.proofs
 use proofs.Common.{arith, command_spec, command_view, spec_of_parsed, words_view, ◌∙◌, ◌≡◌}
-use proofs.SameSpecs.{spec_same}
-use proofs.RunEnds.{exact_for_args, message_only_run, spec_of_fault, inputs_pre_of_spelled}
+use proofs.RunEnds.{exact_for_args, inputs_pre_of_spelled, message_only_run, spec_of_fault, spec_of_spelled}
+use Rattle.ptrun.specs.SpecOfArgs.{tool_name}
 use Rattle.ptopts.proofs.CommandGrammar.{meant_as_spelled}
 use proofs.running.run_with_store.Goals as goal
 
@@ -30,14 +30,16 @@ returns-in-Err-clause-run g c =
 pub returns-in-Ok-clause-run : goal.returns-in-Ok-clause-run
 returns-in-Ok-clause-run g c =
     let parsed : spec_of_parsed c.args.command (words_view c.args.words.now)
-    ≡ command_spec (command_view c.in-Ok.command) = grind arith in
-    rw (parsed ∙ spec_same (command_view c.in-Ok.command)) (rw c.new-messages.ensures at c.run_command.ensures.run)
+    ≡ command_spec (tool_name (words_view c.args.words.now)) (command_view c.in-Ok.command) = grind arith in
+    rw (parsed ∙ spec_of_spelled (words_view c.args.words.now) (command_view c.in-Ok.command)
+    (grind (arith, meant_as_spelled))) (rw c.new-messages.ensures at c.run_command.ensures.run)
 
 pub returns-in-Ok-clause-reads_nothing : goal.returns-in-Ok-clause-reads_nothing
 returns-in-Ok-clause-reads_nothing g c =
     let parsed : spec_of_parsed c.args.command (words_view c.args.words.now)
-    ≡ command_spec (command_view c.in-Ok.command) = grind arith in
-    rw (parsed ∙ spec_same (command_view c.in-Ok.command)) c.run_command.ensures.reads_nothing
+    ≡ command_spec (tool_name (words_view c.args.words.now)) (command_view c.in-Ok.command) = grind arith in
+    rw (parsed ∙ spec_of_spelled (words_view c.args.words.now) (command_view c.in-Ok.command)
+    (grind (arith, meant_as_spelled))) c.run_command.ensures.reads_nothing
 
 pub returns-in-Err-clause-is_exact : goal.returns-in-Err-clause-is_exact
 returns-in-Err-clause-is_exact g c =
