@@ -12,9 +12,11 @@
 #                           names. `make` links them too, where there is gcc
 # make second               build/ptext-second: the program by the toolchain's second compiler, which tests compare with
 #                           build/ptext
-# make lib                  build/libptext.so and build/libptext.a with ptext.h: the tools as a library, for C
+# make lib                  build/libptext.so and build/libptext.a with ptext.h: the tools as a library, for C; where
+#                           musl is, in build/musl too
 # make install-lib          installs them and the page ptext(3) into PREFIX
-# make python               build/dist: a wheel of the Python module, with the library in it (docs/LIBRARY.md)
+# make python               build/dist: a wheel of the Python module, with the library in it (docs/LIBRARY.md); with
+#                           LIBC=musl, that for Alpine and its like
 # make page                 build/page/ptext.html: the tools in a browser, as one file; build/node: a package for node
 # make node                 build/dist: that package as an archive, which npm install takes (docs/LIBRARY.md)
 # make onefile              build/dist: the program as one file in C, for any machine with a compiler
@@ -34,6 +36,8 @@
 #                           made all the same, and say so
 # make deb                  build/dist: the Debian packages ptext and ptext-tools, by dpkg-buildpackage and debhelper. It
 #                           tests the program first (with DEB_BUILD_OPTIONS=nocheck it does not)
+# make TARGET=aarch64       the program for ARM64, in build/aarch64, from the same proofs (docs/PROVED.md), by Debian's
+#                           gcc-aarch64-linux-gnu. static, lib, python, dist and deb take it too
 # make clean                removes all that was built, and what checks kept
 # make help                 prints these lines
 
@@ -58,18 +62,35 @@ PROGRAM ?= build/ptext
 # The files from which the program and the library are built.
 SOURCES := HANDLES crates.txt $(shell find crates -name out -prune -o -name 'must-fail*' -prune -o -type f -print)
 BUILDER := tools/project.py $(wildcard tools/builder/*.py)
-# The C library of the static program: musl or glibc. Without one it is musl, if it is there.
+# The processor for which the program, the library, wheels, archives and packages are made, x86_64 or aarch64; and the C
+# library of the static program, musl or glibc. Without one it is musl, if it is there.
+TARGET = x86_64
 LIBC =
+ifeq ($(TARGET),x86_64)
+# What is built for it is put here, and this is the program that all else waits for.
+BUILT := build
+BASE := build/ptext
+else ifeq ($(TARGET),aarch64)
+BUILT := build/aarch64
+BASE := build/aarch64/ptext-static
+else
+$(error TARGET is x86_64 or aarch64, and not $(TARGET))
+endif
 WITH_RT = command -v rt >/dev/null || { echo 'there is no rt in PATH: it is part of the toolchain, of which the README \
     says what can be had without it (if it is unpacked: export PATH=/opt/rattle/bin:$$PATH)' >&2; exit 1; }
 AGAINST ?= system
 
+# (No rules of make itself: one would link build/ptext of build/ptext.o.)
+.SUFFIXES:
+
 .PHONY: all try check must-fail check-program test static second lib install-lib python page node onefile bench \
     compare definitions docs install is-built install-tools uninstall dist deb clean help
 
-all: build/ptext
+all: $(BASE)
+ifeq ($(TARGET),x86_64)
 	@echo '$$ echo abcd | build/ptext cut -c 3-,1' && echo abcd | build/ptext cut -c 3-,1
 	@echo 'next: make check-program (all its tests, nothing is proved), or make install PREFIX=$$HOME/.local'
+endif
 
 # (The tests of a built program take build/ptext as it is.)
 ifndef PTEXT_AS_BUILT
@@ -101,22 +122,22 @@ check-program:
 	@test -x $(PROGRAM) || { echo "there is no $(PROGRAM): run 'make' first, or give PROGRAM=PATH" >&2; exit 1; }
 	sh tests/built.sh $(PROGRAM)
 
-static: build/ptext-static
+static: $(BUILT)/ptext-static
 
 NATIVE := $(wildcard native/*.c)
-build/ptext-static: build/ptext $(NATIVE) $(if $(LIBC),as-asked)
-	python3 tools/builder static x86_64 $(LIBC)
+$(BUILT)/ptext-static: $(filter build/ptext,$(BASE)) $(SOURCES) $(BUILDER) $(NATIVE) $(if $(LIBC),as-asked)
+	python3 tools/builder static $(TARGET) $(LIBC)
 
 .PHONY: as-asked
 as-asked:
 
-lib: build/libptext.a
+lib: $(BUILT)/libptext.a
 
 # (The tests take these as they are, too.)
 ifndef PTEXT_AS_BUILT
-build/libptext.a: bindings/c/ptext.c bindings/c/stream.c bindings/c/ptext.h $(BUILDER) $(SOURCES)
+$(BUILT)/libptext.a: $(wildcard bindings/c/*.[ch]) $(NATIVE) $(BUILDER) $(SOURCES)
 	@$(WITH_RT)
-	python3 tools/builder library
+	python3 tools/builder library $(TARGET)
 
 build/ptext-second: build/ptext $(BUILDER) $(NATIVE)
 	@$(WITH_RT)
@@ -130,17 +151,18 @@ install-lib: build/libptext.a
 
 # (The modules of Debian's packages python3-setuptools and python3-wheel are those of its own Python.)
 PYTHON ?= /usr/bin/python3
-python: build/libptext.a
+# (In build/dist is one wheel for a processor and a C library, manylinux or musllinux, whatever their versions.)
+WHEEL := build/dist/ptext-*$(if $(filter musl,$(LIBC)),l,[-y])linux_*$(TARGET).whl
+python: $(BUILT)/libptext.a
 	rm -rf build/python && cp -r bindings/python build/python
 	rm -rf build/python/tests
-	cp build/libptext.so.$(shell cat VERSION) build/python/ptext/libptext.so
+	cp $(BUILT)$(if $(filter musl,$(LIBC)),/musl)/libptext.so.$(shell cat VERSION) build/python/ptext/libptext.so
 	cp docs/LIBRARY.md LICENSE-MIT LICENSE-APACHE build/python && cp debian/copyright build/python/NOTICES
-	@# (In build/dist is one wheel only, whatever its platforms.)
-	rm -f build/dist/ptext-*.whl
+	rm -f $(WHEEL)
 	@# (setuptools warns of `setup.py install`, which this runs for a folder that goes into the wheel.)
-	cd build/python && $(PYTHON) -W ignore setup.py -q bdist_wheel -d ../dist
+	cd build/python && PTEXT_MACHINE=$(TARGET) $(PYTHON) -W ignore setup.py -q bdist_wheel -d ../dist
 	@python3 tools/dist.py sums build/dist
-	@echo "built $$(echo build/dist/ptext-$(shell cat VERSION)-*.whl), which pip install takes"
+	@echo "built $$(echo $(WHEEL)), which pip install takes"
 
 page: build/page/ptext.html
 
@@ -187,11 +209,11 @@ install-tools: install
 uninstall:
 	@python3 tools/install.py uninstall $(INSTALL_TO)
 
-dist: build/ptext
-	@python3 tools/dist.py archives build/dist $(if $(CHANGED),--changed)
+dist: $(BASE)
+	@python3 tools/dist.py archives build/dist $(TARGET) $(if $(CHANGED),--changed)
 
-deb: build/ptext
-	@python3 tools/dist.py deb build/dist
+deb: $(BASE)
+	@python3 tools/dist.py deb build/dist $(TARGET)
 
 clean:
 	rm -rf build crates/*/out

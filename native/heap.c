@@ -1,6 +1,6 @@
-/* The memory of the program. The proofs rest on what the toolchain states of these functions, in
- * rattle/libc/src/heap.rt. It stands above each in its own words, without the notation. Nothing proves that they do it:
- * read them.
+/* The memory of the program and of the library for C. The proofs rest on what the toolchain states of these functions,
+ * in rattle/libc/src/heap.rt. It stands above each in its own words, without the notation. Nothing proves that they do
+ * it: read them.
  */
 #include <stdbool.h>
 #include <stddef.h>

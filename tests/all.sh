@@ -20,7 +20,8 @@ fail() {
 }
 
 # Nothing that an earlier run made is tested.
-rm -f "$log" crates/ptext/out/ptext* build/libptext* build/ptext-* build/page/ptext.html build/onefile/*
+rm -f "$log" crates/ptext/out/ptext* build/libptext* build/ptext-* build/page/ptext.html build/onefile/* \
+    build/musl/* build/aarch64/*ptext* build/aarch64/musl/*
 follow "$log" python3 tests/edits.py || fail "a wrong body is missing, or does not show that a contract refuses it"
 status=0
 follow "$log" rt ci || status=$?
@@ -50,6 +51,8 @@ unset MAKEFLAGS MFLAGS MAKELEVEL
 for target in static lib page second $(has wasm-opt wasm2c && echo onefile); do
     follow "$log" make --no-print-directory "$target" || fail "make $target"
 done
+! has aarch64-linux-gnu-gcc || follow "$log" make --no-print-directory -j2 static lib TARGET=aarch64 ||
+    fail "make static lib TARGET=aarch64"
 follow "$log" sh tests/built.sh build/ptext || fail "a test of what was built"
 follow "$log" sh tests/definitions.sh build/ptext || fail "a definition does not give what it should"
 echo "$last"

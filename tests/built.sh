@@ -73,6 +73,17 @@ fi
 if is_current build/ptext-second "make second"; then
     test_of "the second compiler" python3 tests/witness.py "$program" build/ptext-second 20000
 fi
+if [ -e build/musl/libptext.a ]; then
+    test_of "the library with musl" sh bindings/c/tests/elsewhere.sh build/musl \
+        "gcc -specs /usr/lib/x86_64-linux-musl/musl-gcc.specs"
+else
+    left_out "the library with musl (musl-tools is not there, or make lib was not run)" >>"$room/log"
+fi
+if [ -e build/aarch64/ptext-static ]; then
+    test_of "ARM64" sh tests/emulated.sh "$program"
+else
+    left_out "what is built for ARM64 (make static lib TARGET=aarch64 builds it)" >>"$room/log"
+fi
 sed -n 's/^left out: //p' "$room/log" | sort -u >"$room/left.out"
 echo "all tests took $(($(date +%s) - began)) s"
 if [ -s "$room/left.out" ]; then

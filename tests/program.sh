@@ -1,8 +1,10 @@
 #!/bin/sh
 # Tests the built program from outside: what no proof speaks of, as real files, pipes and devices.
-# usage: tests/program.sh PROGRAM
+# usage: tests/program.sh PROGRAM [EMULATOR EMULATED]     PROGRAM runs the second by the first, which is qemu: a static
+#                                                        program for another processor
 set -u
 program=$(realpath "${1:?which program?}")
+emulator=${2:-} emulated=${3:-}
 tests=$(cd "$(dirname "$0")" && pwd)
 . "$tests/common.sh"
 cd "$room" || exit 1
@@ -17,6 +19,16 @@ same() {
     echo "FAILED: $1 (status $status, wanted $2)"
     diff out want.out | head -5
     diff messages want.messages | head -5
+}
+
+# limit_memory KIB: limits the address space of the program that is run then, of which the emulator needs 40 MiB; there,
+# the stack is not counted
+limit_memory() {
+    if [ "$emulator" ]; then
+        export QEMU_RESERVED_VA=$(($1 + 8192))k QEMU_STACK_SIZE=8388608
+    else
+        ulimit -v "$1"
+    fi
 }
 
 # want OUT MESSAGES: what is wanted, as printf writes it
@@ -131,6 +143,8 @@ same "a file that was read while output was closed" 1
 # So it is where the root folder may not be read: a folder, or the null device, takes the place of the closed stream. If
 # neither can be opened, nothing is run.
 in_jail() {
+    at=$1
+    shift
     python3 -c '
 import os, sys
 os.chroot("jail")
@@ -138,12 +152,13 @@ os.chdir(sys.argv[1])
 os.setgroups([])
 os.setgid(65534)
 os.setuid(65534)
-os.execv("/ptext", ["ptext", *sys.argv[2:]])' "$@"
+os.execv("/ptext", ["ptext", *sys.argv[2:]])' "$at" ${emulator:+/emulated} "$@"
     status=$?
 }
 
 mkdir -p jail/dev jail/open
-cp "$program" jail/ptext
+cp "${emulator:-$program}" jail/ptext
+[ ! "$emulator" ] || cp "$emulated" jail/emulated
 ldd "$program" 2>/dev/null | grep -o '/[^ ]*' | while read -r library; do
     mkdir -p "jail$(dirname "$library")"
     cp "$library" "jail$library"
@@ -206,7 +221,7 @@ same "both sinks full" 1
 # A long line takes no memory: with little of it the run still ends well.
 head -c 64000000 /dev/zero | tr '\0' 'b' >long
 (
-    ulimit -v 65536
+    limit_memory 65536
     "$program" cut -b 2-4 <long >out 2>messages
     echo $? >ended
 )
@@ -414,7 +429,7 @@ printf '0 1\na 1\n' >pairs
     seq -f 'a %099.0f' 300000
 } >group
 (
-    ulimit -v 16384
+    limit_memory 40960
     "$program" join pairs group >out 2>messages
     echo $? >ended
 )
@@ -424,8 +439,8 @@ same "a group of join that does not fit" 1
 
 # Words that do not fit: the program's own list of them is refused.
 (
-    ulimit -v 12288
-    "$program" cut -c 1 $(seq 60000) <empty >out 2>messages
+    limit_memory 40960
+    "$program" cut -c 1 $(yes 1 | head -n 180000) <empty >out 2>messages
     echo $? >ended
 )
 status=$(cat ended)
@@ -439,7 +454,7 @@ same "comm over one line of 64 MB" 0
 
 # One line of 64 MB, which uniq keeps twice at most, in 192 MB of address space.
 (
-    ulimit -v 196608
+    limit_memory 196608
     "$program" uniq -d <long >out 2>messages
     echo $? >ended
 )
@@ -454,14 +469,14 @@ same "uniq over one line of 64 MB" 0
 } >want.out
 : >want.messages
 (
-    ulimit -v 196608
+    limit_memory 196608
     "$program" paste long >out 2>messages
     echo $? >ended
 )
 status=$(cat ended)
 same "a column of one line of 64 MB" 0
 (
-    ulimit -v 65536
+    limit_memory 65536
     "$program" paste -s - <long >out 2>messages
     echo $? >ended
 )

@@ -23,6 +23,8 @@ if [ "$(id -u)" != 0 ] || ! command -v apt-get >/dev/null; then
     exit 0
 fi
 echo "installing what tests use: $(echo $packages)"
+# (One is of another processor.)
+case $packages in *:arm64*) dpkg --add-architecture arm64 ;; esac
 timeout 300 apt-get -qq update
 # (One package that cannot be had takes none of the others with it.)
 install $packages || for package in $packages; do

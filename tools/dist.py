@@ -2,20 +2,23 @@
 """Makes what is handed on: archives and Debian packages. Made twice of the same files, they have the same bytes. (The
 list of the packages has not: it names the time and the environment.)
 
-  python3 tools/dist.py archives FOLDER [--changed]   ptext-VERSION.tar.gz, the source;
+  python3 tools/dist.py archives FOLDER [TARGET] [--changed]
+                                                      ptext-VERSION.tar.gz, the source;
                                                       ptext-VERSION-linux-x86_64.tar.gz, the program with its pages, docs
                                                       and completion, and the tools by their own names: the static one,
                                                       if it was linked with musl, and else the one that needs the shared
                                                       C library; and the same for each other processor for which
-                                                      `make static TARGET=..` linked it
+                                                      `make TARGET=..` built it
   python3 tools/dist.py node FOLDER                   ptext-VERSION.tgz, the package for node (make page), as npm packs
                                                       it
   python3 tools/dist.py onefile FOLDER                ptext-VERSION-onefile.tar.xz: the program as one file in C, with
                                                       its pages and licenses (make onefile)
-  python3 tools/dist.py deb FOLDER                    two packages by dpkg-buildpackage, and its list of them, which has
+  python3 tools/dist.py deb FOLDER [TARGET]           two packages by dpkg-buildpackage, and its list of them, which has
                                                       their checksums
 
   python3 tools/dist.py sums FOLDER                   SHA256SUMS of all that is there, as the others write it
+
+TARGET is x86_64 (without it) or aarch64, and has to be built.
 
 An archive contains COMMIT, which names the commit that the source is of, and SHA256SUMS of its files. If the source has
 changed since that commit, no archive is made; with --changed they are made, and COMMIT and the pages say that it has.
@@ -43,6 +46,8 @@ VERSION = read_version()
 # The time that every file bears, in seconds: that of this version, if SOURCE_DATE_EPOCH names no other.
 SECONDS = os.environ.get("SOURCE_DATE_EPOCH") or "1795348800"
 TIME = int(SECONDS) if SECONDS.isdecimal() else 0
+# The folder of what is built for a processor.
+FOLDERS = {"x86_64": BUILD, "aarch64": f"{BUILD}/aarch64"}
 # The files that an archive has besides those that were given to it.
 ADDED = ("COMMIT", "SHA256SUMS")
 # The files that dpkg-buildpackage makes in the folder debian, if it is called in this one.
@@ -243,8 +248,7 @@ def make_archives(folder, is_changed):
         refuse_changes(changed)
     commit = find_commit(changed)
     named = f"ptext-{VERSION}"
-    folders = {"x86_64": BUILD, "aarch64": f"{BUILD}/aarch64"}
-    built = {f"{named}-linux-{name}": at for name, at in folders.items() if os.path.isfile(f"{at}/ptext")}
+    built = {f"{named}-linux-{name}": at for name, at in FOLDERS.items() if os.path.isfile(f"{at}/ptext")}
     with tempfile.TemporaryDirectory() as room:
         write_archive(f"{room}/{named}.tar.gz", named, source, commit)
         for name, at in built.items():
@@ -291,8 +295,9 @@ def check_programs():
             raise Failed(f"there is no {program}, which the Debian package {package} has. No package was made.")
 
 
-def copy_source(top):
-    """Makes a copy of the source with the built program, which is newer, so that nothing is proved again."""
+def copy_source(top, built):
+    """Makes a copy of the source with the program that is built in a folder. It is newer, so that nothing is proved
+    again."""
     members = make_source_members()
     members.append(("COMMIT", 0o644, f"{find_commit(find_changes(members))}\n".encode()))
     os.umask(0o022)
@@ -303,23 +308,27 @@ def copy_source(top):
         os.chmod(f"{top}/{name}", mode)
         os.utime(f"{top}/{name}", (TIME, TIME))
     os.mkdir(f"{top}/build")
-    program = Program(BUILD, False)
+    program = Program(built, False)
     for path in (program.path, program.by_name):
         if path:
             shutil.copyfile(path, f"{top}/build/{os.path.basename(path)}")
             os.chmod(f"{top}/build/{os.path.basename(path)}", 0o755)
 
 
-def make_packages(folder):
+def make_packages(folder, target):
     check_programs()
-    if "nocheck" not in os.environ.get("DEB_BUILD_OPTIONS", ""):
+    words, kept = ["dpkg-buildpackage", "-us", "-uc", "-b"], dict(os.environ)
+    if target != "x86_64":
+        # (A program for another processor is tested by tests/emulated.sh. -d: no package of this processor is needed.)
+        words += ["-d", "-aarm64"]
+        kept["DEB_BUILD_OPTIONS"] = f"{kept.get('DEB_BUILD_OPTIONS', '')} nocheck"
+    if "nocheck" not in kept.get("DEB_BUILD_OPTIONS", ""):
         print("the program is tested too, which takes minutes; DEB_BUILD_OPTIONS=nocheck tests nothing", flush=True)
     with tempfile.TemporaryDirectory() as room:
         top = f"{room}/ptext-{VERSION}"
-        copy_source(top)
-        words = ["dpkg-buildpackage", "-us", "-uc", "-b"]
+        copy_source(top, FOLDERS[target])
         # (These would be handed to the make of the package.)
-        kept = {name: value for name, value in os.environ.items() if name not in ("MAKEFLAGS", "MFLAGS", "MAKELEVEL")}
+        kept = {name: value for name, value in kept.items() if name not in ("MAKEFLAGS", "MFLAGS", "MAKELEVEL")}
         did = subprocess.run(words, cwd=top, env=kept, check=False, stdout=subprocess.PIPE, stderr=subprocess.STDOUT)
         if did.returncode:
             sys.stderr.buffer.write(did.stdout)
@@ -333,19 +342,21 @@ def make_packages(folder):
 
 def main():
     words = [word for word in sys.argv[1:] if word != "--changed"]
+    target = words.pop() if len(words) == 3 else "x86_64"
     does = {
         "archives": lambda folder: make_archives(folder, "--changed" in sys.argv),
         "node": make_node,
         "onefile": make_onefile,
-        "deb": make_packages,
+        "deb": lambda folder: make_packages(folder, target),
         "sums": write_sums,
     }
-    if len(words) != 2 or words[0] not in does:
+    if len(words) != 2 or words[0] not in does or target not in FOLDERS:
         return __doc__
     if not SECONDS.isdecimal():
         return f"SOURCE_DATE_EPOCH is no number of seconds: {SECONDS}. Nothing was made."
-    if not os.path.isfile(f"{TOP}/build/ptext") and words[0] != "sums":
-        return "there is no build/ptext: run make first. Nothing was made."
+    program = f"{FOLDERS[target]}/ptext"
+    if not os.path.isfile(program) and words[0] != "sums":
+        return f"there is no {os.path.relpath(program, TOP)}: run make first. Nothing was made."
     try:
         does[words[0]](words[1])
     except OSError as why:

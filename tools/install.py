@@ -80,11 +80,12 @@ def read_lines(file):
 
 
 def strip_program(program):
-    """The program without its symbols, or as it is if there is no strip."""
+    """The program without its symbols, or as it is if there is no strip, or if it is for another processor."""
     if not shutil.which("strip"):
         return read_bytes(program)
     with tempfile.TemporaryDirectory() as room:
-        did = subprocess.run(["strip", "-o", f"{room}/program", program], check=False)
+        words = ["strip", "-o", f"{room}/program", program]
+        did = subprocess.run(words, check=False, stderr=subprocess.DEVNULL)
         return read_bytes(program if did.returncode else f"{room}/program")
 
 

@@ -5,11 +5,9 @@
 #include "ptext.h"
 
 #include <errno.h>
-#include <signal.h>
 #include <stdlib.h>
 #include <string.h>
 #include <sys/mman.h>
-#include <ucontext.h>
 #include <unistd.h>
 
 /* The export of the crate. */
@@ -153,6 +151,10 @@ ptrdiff_t ptext_write_descriptor(void *context, uint32_t stream, const uint8_t *
 
 /* ---- step by step */
 
+/* (native/stack.c) */
+void *ptext_begin_stack(void *end, void (*begins)(void));
+void ptext_change_stack(void **left, void *to);
+
 #define STACK ((size_t)256 << 10)
 #define COLLECTED ((size_t)64 << 10)
 
@@ -164,7 +166,7 @@ struct given {
 
 struct ptext_run {
     struct host host;
-    ucontext_t inside, outside;
+    void *inside, *outside; /* the two stacks, as they were left */
     struct ptext_step *step; /* of the call of ptext_next that is going on */
     uint8_t *words, *opened;
     size_t words_size;
@@ -180,7 +182,7 @@ struct ptext_run {
 /* Leaves the run until the caller has answered this step. Returns whether the run goes on. */
 static int ask(struct ptext_run *run, int wants, uint32_t stream, const uint8_t *bytes, size_t size) {
     *run->step = (struct ptext_step){wants, stream, bytes, size, 0};
-    swapcontext(&run->inside, &run->outside);
+    ptext_change_stack(&run->inside, run->outside);
     return !run->host.is_stopped;
 }
 
@@ -237,16 +239,17 @@ static ptrdiff_t step_flush(struct host *host, uint32_t stream) {
     return stream == PTEXT_OUTPUT ? hand_out((struct ptext_run *)host) : 0;
 }
 
-/* The function of the run's own stack. Its argument comes in two halves, since makecontext hands on ints. */
-static void inside(unsigned high, unsigned low) {
-    struct ptext_run *run = (struct ptext_run *)((uintptr_t)high << 32 | (uintptr_t)low);
+/* The function of the run's own stack, which never returns. */
+static void inside(void) {
+    struct ptext_run *run = (struct ptext_run *)running;
     size_t files = run->host.count - PTEXT_FILE;
     run->status = ptext_run_streams(run->words, run->words_size, run->opened, files);
     run->ended = 1;
+    ptext_change_stack(&run->inside, run->outside);
+    abort();
 }
 
-/* Prepares the stack of a run, below which no byte can be used. (A function of its own, since getcontext may seem to
- * return twice.) */
+/* Prepares the stack of a run, below which no byte can be used. */
 static int prepare(struct ptext_run *run) {
     run->page = (size_t)sysconf(_SC_PAGESIZE);
     int flags = MAP_PRIVATE | MAP_ANONYMOUS | MAP_STACK;
@@ -254,13 +257,9 @@ static int prepare(struct ptext_run *run) {
     if (stack == MAP_FAILED)
         return -1;
     run->stack = stack;
-    if (mprotect(stack, run->page, PROT_NONE) || getcontext(&run->inside))
+    if (mprotect(stack, run->page, PROT_NONE))
         return -1;
-    run->inside.uc_stack.ss_sp = run->stack + run->page;
-    run->inside.uc_stack.ss_size = STACK;
-    run->inside.uc_link = &run->outside;
-    uintptr_t at = (uintptr_t)run;
-    makecontext(&run->inside, (void (*)(void))inside, 2, (unsigned)(at >> 32), (unsigned)at);
+    run->inside = ptext_begin_stack(run->stack + run->page + STACK, inside);
     return 0;
 }
 
@@ -306,9 +305,7 @@ int ptext_next(struct ptext_run *run, struct ptext_step *step) {
         running = &run->host;
         run->step = step;
         run->begun = 1;
-        /* (Otherwise a step would have the mask of signals of ptext_open, perhaps that of another thread.) */
-        sigprocmask(SIG_SETMASK, NULL, &run->inside.uc_sigmask);
-        swapcontext(&run->outside, &run->inside);
+        ptext_change_stack(&run->outside, run->inside);
         running = outer;
     }
     if (run->ended)

@@ -4,7 +4,7 @@
   python3 tools/builder program                    the program, ptext
   python3 tools/builder static [TARGET [LIBC]]     the program as one file that needs no shared libraries, ptext-static,
                                                    and the tools by their own names, ptext-by-name
-  python3 tools/builder library                    the library for C, libptext.a and libptext.so
+  python3 tools/builder library [TARGET]           the library for C, libptext.a and libptext.so
   python3 tools/builder second                     the program by the toolchain's second compiler, ptext-second
   python3 tools/builder page                       the tools in a browser, page/ptext.html, and modules for node and
                                                    for the next
@@ -25,7 +25,7 @@ from linking import GLIBC, MUSL, PROCESSORS, Processor
 from project import TOP, Failed, find_kit, run_script, say
 
 # What is built, and whether it is built for a processor and with a C library.
-BUILT = {"program": True, "static": True, "library": False, "second": True, "page": False, "onefile": False}
+BUILT = {"program": True, "static": True, "library": True, "second": True, "page": False, "onefile": False}
 
 
 def main():
@@ -33,7 +33,7 @@ def main():
     if what not in BUILT or target not in ("", *PROCESSORS) or libc not in ("", MUSL, GLIBC) or len(sys.argv) > 4:
         return __doc__
     kit, began = find_kit(), time.monotonic()
-    given = [Processor(target or PROCESSORS[0]), libc] if BUILT[what] else []
+    given = [Processor(target or "x86_64"), libc] if BUILT[what] else []
     if not os.access(f"{TOP}/build" if os.path.isdir(f"{TOP}/build") else TOP, os.W_OK):
         raise Failed(f"cannot write to {TOP}/build, where all that is built is put: copy the source to another folder")
     with tempfile.TemporaryDirectory(prefix="ptext-") as place:

@@ -149,12 +149,12 @@ def copy_crate(kit, place, room, crates):
     for name, pairs in IN_CRATE.items():
         copy_changed(f"{TOP}/crates/{CRATE}/{name}", f"{made}/{name}", pairs)
     # (Most of the proof is that for the library. Each of the two keeps its own.)
-    if os.path.isdir(KEPT) and not os.path.isdir(MODULE_KEPT):
-        shutil.copytree(KEPT, MODULE_KEPT)
-    words = make_words(kit, room, crates, MODULE_KEPT)
+    if os.path.isdir(f"{TOP}/build/{KEPT}") and not os.path.isdir(MODULE_KEPT):
+        shutil.copytree(f"{TOP}/build/{KEPT}", MODULE_KEPT)
+    words = make_words(kit, room, crates, MODULE_KEPT, WASM)
     for name in (HEAP, IO):
         words += ["--extern", f"{name}={place}/rlib/{name}.rlib"]
-    return [*words, "-L", f"dependency={place}/rlib", "--target", WASM]
+    return [*words, "-L", f"dependency={place}/rlib"]
 
 
 def compile_crate(kit, place, words, toolchain):

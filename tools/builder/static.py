@@ -67,9 +67,9 @@ def link_all(place, processor, wanted=""):
     the name of the latter."""
     folder, linked = processor.folder, f"{TOP}/{processor.folder}/{PROGRAM}.o"
     library = processor.find_static_library(wanted)
-    named = [(f"{PROGRAM}-by-name", SHARED, True)]
-    if not processor.is_own:
-        named.append((PROGRAM, SHARED, False))
+    # (What is linked of the program is no older.)
+    named = [] if processor.is_own else [(PROGRAM, SHARED, False)]
+    named.append((f"{PROGRAM}-by-name", SHARED, True))
     if library:
         named += [(f"{PROGRAM}-by-name-static", library, True), (f"{PROGRAM}-static", library, False)]
         write_text(f"{TOP}/{folder}/{PROGRAM}-static.libc", f"{library}\n")
@@ -82,9 +82,8 @@ def link_all(place, processor, wanted=""):
 def build(kit, place, processor, wanted):
     processor.check_compiler("make static")
     if not processor.find_static_library(wanted):
-        packages = "musl-tools, or gcc libc6-dev" if processor.is_own else "libc6-dev-arm64-cross"
         which = f", {wanted}" if wanted else ""
-        raise Failed(f"make static needs a static C library{which} (on Debian: apt install {packages})")
+        raise Failed(f"make static needs a static C library{which} (on Debian: apt install {processor.packages})")
     lacking = [name for name in ARCHIVES if not os.path.exists(f"{kit}/{name}")]
     if lacking:
         raise Failed(f"the toolchain in {kit} has no {lacking[0]}: it is another kit than the README names")

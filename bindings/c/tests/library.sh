@@ -12,7 +12,8 @@ gcc $flags -o "$room/example" bindings/c/example.c "$built/libptext.a"
 gcc $flags -o "$room/shared" bindings/c/example.c -L"$built" -lptext
 gcc $flags -pthread -Wl,--wrap=malloc,--wrap=realloc -o "$room/calls" bindings/c/tests/library.c "$built/libptext.a"
 gcc $flags -o "$room/pointers" bindings/c/tests/pointers.c bindings/c/ptext.c
-gcc $flags -pthread -o "$room/alone" bindings/c/tests/alone.c bindings/c/stream.c
+gcc $flags -pthread -o "$room/alone" bindings/c/tests/alone.c bindings/c/stream.c \
+    native/stack.c
 drinks=$(printf '1,ann,tea\n2,bob,milk\n')
 for program in example shared; do
     is "bindings/c/example.c, $program" "$drinks" "$(LD_LIBRARY_PATH=$built "$room/$program")"
@@ -95,7 +96,7 @@ if [ "$built" = "$PWD/build" ]; then
     if [ -e /usr/lib/python3/dist-packages/setuptools ] && [ -e /usr/lib/python3/dist-packages/wheel ]; then
         make -s python >"$room/said" 2>&1 || cat "$room/said"
         # (A wheel is an archive of what is installed.)
-        wheel=$(echo build/dist/ptext-*.whl)
+        wheel=$(echo build/dist/ptext-*manylinux*_x86_64.whl)
         is "its name" "" "$(echo "$wheel" | grep -v -- '-py3-none-manylinux_2_[0-9]*_x86_64[.]whl$')"
         /usr/bin/python3 -m zipfile -e "$wheel" "$room/wheel"
         is "the wheel" "a c" "$(cd "$room/wheel" && echo 'a b c' | /usr/bin/python3 -m ptext cut -d ' ' -f 1,3)"

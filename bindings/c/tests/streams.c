@@ -385,8 +385,11 @@ static void *many_runs(void *context) {
 static void four_threads(void) {
     pthread_t threads[4];
     static int wrong;
+    /* (A thread of musl has less than a world.) */
+    pthread_attr_t large;
+    expect(!pthread_attr_init(&large) && !pthread_attr_setstacksize(&large, 1 << 20), "a large stack");
     for (int i = 0; i < 4; i++)
-        expect(!pthread_create(&threads[i], NULL, many_runs, &wrong), "a thread");
+        expect(!pthread_create(&threads[i], &large, many_runs, &wrong), "a thread");
     for (int i = 0; i < 4; i++) {
         void *found;
         expect(!pthread_join(threads[i], &found) && !found, "runs in four threads");
