@@ -12,8 +12,9 @@ from ._stream import Stream
 LITTLE_ROOM, ARGUMENTS = 3, 5
 NO_FILE = ctypes.c_size_t(-1).value
 FIRST_ROOM = 4096
-# A run over more bytes is faster step by step, where no room for the whole output is cleared.
-MOST = 1 << 18
+# A run over many more bytes is faster step by step, where no room for the whole output is cleared. (What is longer than
+# its room is made twice.)
+MOST = 1 << 19
 _RUN = LIBRARY.ptext_run
 _RUN.restype = ctypes.c_uint8
 _RUN.argtypes = [*BYTES * 3, ctypes.POINTER(ctypes.c_size_t), ctypes.c_size_t, *ROOM * 2, ctypes.POINTER(Answer)]

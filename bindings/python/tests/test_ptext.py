@@ -38,6 +38,17 @@ except MemoryError as error:
     print(error, len(error.out) > 24, error.out == (line * (len(error.out) // 24 + 1))[: len(error.out)])
 """
 
+# Has memory for its input, and not for the line that the library keeps.
+LONG_LINE = """
+import resource
+import ptext
+resource.setrlimit(resource.RLIMIT_AS, (400 << 20,) * 2)
+try:
+    ptext.uniq(stdin=bytes(250 << 20))
+except MemoryError as error:
+    print(error, len(error.out))
+"""
+
 
 def fails(number):
     return ptext.cut("-q", str(number))
@@ -186,9 +197,11 @@ class Failures(unittest.TestCase):
         self.assertEqual((caught.status, caught.message), (2, "cut: unknown option in -q"))
 
     def test_no_memory(self):
-        for lines in ("5000", "30000"):
+        for lines in ("5000", "100000"):
             did = subprocess.run([sys.executable, "-c", NO_MEMORY, lines], capture_output=True, text=True)
             self.assertEqual(did.stdout, "ptext: out of memory True True\n", did.stderr[-500:])
+        did = subprocess.run([sys.executable, "-c", LONG_LINE], capture_output=True, text=True)
+        self.assertEqual(did.stdout, "ptext: out of memory 0\n", did.stderr[-500:])
 
 
 class Threads(unittest.TestCase):
