@@ -1,5 +1,7 @@
--- The precondition of a run, on its store and its sinks.
-use Rattle.std.specs.Prelude.{◌≡◌, false}
+-- The precondition of a run, on its store, its sinks and its command; and the exit status for words that are none.
+use Rattle.std.specs.Prelude.{◌≡◌, ℕ, List, Option, Some, None, Ok, false}
+use Rattle.ptopts.specs.Commands.{Command, command_of_args}
+use Rattle.ptopts.specs.Faults.{Fault}
 use Rattle.ptlines.specs.Slots.{Slots, total_bytes}
 use Rattle.ptrun.specs.Runs.{Sinks}
 
@@ -14,3 +16,12 @@ pub record RunPre (lent : Slots) (handed : Sinks) : Type 0 where
   pub store : IsUnused lent
   pub writable : handed.out.failed ≡ false
   pub messages_writable : handed.messages.failed ≡ false
+
+-- Some words mean this command.
+abbrev pub IsMeant : Command → Type 0
+IsMeant command = (words : List (List ℕ)) × (command_of_args words ≡ Ok command)
+
+-- The exit status for arguments with this fault; `None` if there was no memory to parse them.
+abbrev pub usage_status : Option Fault → ℕ
+usage_status None = 1
+usage_status (Some fault) = 2
