@@ -12,9 +12,9 @@ ghost use Rattle.ptrun.specs.Messages.{memory_message};
 ghost use Rattle.ptrun.specs.Runs.{outcome};
 
 use crate::system::SystemFiles;
-use ptfiles::{FilesReport, Streams, run_over_files};
+use ptfiles::run_over_files;
 use ptlines::{Sink, Source, Store};
-use ptrun::{Report, say};
+use ptrun::{Report, report_not_run};
 use std::alloc::Allocator;
 use std::fs::Files;
 
@@ -43,35 +43,10 @@ pub fn perform<'a, R: Files, A: Allocator + Copy, S: Source, W: Sink, E: Sink>(
 {
     let mut store = Store::empty(alloc);
     let mut files = SystemFiles::new(rt);
-    let streams = Streams {
-        standard,
-        out,
-        messages,
-    };
-    let FilesReport {
-        report,
-        file: _,
-        out_of_memory: _,
-    } = run_over_files(alloc, &mut store, &mut files, words, streams);
-    report
-}
-
-// Writes a message about words that are not run, and returns a report with this status and the unused output.
-fn report_not_run<W: Sink, E: Sink>(status: u8, text: &str, out: W, mut messages: E) -> Report<W, E>
-    requires { (E.state messages).failed ≡ false }
-    ensures status { result.status ≡ status }
-    ensures memory { (result.peak ≡ 0) × (result.denied ≡ false) }
-    ensures out { result.out ≡ out }
-    ensures has_said { HasSaid (E.state messages) (E.state result.messages) (line_of (text.now ∷ [])) }
-{
-    let _ = say(&mut messages, &[text]);
-    Report {
-        status,
-        peak: 0,
-        denied: false,
-        out,
-        messages,
-    }
+    run_over_files(
+        alloc, &mut store, &mut files, words, standard, out, messages,
+    )
+    .report
 }
 
 /// Reports that memory for the words could not be allocated, with status 1.
@@ -82,7 +57,7 @@ pub fn report_no_memory<W: Sink, E: Sink>(out: W, messages: E) -> Report<W, E>
     ensures out { result.out ≡ out }
     ensures has_said { HasSaid (E.state messages) (E.state result.messages) (memory_message (codes "ptext")) }
 {
-    report_not_run(1, "ptext: out of memory", out, messages)
+    report_not_run(1, &["ptext: out of memory"], out, messages)
 }
 
 /// Reports that a word is not UTF-8, with status 2: such words are never parsed.
@@ -94,7 +69,7 @@ pub fn report_not_utf8<W: Sink, E: Sink>(out: W, messages: E) -> Report<W, E>
     ensures has_said { HasSaid (E.state messages) (E.state result.messages)
         (line_of (codes "ptext: a word is not UTF-8" ∷ [])) }
 {
-    report_not_run(2, "ptext: a word is not UTF-8", out, messages)
+    report_not_run(2, &["ptext: a word is not UTF-8"], out, messages)
 }
 
 /// Reports that a standard stream is closed, and nothing could be opened in its place, with status 1.
@@ -108,7 +83,7 @@ pub fn report_closed_stream<W: Sink, E: Sink>(out: W, messages: E) -> Report<W, 
 {
     report_not_run(
         1,
-        "ptext: a standard stream is closed, and nothing can take its place",
+        &["ptext: a standard stream is closed, and nothing can take its place"],
         out,
         messages,
     )

@@ -19,6 +19,6 @@ pub use calls::Calls;
 pub use files::Files;
 pub use ghost_bytes::GhostBytes;
 pub use report::FilesReport;
-pub use shell::{Streams, run_over_files};
+pub use shell::run_over_files;
 pub use streams::{GivenRun, Host, StreamsReport, run_given_streams, run_streams};
 pub use words::words_of;

@@ -1,13 +1,17 @@
-//! `FilesReport`, the result of a run over files, and how `shell` builds one with a message: nothing is run if there is
-//! no memory, or if the output file cannot be created.
+//! `FilesReport`, the result of a run over files, and how `shell` builds one with a message: nothing is run if the words
+//! are no command, if there is no memory, or if the output file cannot be created.
 
-ghost use Rattle.std.specs.Prelude.{◌≡◌, false, true, None, codes};
-ghost use Rattle.ptrun.specs.MessageWrites.{HasSaid, line_of};
-ghost use Rattle.ptrun.specs.Calls.MessageWrites.{texts};
+ghost use Rattle.std.specs.Prelude.{◌≡◌, false, true, None, codes, is_none};
+ghost use Rattle.ptopts.specs.Commands.{words_view};
+ghost use Rattle.ptopts.specs.View.{fault_view};
+ghost use Rattle.ptrun.specs.Calls.Runs.{usage_message, usage_status};
+ghost use Rattle.ptrun.specs.MessageWrites.{HasSaid};
 ghost use Rattle.ptrun.specs.Messages.{memory_message, unopened_message};
+ghost use Rattle.ptrun.specs.SpecOfArgs.{tool_name};
 
 use ptlines::Sink;
-use ptrun::{Report, say};
+use ptopts::UseFault;
+use ptrun::{Report, report_not_run, report_refused};
 
 /// The result of a run over files.
 #[derive(Drop)]
@@ -21,6 +25,23 @@ pub struct FilesReport<W, F, E> {
 }
 
 impl<W: Sink, F, E: Sink> FilesReport<W, F, E> {
+    /// Reports why words are no command.
+    pub(crate) fn refused(words: &[&str], fault: UseFault<'_>, out: W, messages: E) -> Self
+        requires { (E.state messages).failed ≡ false }
+        ensures status { result.report.status ≡ usage_status (fault_view fault.entry) }
+        ensures out_of_memory { result.out_of_memory ≡ is_none (fault_view fault.entry) }
+        ensures memory { (result.report.peak ≡ 0) × (result.report.denied ≡ false) }
+        ensures out { (result.report.out ≡ out) × (result.file ≡ None) }
+        ensures has_said { HasSaid (E.state messages) (E.state result.report.messages)
+            (usage_message (tool_name (words_view words.now)) (fault_view fault.entry)) }
+    {
+        FilesReport {
+            out_of_memory: matches!(fault, UseFault::Memory),
+            report: report_refused(words, fault, out, messages),
+            file: None,
+        }
+    }
+
     /// Reports that memory for the list of the inputs could not be allocated.
     pub(crate) fn no_memory(out: W, messages: E) -> Self
         requires { (E.state messages).failed ≡ false }
@@ -31,7 +52,7 @@ impl<W: Sink, F, E: Sink> FilesReport<W, F, E> {
             (memory_message (codes "ptext")) }
     {
         FilesReport {
-            report: report_not_run(&["ptext: out of memory"], out, messages),
+            report: report_not_run(1, &["ptext: out of memory"], out, messages),
             file: None,
             out_of_memory: true,
         }
@@ -48,27 +69,9 @@ impl<W: Sink, F, E: Sink> FilesReport<W, F, E> {
     {
         let parts = ["uniq: ", name, ": cannot be opened"];
         FilesReport {
-            report: report_not_run(&parts, out, messages),
+            report: report_not_run(1, &parts, out, messages),
             file: None,
             out_of_memory: false,
         }
-    }
-}
-
-// Says a message about a run that cannot start, and returns the report, with status 1 and the unused output.
-fn report_not_run<W, E: Sink>(parts: &[&str], out: W, mut messages: E) -> Report<W, E>
-    requires { (E.state messages).failed ≡ false }
-    ensures status { result.status ≡ 1 }
-    ensures memory { (result.peak ≡ 0) × (result.denied ≡ false) }
-    ensures out { result.out ≡ out }
-    ensures has_said { HasSaid (E.state messages) (E.state result.messages) (line_of (texts parts.now)) }
-{
-    let _ = say(&mut messages, parts);
-    Report {
-        status: 1,
-        peak: 0,
-        denied: false,
-        out,
-        messages,
     }
 }

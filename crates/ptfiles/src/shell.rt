@@ -1,42 +1,27 @@
 //! `run_over_files`, the entry point of the crate. It parses the words, opens the files that these name, decides where
 //! the command writes, creates its output file, and runs it.
 
-ghost use Rattle.std.specs.Prelude.{◌≡◌, false, Err, IfOk, OnErr};
+ghost use Rattle.std.specs.Prelude.{◌≡◌, ℕ, false, length, List, Some, Ok, IfOk, OnErr};
 ghost use Rattle.std.specs.List.{list_any};
 ghost use Rattle.ptlines.specs.Sources.{IsFresh, SourceState};
 ghost use Rattle.ptlines.specs.Readers.{Reader};
-ghost use Rattle.ptopts.specs.Commands.{command_of_args};
-ghost use Rattle.ptopts.specs.Commands.{words_view};
-ghost use Rattle.ptopts.specs.View.{CommandPost, HasToolName};
+ghost use Rattle.ptopts.specs.Commands.{command_of_args, command_view, words_view};
 ghost use Rattle.ptrun.specs.Files.{AreNewInputs};
-ghost use Rattle.ptrun.specs.Calls.Runs.{RunPre};
-ghost use Rattle.ptrun.specs.Runs.{outcome, sinks as run_sinks};
-ghost use Rattle.ptrun.specs.SpecOfArgs.{file_count, is_memory_fault};
+ghost use Rattle.ptrun.specs.Calls.Runs.{IsMeant, RunPre};
+ghost use Rattle.ptrun.specs.Runs.{outcome, sinks};
 ghost use Rattle.ptfiles.specs.Files.{IsNewInput, created_state, reader_of_input};
 ghost use Rattle.ptfiles.specs.Private.Files.{opened_state};
-ghost use Rattle.ptfiles.specs.Shell.{MayFail, RunOverFilesPost, empty_store};
-ghost use Rattle.ptfiles.specs.Private.Shell.{RunOverInputsPost, OpenInputsPost};
-ghost use Rattle.ptfiles.specs.Private.Shell.{IsDestination, command_of_parsed};
-ghost use Rattle.ptfiles.specs.Shell.{before, after};
+ghost use Rattle.ptfiles.specs.Shell.{MayFail, RunOverFilesPost, after, before, empty_store};
+ghost use Rattle.ptfiles.specs.Private.Shell.{HaveOpened, IsDestination, RunOverInputsPost};
 
 use crate::failures::failures_are_of_sources;
 use crate::files::Files;
 use crate::output::{Output, Target};
 use crate::report::FilesReport;
 use ptlines::{LineReader, Sink, Source, Store};
-use ptopts::{Command, UseFault};
+use ptopts::Command;
 use ptrun::{Report, run_with_store};
 use std::alloc::{AllocError, Allocator};
-
-/// The standard streams of a run.
-pub struct Streams<S, W, E> {
-    /// Standard input.
-    pub standard: S,
-    /// Standard output.
-    pub out: W,
-    /// Standard error, for messages.
-    pub messages: E,
-}
 
 /// Parses the words and runs the command: opens the files that they name, in order, each once, then runs the command over
 /// them, and returns the report of the run. A file that cannot be opened is reported by the run when the tool reaches it.
@@ -62,28 +47,27 @@ pub fn run_over_files<
     store: &mut Store<A>,
     files: &mut F,
     words: &[&str],
-    streams: Streams<S, W, E>,
+    standard: S,
+    out: W,
+    messages: E,
 ) -> FilesReport<W, F::Output, E>
-    requires fresh { IsFresh (S.state streams.standard) }
+    requires fresh { IsFresh (S.state standard) }
     requires empty { store.old ≡ empty_store }
-    requires writable { (W.state streams.out).failed ≡ false }
-    requires messages_writable { (E.state streams.messages).failed ≡ false }
+    requires writable { (W.state out).failed ≡ false }
+    requires messages_writable { (E.state messages).failed ≡ false }
     ensures { RunOverFilesPost (words_view words.now)
-        (before (F.state files.old) (S.state streams.standard) (W.state streams.out) (E.state streams.messages) store.old)
+        (before (F.state files.old) (S.state standard) (W.state out) (E.state messages) store.old)
         (after (F.state files.new) store.new (created_state F.Output.state result.file) result.out_of_memory
-        (outcome W.state E.state result.report)) (result.report.out ≡ streams.out) (MayFail S.state F.Input.state) }
+        (outcome W.state E.state result.report)) (result.report.out ≡ out) (MayFail S.state F.Input.state) }
 {
-    let Streams {
-        standard,
-        out,
-        messages,
-    } = streams;
-    let command = Command::read(alloc, words);
+    let command = match Command::read(alloc, words) {
+        Ok(command) => command,
+        Err(fault) => return FilesReport::refused(words, fault, out, messages),
+    };
     match open_inputs(alloc, files, &command, standard) {
         Ok(mut inputs) => {
             let inputs = &mut *inputs;
-            let sinks = Sinks { out, messages };
-            let report = run_over_inputs(store, files, command, words, inputs, sinks);
+            let report = run_over_inputs(store, files, &command, inputs, out, messages);
             failures_are_of_sources(inputs);
             report
         }
@@ -91,28 +75,18 @@ pub fn run_over_files<
     }
 }
 
-// The sinks of a run.
-struct Sinks<W, E> {
-    out: W,
-    messages: E,
-}
-
-// Creates the readers of standard input and of the files that a command names, also of those that cannot be opened. If
-// the words are not valid, there are none.
+// Creates the readers of standard input and of the files that a command names, also of those that cannot be opened.
 fn open_inputs<A: Allocator, B: Allocator, F: Files, S: Source>(
     alloc: A,
     files: &mut F,
-    command: &Result<Command<'_, B>, UseFault<'_>>,
+    command: &Command<'_, B>,
     standard: S,
 ) -> Result<Vec<LineReader<S, F::Input>, A>, AllocError>
     requires { IsFresh (S.state standard) }
-    ensures opened { IfOk result (λ readers. OpenInputsPost (F.state files.old) (F.state files.new)
-        (command_of_parsed command.now) (S.state standard) readers.items) }
+    ensures opened { IfOk result (λ readers. HaveOpened (F.state files.old) (F.state files.new)
+        (command_view command.now).names (S.state standard) readers.items) }
     ensures not_opened { OnErr result (F.state files.new ≡ F.state files.old) }
 {
-    let Ok(command) = command else {
-        return Ok(Vec::new(alloc));
-    };
     let names = command.names();
     let mut readers = Vec::with_capacity(alloc, names.len() + 1)?;
     readers.push_reserved(LineReader::standard(standard));
@@ -133,7 +107,7 @@ fn reader_of<S: Source, R: Source>(input: Option<R>) -> LineReader<S, R>
     }
 }
 
-// Where a command writes: to standard output, to the file with this name, or nowhere, as it will not run.
+// Where a command writes: to standard output, to the file with this name, or nowhere, as its input cannot be opened.
 enum Destination<'a> {
     Standard,
     File(&'a str),
@@ -144,24 +118,22 @@ enum Destination<'a> {
 fn run_over_inputs<A: Allocator + Copy, B: Allocator + Copy, F: Files, S: Source, W: Sink, E: Sink>(
     store: &mut Store<A>,
     files: &mut F,
-    command: Result<Command<'_, B>, UseFault<'_>>,
-    words: &[&str],
+    command: &Command<'_, B>,
     inputs: &mut [LineReader<S, F::Input>],
-    sinks: Sinks<W, E>,
+    out: W,
+    messages: E,
 ) -> FilesReport<W, F::Output, E>
-    requires meant { CommandPost command (command_of_args (words_view words.now)) }
-    requires memory { command ≡ Err UseFault.Memory → HasToolName (words_view words.now) }
-    requires fresh { AreNewInputs (file_count command) inputs.old }
-    requires unused { RunPre store.old (run_sinks (W.state sinks.out) (E.state sinks.messages)) }
-    ensures out_of_memory { result.out_of_memory ≡ is_memory_fault command.entry }
-    ensures run { (standard : SourceState) → RunOverInputsPost (words_view words.now) inputs.old inputs.new
-        (before (F.state files.old) standard (W.state sinks.out) (E.state sinks.messages) store.old)
+    requires meant { IsMeant (command_view command.now) }
+    requires fresh { AreNewInputs (Some (length (command_view command.now).names)) inputs.old }
+    requires unused { RunPre store.old (sinks (W.state out) (E.state messages)) }
+    ensures parsed { result.out_of_memory ≡ false }
+    ensures run { (words : List (List ℕ)) (standard : SourceState)
+        → command_of_args words ≡ Ok (command_view command.now) → RunOverInputsPost words inputs.old inputs.new
+        (before (F.state files.old) standard (W.state out) (E.state messages) store.old)
         (after (F.state files.new) store.new (created_state F.Output.state result.file) result.out_of_memory
-        (outcome W.state E.state result.report)) (result.report.out ≡ sinks.out) }
+        (outcome W.state E.state result.report)) (result.report.out ≡ out) }
 {
-    let Sinks { out, messages } = sinks;
-    let out_of_memory = has_memory_fault(&command);
-    let (target, unused) = match destination_of(&command, inputs) {
+    let (target, unused) = match destination_of(command, inputs) {
         Destination::Standard => (Target::Standard(out), None),
         Destination::File(name) => match files.create(name) {
             Some(file) => (Target::File(file), Some(out)),
@@ -170,7 +142,7 @@ fn run_over_inputs<A: Allocator + Copy, B: Allocator + Copy, F: Files, S: Source
         Destination::Nowhere => (Target::Nowhere { failed: false }, Some(out)),
     };
     let output = Output::new(target);
-    let ran = run_with_store(store, command, words, inputs, output, messages);
+    let ran = run_with_store(store, command, inputs, output, messages);
     let (out, file) = ran.out.into_parts(unused);
     FilesReport {
         report: Report {
@@ -181,27 +153,17 @@ fn run_over_inputs<A: Allocator + Copy, B: Allocator + Copy, F: Files, S: Source
             messages: ran.messages,
         },
         file,
-        out_of_memory,
+        out_of_memory: false,
     }
-}
-
-// Returns whether memory ran out while the words were parsed.
-fn has_memory_fault<A: Allocator>(command: &Result<Command<'_, A>, UseFault<'_>>) -> bool
-    ensures { result ≡ is_memory_fault command.now }
-{
-    matches!(command, Err(UseFault::Memory))
 }
 
 // Returns where the command writes. Its output file is to be created only if all its inputs could be opened.
 fn destination_of<'a, A: Allocator, S: Source, R: Source>(
-    command: &Result<Command<'a, A>, UseFault<'a>>,
+    command: &Command<'a, A>,
     inputs: &[LineReader<S, R>],
 ) -> Destination<'a>
-    ensures { IsDestination (command_of_parsed command.now) inputs.now result }
+    ensures { IsDestination (command_view command.now) inputs.now result }
 {
-    let Ok(command) = command else {
-        return Destination::Nowhere;
-    };
     match command.output() {
         None => Destination::Standard,
         Some(_) if is_any_unopened(inputs) => Destination::Nowhere,

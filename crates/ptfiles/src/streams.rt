@@ -17,7 +17,7 @@ ghost use Rattle.ptfiles.specs.Private.Streams.{IsStream, OpenedPost};
 use crate::calls::Calls;
 use crate::files::Files;
 use crate::report::FilesReport;
-use crate::shell::{Streams, run_over_files};
+use crate::shell::run_over_files;
 use crate::words::words_of;
 use ptlines::{Sink, Source, Store};
 use ptrun::say;
@@ -196,15 +196,12 @@ pub fn run_streams<A: Allocator + Copy, B: Allocator + Copy, H: Host>(
         (MayFail H.Input.state H.Input.state) }
 {
     let mut files = StreamFiles::new(host, opened);
-    let streams = Streams {
-        standard: host.input(INPUT),
-        out: host.output(OUTPUT),
-        messages: host.output(MESSAGES),
-    };
-    let report = run_over_files(alloc, store, &mut files, words, streams);
-    let status = status_of(&report);
+    let standard = host.input(INPUT);
+    let out = host.output(OUTPUT);
+    let messages = host.output(MESSAGES);
+    let report = run_over_files(alloc, store, &mut files, words, standard, out, messages);
     StreamsReport {
-        status,
+        status: status_of(&report),
         files: report,
     }
 }

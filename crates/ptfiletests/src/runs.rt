@@ -8,7 +8,7 @@ ghost use Rattle.ptrun.specs.Runs.{outcome};
 
 use crate::named_files::NamedFiles;
 use ptfakes::VecSink;
-use ptfiles::{Bytes, FilesReport, Streams, run_over_files};
+use ptfiles::{Bytes, FilesReport, run_over_files};
 use ptlines::Store;
 use std::alloc::Global;
 use std::process::Abort;
@@ -23,12 +23,15 @@ fn run_over(alloc: Global, words: &[&str], files: &[(&str, &[u8])], standard: &[
         (outcome sink_state sink_state result.report) result.out_of_memory }
 {
     let mut named = NamedFiles::new(alloc, files);
-    let streams = Streams {
-        standard: Bytes::new(standard),
-        out: VecSink::new(alloc),
-        messages: VecSink::new(alloc),
-    };
-    run_over_files(alloc, &mut Store::empty(alloc), &mut named, words, streams)
+    run_over_files(
+        alloc,
+        &mut Store::empty(alloc),
+        &mut named,
+        words,
+        Bytes::new(standard),
+        VecSink::new(alloc),
+        VecSink::new(alloc),
+    )
 }
 
 // Runs a command over `FILES`. Standard input has the line `b 5`.

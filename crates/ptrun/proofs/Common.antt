@@ -32,7 +32,8 @@ pub use specs.Private.Lag.{IsPushedUpToBlock}
 pub use specs.MessageWrites.{HasSaid, line_of}
 pub use specs.Calls.MessageWrites.{SayPost, texts}
 pub use specs.Messages.{name_of, unopened_message}
-pub use specs.Private.Messages.{unopened_messages, usage_message, usage_status}
+pub use specs.Private.Messages.{unopened_messages}
+pub use specs.Calls.Runs.{usage_message, usage_status}
 pub use specs.Decided.{up_to_unended}
 pub use specs.Operands.{position, positions}
 pub use specs.Private.Sequential.{decided_in_order}

@@ -1,7 +1,6 @@
 -- Runs that have ended are runs as specified (`IsRun`), whether they read nothing or processed their inputs. The main
 -- theorem is that the result of such a run is exact unless a call failed: the bytes that the readers have are
--- consistent with the bytes received, and each cause of a failure contradicts a premise. Then the same for arguments,
--- and that a run which only says a message is one over any inputs.
+-- consistent with the bytes received, and each cause of a failure contradicts a premise. Then the same for arguments.
 use Rattle.ptrun.proofs
 use Rattle.ptrun.specs
 use proofs.Common.{All, All-map, AreInputsConsistent, AreReadToEnd, Bool, CommandPost, CommandSpec, Completion, Err}
@@ -162,47 +161,6 @@ message_only_run {text} {is} {old = old} {status = status} fresh fine has_said s
     no_operand : (b : Bool) → AreReadToEnd old (cond b [] [])
     no_operand true q named = absurd (false≢true named)
     no_operand false q named = absurd (false≢true named)
-
--- The specification of a run that only says a message, as for words that are no command.
-pub record SaysOnly (m : CommandSpec) : Type 0 where
-  pub text : List ℕ
-  pub status : ℕ
-  pub is : m ≡ message_only text status
-
--- Such a run depends on no input, so a run over some inputs is one over any others.
-module _ {text : List ℕ} {status : ℕ} {old new : List Reader} {before : Sinks} {o : Outcome}
-    (fine : before.out.failed ≡ false) (k : IsRun (message_only text status) old new before o)
-    (unread : IsUnchangedIfUnread (message_only text status) old new before.out o) where
-  said : (fault : Option FlowFault)
-      → RunEnd (message_only text status) k.received old new k.written k.message o k.operands_done fault
-      → (k.message ≡ text) × (o.status ≡ status)
-  said None (all, unbroken, fits, read, says) =
-      let (out, message, status) = says (least_bytes k.received) (least_consistent k.received) in (message, status)
-  said (Some (Read p)) (within, status, cause, says) = let named = cause.0 in cc
-  said (Some Write) (within, status, cause, says) = let (same, nothing) = unread refl in let out_is = nothing.0 in cc
-  said (Some Memory) (within, status, cause, says) =
-      let (same, nothing) = unread refl in let not_denied = nothing.2 in let denied = cause.0 in cc
-
-  message_over_others : {others : List Reader} → All IsNewOrUnopened others
-      → IsRun (message_only text status) others others before o
-  message_over_others {others} fresh =
-      let (same, nothing) = unread refl in
-      let (message_is, status_is) = said k.fault k.ends in
-      subst (λ (o : Outcome). IsRun (message_only text status) others others before o) (λ i. record {
-        out = sym nothing.0 i;
-        messages = o.messages;
-        status = o.status;
-        peak = sym nothing.1 i;
-        denied = sym nothing.2 i;
-      }) (message_only_run fresh fine (subst (λ t. HasSaid before.messages o.messages t) message_is k.has_said) status_is)
-
-pub run_over_others : {m : CommandSpec} {old new others : List Reader} {before : Sinks} {o : Outcome} → SaysOnly m
-    → before.out.failed ≡ false → IsRun m old new before o → IsUnchangedIfUnread m old new before.out o
-    → All IsNewOrUnopened others → IsRun m others others before o
-run_over_others {m} {old} {new} {others} {before} {o} only fine run unread fresh =
-    subst (λ m. IsRun m others others before o) (sym only.is)
-    (message_over_others fine (subst (λ m. IsRun m old new before o) only.is run)
-    (subst (λ m. IsUnchangedIfUnread m old new before.out o) only.is unread) fresh)
 
 -- ---- the end of a run
 

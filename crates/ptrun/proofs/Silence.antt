@@ -9,7 +9,8 @@ use Rattle.std.specs.List.{list_any}
 use Rattle.ptrun.proofs.SameSpecs.{spec_same}
 use Rattle.ptrun.specs.Files.{is_unopened}
 use Rattle.ptrun.specs.Messages.{string_word, kind_word}
-use Rattle.ptrun.specs.Private.Messages.{disorder_status, disorder_text, unopened_messages, usage_message}
+use Rattle.ptrun.specs.Calls.Runs.{usage_message}
+use Rattle.ptrun.specs.Private.Messages.{disorder_status, disorder_text, unopened_messages}
 use Rattle.ptrun.specs.Private.Tools.{ToolInRun, OneByOne, Together, spec_of_tool, tool_of_job}
 use Rattle.ptopts.specs.Faults.{Fault, NoTool, Unknown, NeedsValue, Twice, Together as Conflict, Value, Operands}
 use Rattle.ptopts.specs.Faults.{StandardTwice, NeedsList, InString}

@@ -1,9 +1,11 @@
-//! The result of a run. Built by `driver` and `running`.
+//! The result of a run, and that of words that are not run. Built by `driver` and `running`.
 
 ghost use Rattle.std.specs.Prelude.{◌≡◌, false, []};
+ghost use Rattle.ptrun.specs.Calls.MessageWrites.{texts};
+ghost use Rattle.ptrun.specs.MessageWrites.{HasSaid, line_of};
 ghost use Rattle.ptrun.specs.Runs.{outcome};
 
-use crate::messages::Messages;
+use crate::messages::{Messages, say};
 use ptlines::{Out, Sink, Store};
 use std::alloc::Allocator;
 
@@ -21,6 +23,29 @@ pub struct Report<W, E> {
     pub out: W,
     /// The sink of the messages.
     pub messages: E,
+}
+
+/// Says a message in place of a run, and returns a report with this status and the unused output.
+pub fn report_not_run<W: Sink, E: Sink>(
+    status: u8,
+    parts: &[&str],
+    out: W,
+    mut messages: E,
+) -> Report<W, E>
+    requires { (E.state messages).failed ≡ false }
+    ensures status { result.status ≡ status }
+    ensures memory { (result.peak ≡ 0) × (result.denied ≡ false) }
+    ensures out { result.out ≡ out }
+    ensures has_said { HasSaid (E.state messages) (E.state result.messages) (line_of (texts parts.now)) }
+{
+    let _ = say(&mut messages, parts);
+    Report {
+        status,
+        peak: 0,
+        denied: false,
+        out,
+        messages,
+    }
 }
 
 // The report of a run with this store. Nothing is buffered any more, unless a write failed; such bytes are lost.
@@ -53,8 +78,9 @@ pub(crate) fn report_unread<W: Sink, E: Sink>(
     out: W,
     messages: Messages<E>,
 ) -> Report<W, E>
-    ensures { outcome W.state E.state result
+    ensures outcome { outcome W.state E.state result
         ≡ record { out = W.state out; messages = messages; status = status; peak = 0; denied = false } }
+    ensures out { result.out ≡ out }
 {
     Report {
         status,

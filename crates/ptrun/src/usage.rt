@@ -6,7 +6,7 @@ ghost use Rattle.ptopts.specs.View.{fault_view};
 ghost use Rattle.ptrun.specs.MessageWrites.{HasSaid, line_of};
 ghost use Rattle.ptrun.specs.Messages as texts;
 ghost use Rattle.ptrun.specs.Messages.{string_fault_text};
-ghost use Rattle.ptrun.specs.Private.Messages.{usage_message, usage_status};
+ghost use Rattle.ptrun.specs.Calls.Runs.{usage_message, usage_status};
 
 use crate::messages::Messages;
 use ptlangs::{SetFault, SetFaultKind, SetString};

@@ -10,7 +10,7 @@ ghost use Rattle.ptrunc.specs.Results.{IsRunInMemory};
 use crate::answer::Answer;
 use crate::files::MemoryFiles;
 use crate::memory::{Filling, Kept, Room};
-use ptfiles::{Bytes, FilesReport, Streams, run_over_files};
+use ptfiles::{Bytes, FilesReport, run_over_files};
 use ptlines::{Store, write_out};
 use ptrun::Report;
 use std::alloc::Allocator;
@@ -58,16 +58,19 @@ fn run_into<'a, A: Allocator + Copy + Drop>(
 {
     let mut store = Store::empty(alloc);
     let mut memory = MemoryFiles::new(alloc, files);
-    let streams = Streams {
-        standard: Bytes::new(input),
-        out: Filling::new(mem::replace(out, Room::new(&mut []))),
-        messages: Filling::new(mem::replace(messages, Room::new(&mut []))),
-    };
     let FilesReport {
         mut report,
         file,
         out_of_memory,
-    } = run_over_files(alloc, &mut store, &mut memory, words, streams);
+    } = run_over_files(
+        alloc,
+        &mut store,
+        &mut memory,
+        words,
+        Bytes::new(input),
+        Filling::new(mem::replace(out, Room::new(&mut []))),
+        Filling::new(mem::replace(messages, Room::new(&mut []))),
+    );
     let out_failed = append_file(&mut report.out, file);
     let exit = exit_of(&report, out_of_memory, out_failed);
     let answer = Answer::new(exit, report.out.part(), report.messages.part());

@@ -11,7 +11,7 @@ use crate::asserts::{assert_for, assert_same_for};
 use ptfakes::{ChunkedSource, CountedSource, FailingAlloc, VecSink};
 use ptlines::{LineReader, Store};
 use ptopts::{Command, UseFault};
-use ptrun::{Report, run, run_with_store};
+use ptrun::{Report, report_refused, run, run_with_store};
 use std::alloc::{AllocError, Allocator, Global};
 use std::cell::Cell;
 use std::process::Abort;
@@ -185,7 +185,10 @@ pub fn run_in_store<A: Allocator + Copy>(
     let mut inputs = readers(test_alloc, case, count)?;
     let out = sink_of(test_alloc, case.out);
     let messages = sink_of(test_alloc, case.messages);
-    Ok(run_with_store(store, command, case.words, &mut inputs, out, messages))
+    Ok(match command {
+        Ok(command) => run_with_store(store, &command, &mut inputs, out, messages),
+        Err(fault) => report_refused(case.words, fault, out, messages),
+    })
 }
 
 /// Runs a command and compares its output, messages and exit status. No growth may fail.

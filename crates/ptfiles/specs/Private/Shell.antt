@@ -1,15 +1,13 @@
 -- The contracts of the private functions of `shell`: the inputs are opened, the place that the command writes to is
 -- found, and the command is run over its inputs.
-use Rattle.std.specs.Prelude.{◌≡◌, ◌⊎◌, ℕ, true, false, List, [], ◌∷◌, Option, Some, None, Result, Ok, Err}
+use Rattle.std.specs.Prelude.{◌≡◌, ◌⊎◌, ℕ, true, false, List, [], ◌∷◌, Some}
 use Rattle.std.specs.Prelude.{All, length}
 use Rattle.ptfiles.specs.Files.{AreContents, FilesState, Input, IsNewInput, new_readers, with_opened}
 use Rattle.ptfiles.specs.Shell.{After, Before, HasRunOver, IsNotCreated, has_standard_output, output_names}
 use Rattle.ptfiles.specs.declared.shell.Destination.{Destination}
 use Rattle.ptlines.specs.Readers.{Reader}
 use Rattle.ptlines.specs.Sources.{SourceState}
-use Rattle.ptopts.specs.Commands.{Command, command_view}
-use Rattle.ptopts.specs.declared.fault.UseFault.{UseFault}
-use Rattle.ptopts.specs.declared.command.Command as code
+use Rattle.ptopts.specs.Commands.{Command}
 use Rattle.ptfiles.specs.declared.shell.Destination.TheVariants as to
 
 -- ---- the postconditions
@@ -30,19 +28,10 @@ pub record HaveOpened (old new : FilesState) (names : List (List ℕ)) (standard
   pub are_new : All IsNewInput inputs
   pub readers_are : readers ≡ new_readers standard inputs
 
--- the files that a command names were opened; words that are no command have no readers
-abbrev pub OpenInputsPost : FilesState → FilesState → Option Command → SourceState → List Reader → Type 0
-OpenInputsPost old new None standard readers = (new ≡ old) × (readers ≡ [])
-OpenInputsPost old new (Some command) standard readers = HaveOpened old new command.names standard readers
-
-abbrev pub command_of_parsed : {A : Type 0} → Result (code.Command A) UseFault → Option Command
-command_of_parsed (Ok command) = Some (command_view command)
-command_of_parsed (Err fault) = None
-
 -- where a command writes
-abbrev pub IsDestination : Option Command → List Reader → Destination → Type 0
-IsDestination command readers to.Standard = has_standard_output command ≡ true
+abbrev pub IsDestination : Command → List Reader → Destination → Type 0
+IsDestination command readers to.Standard = has_standard_output (Some command) ≡ true
 IsDestination command readers (to.File name) =
-    (has_standard_output command ≡ false) × (output_names command readers ≡ name.now ∷ [])
+    (has_standard_output (Some command) ≡ false) × (output_names (Some command) readers ≡ name.now ∷ [])
 IsDestination command readers to.Nowhere =
-    (has_standard_output command ≡ false) × (output_names command readers ≡ [])
+    (has_standard_output (Some command) ≡ false) × (output_names (Some command) readers ≡ [])

@@ -4,7 +4,7 @@ use Rattle.ptext.proofs.Performed.{out_is_unused, performed}
 use Rattle.ptext.proofs.perform.perform.Goals as goal
 
 pub returns-clause-out_unchanged : goal.returns-clause-out_unchanged
-returns-clause-out_unchanged g c not_standard = out_is_unused not_standard c.run_over_files-report.ensures
+returns-clause-out_unchanged g c not_standard = out_is_unused not_standard c.run_over_files.ensures
 
 pub returns-clause-performed : goal.returns-clause-performed
-returns-clause-performed g c = performed c.new-files.ensures c.empty-store.ensures c.run_over_files-report.ensures
+returns-clause-performed g c = performed c.new-files.ensures c.empty-store.ensures c.run_over_files.ensures

@@ -28,9 +28,8 @@ loop-name-preserved g c = record {
 
 pub returns-clause-opened : goal.returns-clause-opened
 returns-clause-opened g c =
-    rw c.in-Ok.is
-    (subst (λ names. HaveOpened (g.F.Files.state c.args.files.now) (g.F.Files.state c.loop-name.files) names
+    subst (λ names. HaveOpened (g.F.Files.state c.args.files.now) (g.F.Files.state c.loop-name.files) names
     (g.S.Source.state c.args.standard) c.loop-name.readers.items)
     (all_names c.names-names.result.now c.loop-name.name-index c.loop-name.auto.name-index-end c.loop-name-test.false
     ∙ c.names-names.ensures)
-    c.loop-name.invariant.opened)
+    c.loop-name.invariant.opened

@@ -8,8 +8,9 @@ use Rattle.ptfiles.proofs.streams.run_streams.Goals as goal
 pub returns : goal.returns
 returns g c =
     let files = c.run_over_files-report.new.files in
-    streamed c.new-files.ensures c.input.ensures.content c.output.ensures.state c.output-2.ensures.state
+    streamed c.new-files.ensures c.input-standard.ensures.content c.output-out.ensures.state
+    c.output-messages.ensures.state
     c.run_over_files-report.ensures
     (All-map (λ output'. output' ≡ Some (g.H.Host.output 1)) (option_map g.H.Output.Sink.state) files.creates.results
     files.all_output)
-    c.status_of-status.ensures
+    c.status_of.ensures
