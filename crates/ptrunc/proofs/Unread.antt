@@ -14,6 +14,7 @@ use Rattle.ptopts.specs.Private.Commands.{command_of_tool}
 use Rattle.ptopts.specs.declared.inputs.Input.TheVariants.{File, Standard}
 use Rattle.ptopts.specs.Syntax.{tools}
 use Rattle.ptrun.specs.Files.{InputBytes, is_reader_unopened}
+use Rattle.ptrun.specs.Operands.{positions}
 use Rattle.ptrun.specs.SpecOfArgs.{spec_of_args, spec_of_result, spec_unless_memory, tool_name}
 use Rattle.ptfiles.specs.Files.{AreContents, Content, Input, new_readers}
 use Rattle.ptfiles.specs.Shell.{command_to_run, has_standard_output, input_names, name_of_output, output_names}
