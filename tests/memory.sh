@@ -62,7 +62,8 @@ each() {
         count=$((count + 1))
     done
     is_whole || wrong "$*: nothing is refused, status $status"
-    [ "$tool" -ge "$least" ] && [ "$own" -ge 2 ] && [ "$own" -le $((2 * $# + 4)) ] || wrong "$*: $tool requests of the tool, $own of the program"
+    [ "$tool" -ge "$least" ] && [ "$own" -ge 2 ] && [ "$own" -le $((2 * $# + 4)) ] ||
+        wrong "$*: $tool requests of the tool, $own of the program"
 }
 
 # The first file has a line that comes in pieces, as it is longer than a block.

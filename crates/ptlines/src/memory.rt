@@ -1,7 +1,7 @@
-//! All requests for memory of this library, and `Denied`, which is made here alone if one fails. A store counts as denied
-//! only by one. That `LineFault::Memory` is made nowhere else is seen by reading, since its variants are public.
+//! All requests for memory of this library, and `Denied`, which is made here alone if one fails. A store counts as
+//! denied only by one. That `LineFault::Memory` is made nowhere else is seen by reading, since its variants are public.
 
-ghost use Rattle.std.specs.Prelude.{◌≡◌, ℕ, ◌<◌, ◌≤◌, ◌+◌, ◌*◌, ◌++◌, max, length, take, replicate, vec_len, vec_capacity};
+ghost use Rattle.std.specs.Prelude.{◌≡◌, ◌<◌, ◌+◌, ◌++◌, length, take, replicate, vec_len, vec_capacity};
 ghost use Rattle.std.specs.Prelude.{IfOk, OnOk, OnErr, is_some, true};
 ghost use Rattle.ptlines.specs.Private.Slots.{HasFewSpare, IsPadded};
 
