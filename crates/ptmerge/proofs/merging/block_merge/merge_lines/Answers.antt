@@ -1,14 +1,24 @@
 -- Answers for `merge_lines`: its loop at the start, after each arm, which passes one line or one of each input, and at
 -- its exits, where no line ends in its block or a write has failed.
 use Rattle.ptmerge.proofs
-use proofs.Common.{sym, ◌∙◌, ap, arith, [], ◌∷◌, inr, is_gt, First, Second, both}
+use proofs.Common.{◌≡◌, ℕ, sym, ◌∙◌, ap, arith, [], ◌∷◌, inr, is_gt, subst, First, Second, both, unlines}
+use proofs.Common.{Cmp, Key, Lines, Output, PushEffect}
+use Rattle.ptmerge.specs.declared.merging.block_lines.BlockLine.{BlockLine}
 use proofs.MergeLemmas.{less_flips, IsKeyOrder}
 use proofs.BlockLemmas.{alone_passes, fewer_left, have_keys, merge_starts, one_in_key, pair_passes, pairs_or_new}
 use proofs.BlockLemmas.{run_failed, step_on}
-use Rattle.ptmerge.specs.Private.BlockLines.{IsStep, further_lines, in_order, key_lines}
+use Rattle.ptmerge.specs.Private.BlockLines.{IsInKey, IsStep, further_lines, in_order, key_lines}
 use proofs.merging.block_merge.merge_lines.Given as given
 use Rattle.ptmerge.proofs.merging.block_merge.merge_lines.Goals.{After-write_both, After-write_rows}
 use proofs.merging.block_merge.merge_lines.Goals as goal
+
+with_terminator : {a b : ℕ} {cmp : Cmp} {key : Key} {first now : BlockLine} {f : Lines} → a ≡ b
+    → IsInKey a cmp key first now f → IsInKey b cmp key first now f
+with_terminator {cmp = cmp} {key} {first} {now} {f} same i = subst (λ t. IsInKey t cmp key first now f) same i
+
+rows_pushed : {a b : ℕ} {mid is : Output} {xs ys : Lines} → a ≡ b → ys ≡ xs → PushEffect mid is (unlines a xs)
+    → PushEffect mid is (unlines b ys)
+rows_pushed same rows pushed = rw (sym same, rows) pushed
 
 module _ (g : given.Over) where
   key_order : (order : g.row.K.Denot) → IsKeyOrder (g.K.KeyOrder.order order)
@@ -34,16 +44,16 @@ module _ (g : given.Over) where
       (both c.in-Some-whole_key.firsts.after c.in-Some-whole_key-2.seconds.after) c.lines.out c.write_rows.new.out
   rows_pass c =
       let i = c.lines.invariant in
-      let end = (g.T.MergeWriter.tool c.args.tool).terminator in
+      let end = c.args.terminator in
       let one = c.in-Some-whole_key.firsts.lines in
       let two = c.in-Some-whole_key-2.seconds.lines in
       pair_passes _ _ _ (key_order c.args.order.now) c.requires.tool {f = key_lines end one} {g = key_lines end two}
       (i.key_is First) (i.key_is Second) (g.met.K.KeyOrder.exact c.args.order.now _ _ (grind arith))
-      (rw (c.is_pair_by_pair-by_pairs.ensures.by_rows (grind arith) c.lines.one.key.now one.line.now two.line.now
-      (further_lines end one) (further_lines end two)) (rw c.requires.ends at c.write_rows.ensures.wrote))
+      (rows_pushed c.requires.ends (c.is_pair_by_pair-by_pairs.ensures.by_rows (grind arith) c.lines.one.key.now
+      one.line.now two.line.now (further_lines end one) (further_lines end two)) c.write_rows.ensures.wrote)
       (elim [
-        | First ↦ (rw c.requires.ends at c.in-Some-whole_key.ensures).passed
-        | Second ↦ (rw c.requires.ends at c.in-Some-whole_key-2.ensures).passed
+        | First ↦ with_terminator c.requires.ends c.in-Some-whole_key.ensures.passed
+        | Second ↦ with_terminator c.requires.ends c.in-Some-whole_key-2.ensures.passed
       ])
       (inr (elim [ First ↦ c.in-Some-whole_key.ensures.new | Second ↦ c.in-Some-whole_key-2.ensures.new ]))
 
@@ -134,11 +144,13 @@ whole_key-requires-in-Equal-clause-passed g c = c.lines.invariant.in_block Secon
 
 pub write_rows-requires-clause-one : goal.write_rows-requires-clause-one
 write_rows-requires-clause-one g c =
-    have_keys _ c.in-Some-whole_key.ensures.passed.own (c.requires.tool.keys First) (sym (c.lines.invariant.key_is First))
+    have_keys {l = c.lines.one.key.now} (key_lines c.args.terminator c.in-Some-whole_key.firsts.lines)
+    c.in-Some-whole_key.ensures.passed.own (c.requires.tool.keys First) (sym (c.lines.invariant.key_is First))
 
 pub write_rows-requires-clause-two : goal.write_rows-requires-clause-two
 write_rows-requires-clause-two g c =
-    have_keys _ c.in-Some-whole_key-2.ensures.passed.own (c.requires.tool.keys Second)
+    have_keys {l = c.lines.one.key.now} (key_lines c.args.terminator c.in-Some-whole_key-2.seconds.lines)
+    c.in-Some-whole_key-2.ensures.passed.own (c.requires.tool.keys Second)
     (sym (g.met.K.KeyOrder.exact c.args.order.now _ _ (grind arith) ∙ c.lines.invariant.key_is Second))
 
 pub lines-smaller : goal.lines-smaller
