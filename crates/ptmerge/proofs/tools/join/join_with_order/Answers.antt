@@ -185,6 +185,12 @@ lines-preserved g c =
       );
     }
 
+pub is_unchanged-unchanged-requires-clause-group : goal.is_unchanged-unchanged-requires-clause-group
+is_unchanged-unchanged-requires-clause-group g c =
+    let ok = c.in_ok-read_line-in-Both.ensures in
+    (write_pairs_group (write_pairs_next c.lines.invariant.kept.iteration c.read_line.ensures.written_out
+    ok.reads_line.1 ok.continues (sym ok.reads_line.0 ∙ c.if-branch.false))).within
+
 pub pairs-init : goal.pairs-init
 pairs-init g c =
     let i = c.lines.invariant.kept in
