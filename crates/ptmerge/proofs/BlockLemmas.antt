@@ -3,8 +3,8 @@
 -- lines passed, and why both inputs can go on from there.
 use Rattle.ptmerge.proofs
 use Rattle.ptmerge.specs
-use proofs.Common.{◌≡◌, ◌⊎◌, inl, inr, ⊎_elim, ℕ, suc, ◌+◌, ◌-◌, ◌<◌, ◌≤◌, ◌^◌, List, [], ◌∷◌, ◌++◌, refl, sym, ◌∙◌, ap, arith}
-use proofs.Common.{subst}
+use proofs.Common.{◌≡◌, ◌⊎◌, inl, inr, ⊎_elim, ℕ, suc, ◌+◌, ◌-◌, ◌<◌, ◌≤◌, ◌^◌, List, [], ◌∷◌, ◌++◌, refl, sym, ◌∙◌}
+use proofs.Common.{ap, arith, subst}
 use proofs.Common.{Output, length, PushEffect, Some, None, Option, true, false, drop, length-append, append_assoc}
 use proofs.Common.{append-nil, unlines, IsLine, Side, First, Second, Lines, MergeTool, other, with_side, Cmp, Key, both}
 use proofs.Common.{length_push, Reader, Sorted, Head, budget, length-drop, usual, push_nothing, is_eq, is_gt, Less}
@@ -140,8 +140,12 @@ take_front = grind usual
 pub fewer_left : {end : ℕ} {cmp : Cmp} {key : Key} {first now : BlockLine} {f : Lines}
     → IsMoved end cmp key first now f → length now.rest.now < length first.rest.now
 fewer_left {end} {now = now} m =
-    omega (arith, ap length m.bytes, length-append (unlines end m.middle) (now.head.now ++ (end ∷ now.rest.now)),
-    length-append now.head.now (end ∷ now.rest.now))
+    omega (
+      arith,
+      ap length m.bytes,
+      length-append (unlines end m.middle) (now.head.now ++ (end ∷ now.rest.now)),
+      length-append now.head.now (end ∷ now.rest.now),
+    )
 
 -- the lines between two lines of the block
 pub lines_are_between : {end : ℕ} {cmp : Cmp} {key : Key} {first now : BlockLine} {f : Lines} (more : ℕ)
@@ -479,8 +483,15 @@ pub can_resume : {end : ℕ} {cmp : Cmp} {key : Key} {old now : BlockLine} {q : 
 can_resume rest (none, inl u) at head own = record {
   head = head;
   own_reader = own;
-  within = omega (arith, at.left, at.passed, ap (λ l. l.passed) u.same, none, ap (λ l. length l.rest.now) u.same,
-      ap length rest);
+  within = omega (
+    arith,
+    at.left,
+    at.passed,
+    ap (λ l. l.passed) u.same,
+    none,
+    ap (λ l. length l.rest.now) u.same,
+    ap length rest,
+  );
   line = λ some. absurd (omega (arith, at.passed, ap (λ l. l.passed) u.same, none));
 }
 can_resume {end} {now = now} rest (none, inr m) at head own =

@@ -155,8 +155,11 @@ write_rows-requires-clause-two g c =
 
 pub lines-smaller : goal.lines-smaller
 lines-smaller g c =
-    omega (arith, fewer_left c.in-Some-whole_key.ensures.passed.passed,
-    fewer_left c.in-Some-whole_key-2.ensures.passed.passed)
+    omega (
+      arith,
+      fewer_left c.in-Some-whole_key.ensures.passed.passed,
+      fewer_left c.in-Some-whole_key-2.ensures.passed.passed,
+    )
 
 pub lines-preserved : goal.lines-preserved
 lines-preserved g c =

@@ -1,6 +1,6 @@
 -- The loops of `join`: one lemma of `JoinLemmas` for each iteration, and one of `JoinLemmas` or `MergeLemmas` for each
--- exit. Also the state after the lines of the blocks were merged (`on_by_blocks`), what the calls require, and the reads
--- that are left, which decrease in each loop.
+-- exit. Also the state after the lines of the blocks were merged (`on_by_blocks`), what the calls require, and the
+-- reads that are left, which decrease in each loop.
 use Rattle.ptmerge.proofs
 use Rattle.ptmerge.specs
 use proofs.Common.{refl, sym, ◌∙◌, arith, ℕ, ◌<◌, ◌≤◌, both, join_job, merge_state, Ok}

@@ -1,5 +1,5 @@
--- The first line is the only one at first. A further line has the key if that of the line before it is equal. At the end
--- the lines are counted.
+-- The first line is the only one at first. A further line has the key if that of the line before it is equal. At the
+-- end the lines are counted.
 use Rattle.ptmerge.proofs
 use proofs.Common.{◌-◌, arith}
 use proofs.MergeLemmas.{IsKeyOrder}
@@ -19,6 +19,7 @@ pub returns : goal.returns
 returns g c =
     let i = c.lines.invariant.passed in
     record {
-      passed = rw (lines_are_between (c.lines.after.passed - c.args.next.passed) i.passed (omega (arith, i.passed.passed, c.requires.next.passed))) i;
+      passed = rw (lines_are_between (c.lines.after.passed - c.args.next.passed) i.passed
+          (omega (arith, i.passed.passed, c.requires.next.passed))) i;
       new = c.lines-test.false;
     }
