@@ -94,7 +94,7 @@ module _ (tool : MergeTool) (o : IsKeyOrder tool.cmp) where
       → ArePassedAlone tool s old old was was
   passing_starts s {was = was} can clean = record {
     q = [];
-    passed = inl (record { none = refl; same = refl; passed = can.passed });
+    passed = (can.passed, inl (record { none = refl; same = refl }));
     first = λ w r c. ap (λ e. e ++ entries_by_key tool w (only s r)) (sym (only_none tool s w));
     under = tt;
     wrote = rw (only_none tool s all_keys) (push_nothing was);
@@ -110,7 +110,7 @@ module _ (tool : MergeTool) (o : IsKeyOrder tool.cmp) where
         → Written tool (with_side s (AtLeast (key s y)) b) (λ side. p side ++ alone s x side) start is
     line_written {b} {p} {x = x} y at none more clean m wrote =
         write_least_run o (key s x) (λ side. p side ++ alone s x side) (alone s x)
-        (side_case _ s (simp put_same (rw at (line_run tool o s _ _ refl refl more)))
+        (side_case _ s (simp put_same (rw at (line_run tool o s _ _ (refl, tt) refl more)))
         (simp put_other (rw none ended_run)))
         (λ side. refl) (by_line.none (key s x))
         (λ r c.

@@ -3,7 +3,8 @@
 -- lines passed, and why both inputs can go on from there.
 use Rattle.ptmerge.proofs
 use Rattle.ptmerge.specs
-use proofs.Common.{◌≡◌, ◌⊎◌, inl, inr, ⊎_elim, ℕ, ◌+◌, ◌<◌, ◌≤◌, ◌^◌, List, [], ◌∷◌, ◌++◌, refl, sym, ◌∙◌, ap, arith}
+use proofs.Common.{◌≡◌, ◌⊎◌, inl, inr, ⊎_elim, ℕ, suc, ◌+◌, ◌-◌, ◌<◌, ◌≤◌, ◌^◌, List, [], ◌∷◌, ◌++◌, refl, sym, ◌∙◌}
+use proofs.Common.{ap, arith, subst}
 use proofs.Common.{Output, length, PushEffect, Some, None, Option, true, false, drop, length-append, append_assoc}
 use proofs.Common.{append-nil, unlines, IsLine, Side, First, Second, Lines, MergeTool, other, with_side, Cmp, Key, both}
 use proofs.Common.{length_push, Reader, Sorted, Head, budget, length-drop, usual, push_nothing, is_eq, is_gt, Less}
@@ -18,13 +19,17 @@ use specs.declared.merging.cursor.Reached.{Reached}
 use proofs.MergeLemmas.{MergeInvariant, IsKeyOrder, Bound, AtLeast, AtMost, Above, Written, alone, output_of, all_keys}
 use proofs.MergeLemmas.{write_least_run, IsLeastKeyRun, IsLineByLine, Each-weaker, at_most_trans, greater_flips}
 use proofs.MergeLemmas.{less_flips, is_greater, lines_with_key-above, side_case, from_key, self_at_most, EachKey-append}
-use proofs.MergeLemmas.{put_same, put_other, unlines_push, EachKey, IsSortedFrom, entries_of_line, entries_of_pair}
-use Rattle.ptlines.proofs.TextLaws.{AreLines_push}
-use Rattle.ptlines.proofs.LineSearch.{line_before_terminator}
+use proofs.MergeLemmas.{put_same, put_other, EachKey, IsSortedFrom, entries_of_line, front_is}
+use Rattle.ptlines.proofs.TextLaws.{complete_lines_cons, complete_lines_none}
+use Rattle.ptlines.proofs.LineSearch.{line_before_terminator, line_if_not_found}
+use Rattle.ptlines.specs.Laws.Text.{AreLines}
+use Rattle.ptlines.specs.Text.{complete_lines}
+use Rattle.std.specs.declared.cmp.Ordering.TheVariants.{Equal}
 use Rattle.memchr.specs.Find.{IsFirstByte, is_byte}
 use specs.Private.BlockLines.{AreMerged, ArePassed, BlockRunPost, CanMerge, HasFailed, IsBlockTool, IsInBlock}
-use specs.Private.BlockLines.{IsNextLine, IsPairByPair, IsReached, IsStep, MayFollowHeads, entries_alone}
+use specs.Private.BlockLines.{HaveKey, IsInKey, IsMoved, IsNextLine, IsReached, IsStep, MayFollowHeads, entries_alone}
 use specs.Private.BlockLines.{LineRunPost, in_order}
+use specs.MergeSpec.{Entries}
 use specs.declared.merging.block_lines.BlockRun.{BlockRun}
 use specs.declared.merging.block_lines.BlockLine.{BlockLine}
 
@@ -41,35 +46,129 @@ line_in_block = grind (usual, line_before_terminator)
 
 -- ---- the lines passed
 
+lines_between : (end : ℕ) (xs : Lines) (x : List ℕ) (ys : Lines) → AreLines end xs → IsLine end x → AreLines end ys
+    → AreLines end (xs ++ x ∷ ys)
+lines_between end [] x ys a w b = (w, b)
+lines_between end (z ∷ xs) x ys (here, a) w b = (here, lines_between end xs x ys a w b)
+
+equal_of : (r : Ordering) → is_eq r ≡ true → r ≡ Equal
+equal_of = grind arith
+
 module _ (cmp : Cmp) (key : Key) where
-  sorted_push : (last : Option (List ℕ)) (xs : Lines) (x y : List ℕ) → IsSortedFrom cmp key last (xs ++ x ∷ [])
-      → AtMost cmp (key x) (key y) → IsSortedFrom cmp key last ((xs ++ x ∷ []) ++ y ∷ [])
-  sorted_push last [] x y (here, _) a = (here, (a, tt))
-  sorted_push last (z ∷ xs) x y (here, more) a = (here, sorted_push (Some (key z)) xs x y more a)
+  sorted_append : (last : Option (List ℕ)) (xs : Lines) (x : List ℕ) (ys : Lines)
+      → IsSortedFrom cmp key last (xs ++ x ∷ []) → IsSortedFrom cmp key (Some (key x)) ys
+      → IsSortedFrom cmp key last (xs ++ x ∷ ys)
+  sorted_append last [] x ys (here, _) more = (here, more)
+  sorted_append last (z ∷ xs) x ys (here, s) more = (here, sorted_append (Some (key z)) xs x ys s more)
+
+  moved_on : {end : ℕ} {old now next : BlockLine} {q f : Lines} → IsMoved end cmp key old now q
+      → IsMoved end cmp key now next f → IsMoved end cmp key old next (q ++ f)
+  moved_on {end} {old} {now} {next} m n = record {
+    middle = m.middle ++ (now.head.now ∷ n.middle);
+    lines = rw (m.lines, n.lines) refl;
+    bytes = m.bytes ∙ rw (n.bytes, unlines-append end m.middle (now.head.now ∷ n.middle)) (simp append_assoc);
+    whole = (lines_between end m.middle now.head.now n.middle m.whole.0 m.whole.1 n.whole.0, n.whole.1);
+    ordered = rw (append_assoc m.middle (now.head.now ∷ n.middle) (next.head.now ∷ []))
+        (sorted_append _ m.middle now.head.now (n.middle ++ next.head.now ∷ []) m.ordered n.ordered);
+    passed = omega (arith, m.passed, n.passed, length-append m.middle (now.head.now ∷ n.middle));
+  }
+
+  one_moved : {end : ℕ} {now next : BlockLine} → IsNextLine end cmp key now next
+      → IsMoved end cmp key now next (now.head.now ∷ [])
+  one_moved n = record {
+    middle = [];
+    lines = refl;
+    bytes = n.bytes;
+    whole = (tt, n.whole);
+    ordered = (n.ordered, tt);
+    passed = n.passed;
+  }
+
+  pub passed_on_by : {end : ℕ} {old now next : BlockLine} {q f : Lines} → ArePassed end cmp key old now q
+      → IsMoved end cmp key now next f → ArePassed end cmp key old next (q ++ f)
+  passed_on_by (none, inl u) n = (none, inr (rw u.none (rw u.same at n)))
+  passed_on_by (none, inr m) n = (none, inr (moved_on m n))
 
   pub passed_one : {end : ℕ} {old now next : BlockLine} {q : Lines} → ArePassed end cmp key old now q
       → IsNextLine end cmp key now next → ArePassed end cmp key old next (q ++ now.head.now ∷ [])
-  passed_one {end} {old} {now} {next} (inl u) n = inr (record {
-    middle = [];
-    lines = rw (u.none, u.same) refl;
-    bytes = rw u.same at n.bytes;
-    whole = (tt, n.whole);
-    ordered = (rw u.same at n.ordered, tt);
-    passed = omega (arith, n.passed, u.passed);
-  })
-  passed_one {end} {old} {now} {next} (inr m) n = inr (record {
-    middle = m.middle ++ now.head.now ∷ [];
-    lines = rw m.lines refl;
-    bytes = m.bytes ∙ rw (n.bytes, unlines_push end m.middle now.head.now) (simp append_assoc);
-    whole = (AreLines_push end m.middle now.head.now m.whole.0 m.whole.1, n.whole);
-    ordered = sorted_push _ m.middle now.head.now next.head.now m.ordered n.ordered;
-    passed = omega (arith, n.passed, m.passed, length_push m.middle now.head.now);
-  })
+  passed_one a n = passed_on_by a (one_moved n)
 
   pub in_block_next : {end : ℕ} {now next : BlockLine} → IsNextLine end cmp key now next → IsInBlock now
       → IsInBlock next
   in_block_next {end} {now} {next} n fits =
       omega (arith, n.passed, ap length n.bytes, length-append next.head.now (end ∷ next.rest.now), fits)
+
+  -- the lines of one key
+
+  pub one_in_key : {end : ℕ} {now next : BlockLine} → IsNextLine end cmp key now next → IsInBlock now
+      → IsInKey end cmp key now next (now.head.now ∷ [])
+  one_in_key n fits = record {
+    passed = one_moved n;
+    own = (refl, tt);
+    ordered = n.ordered;
+    same = n.same;
+    in_block = in_block_next n fits;
+    key_is = n.key_is;
+  }
+
+  pub more_in_key : {end : ℕ} {first now next : BlockLine} {f : Lines} → IsKeyOrder cmp
+      → IsInKey end cmp key first now f → now.same ≡ true → IsNextLine end cmp key now next
+      → IsInKey end cmp key first next (f ++ now.head.now ∷ [])
+  more_in_key {first = first} {now} o i same n =
+      let equal : key first.head.now ≡ key now.head.now = o.exact _ _ (equal_of _ (sym i.same ∙ same)) in
+      record {
+        passed = moved_on i.passed (one_moved n);
+        own = EachKey-append _ key _ _ i.own (sym equal, tt);
+        ordered = rw equal n.ordered;
+        same = rw equal n.same;
+        in_block = in_block_next n i.in_block;
+        key_is = n.key_is;
+      }
+
+complete_lines_of : (end : ℕ) (ls : Lines) (bytes : List ℕ) → AreLines end ls
+    → complete_lines end (unlines end ls ++ bytes) ≡ ls ++ complete_lines end bytes
+complete_lines_of end [] bytes w = refl
+complete_lines_of end (line ∷ ls) bytes (first, others) =
+    grind (usual, complete_lines_cons, complete_lines_of end ls bytes others)
+
+take_some : (n : ℕ) (x : List ℕ) (xs : Lines) → 0 < n → take n (x ∷ xs) ≡ x ∷ take (n - 1) xs
+take_some = grind usual
+
+take_front : (xs ys : Lines) → take (length xs) (xs ++ ys) ≡ xs
+take_front = grind usual
+
+pub fewer_left : {end : ℕ} {cmp : Cmp} {key : Key} {first now : BlockLine} {f : Lines}
+    → IsMoved end cmp key first now f → length now.rest.now < length first.rest.now
+fewer_left {end} {now = now} m =
+    omega (
+      arith,
+      ap length m.bytes,
+      length-append (unlines end m.middle) (now.head.now ++ (end ∷ now.rest.now)),
+      length-append now.head.now (end ∷ now.rest.now),
+    )
+
+-- the lines between two lines of the block
+pub lines_are_between : {end : ℕ} {cmp : Cmp} {key : Key} {first now : BlockLine} {f : Lines} (more : ℕ)
+    → IsMoved end cmp key first now f → first.passed + suc more ≡ now.passed
+    → first.head.now ∷ take more (complete_lines end first.rest.now) ≡ f
+lines_are_between {end} {first = first} {now} more m count =
+    let same : more ≡ length m.middle = omega (arith, count, m.passed) in
+    rw (m.lines, m.bytes, complete_lines_of end m.middle (now.head.now ++ (end ∷ now.rest.now)) m.whole.0, same)
+    (ap (λ l. first.head.now ∷ l) (take_front m.middle _))
+
+pub next_of_key : (end : ℕ) (rest : List ℕ) (more size : ℕ) → 0 < more → IsFirstByte (is_byte end) rest (Some size)
+    → take more (complete_lines end rest)
+    ≡ take size rest ∷ take (more - 1) (complete_lines end (drop (size + 1) rest))
+next_of_key end rest more size some first =
+    let n = line_in_block end rest size first in
+    ap (λ l. take more (complete_lines end l)) n.bytes
+    ∙ ap (take more) (complete_lines_cons end _ (drop (size + 1) rest) n.whole)
+    ∙ take_some more _ _ some
+
+pub last_of_key : (end : ℕ) (rest : List ℕ) (more : ℕ) → IsFirstByte (is_byte end) rest None
+    → take more (complete_lines end rest) ≡ []
+last_of_key end rest more none =
+    ap (take more) (complete_lines_none end rest (line_if_not_found end rest none)) ∙ grind usual
 
 -- the current line of an input, before others are passed
 pub can_merge : {key : Key} {own : BlockLine} {reader : Reader} → own.passed ≡ 0 → own.rest.now ≡ reader.buffered
@@ -84,7 +183,7 @@ module _ {tool : MergeTool} {now next : Side → BlockLine} {mid is : Output} (s
       → ((side : Side) → ArePassed tool.terminator tool.cmp (tool.key side) (old side) (now side) (q side))
       → (side : Side) → ArePassed tool.terminator tool.cmp (tool.key side) (old side) (next side) (q side ++ s.f side)
   passed_more {q = q} a side =
-      ⊎_elim (λ h. rw h.0 (passed_one tool.cmp (tool.key side) (a side) h.2))
+      ⊎_elim (λ h. passed_on_by tool.cmp (tool.key side) (a side) h.1.passed)
       (λ h. rw (h.0, h.2, append-nil (q side)) (a side)) (s.passes side)
 
 -- no key that may follow is below the current one
@@ -108,14 +207,13 @@ module _ (tool : MergeTool) (o : IsKeyOrder tool.cmp) where
   none_follows side r a k gt c =
       lines_with_key-above tool o (key side) k r (Each-weaker _ _ (λ y h. above_of a k y gt h) _ c)
 
-  pub line_run : (side : Side) (a b : List ℕ) {x k : List ℕ} → key side x ≡ a → a ≡ k → AtMost cmp a b
-      → IsLeastKeyRun cmp (key side) (AtLeast a) (AtLeast b) k (x ∷ [])
-  line_run side a b {x} {k} is same h = record {
-    own = (is ∙ same, tt);
-    may_follow = λ r c. (
-      rw is (self_at_most cmp o a),
-      Each-weaker _ _ (λ y more. at_most_trans cmp o a b y h more) _ c,
-    );
+  pub line_run : (side : Side) (a b : List ℕ) {k : List ℕ} {f : Lines} → HaveKey (key side) a f → a ≡ k
+      → AtMost cmp a b → IsLeastKeyRun cmp (key side) (AtLeast a) (AtLeast b) k f
+  line_run side a b {k} own same h = record {
+    own = rw same at own;
+    may_follow = λ r c.
+        EachKey-append _ (key side) _ _ (Each-weaker _ _ (λ y e. rw e (self_at_most cmp o a)) _ own)
+        (Each-weaker _ _ (λ y more. at_most_trans cmp o a b y h more) _ c);
     own_under = rw (sym same) (self_at_most cmp o a);
     under = λ j u. at_most_trans cmp o j a b u h;
     later = rw (sym same) (record {
@@ -142,7 +240,7 @@ module _ (tool : MergeTool) (o : IsKeyOrder tool.cmp) where
     run_of : (side : Side)
         → IsLeastKeyRun cmp (key side) (at_heads tool now side) (at_heads tool next side) s.k (s.f side)
     run_of side =
-        ⊎_elim (λ h. rw h.0 (line_run side _ _ refl h.1 h.2.ordered))
+        ⊎_elim (λ h. line_run side _ _ h.1.own h.0 h.1.ordered)
         (λ h. rw (h.0, h.2) (no_run side _ _ h.1)) (s.passes side)
 
     pub step_written : {q : Side → Lines} {was : Output} → mid.write_failed ≡ false
@@ -162,16 +260,15 @@ module _ (tool : MergeTool) (o : IsKeyOrder tool.cmp) where
           under = mi.under;
           wrote = mi.wrote;
           clean = clean;
-          in_block = λ side. ⊎_elim (λ h. in_block_next cmp (key side) h.2 (m.in_block side))
-              (λ h. rw h.2 (m.in_block side)) (s.passes side);
-          key_is = λ side. ⊎_elim (λ h. h.2.key_is) (λ h. rw h.2 (m.key_is side)) (s.passes side);
+          in_block = λ side. ⊎_elim (λ h. h.1.in_block) (λ h. rw h.2 (m.in_block side)) (s.passes side);
+          key_is = λ side. ⊎_elim (λ h. h.1.key_is) (λ h. rw h.2 (m.key_is side)) (s.passes side);
         }
 
   pub merge_starts : {old : Side → BlockLine} {was : Output} → ((side : Side) → CanMerge (key side) (old side))
       → was.write_failed ≡ false → AreMerged tool old old was was
   merge_starts {was = was} can clean = record {
     q = λ side. [];
-    passed = λ side. inl (record { none = refl; same = refl; passed = (can side).passed });
+    passed = λ side. ((can side).passed, inl (record { none = refl; same = refl }));
     first = λ w r c. refl;
     under = λ of side. tt;
     wrote = push_nothing was;
@@ -179,6 +276,11 @@ module _ (tool : MergeTool) (o : IsKeyOrder tool.cmp) where
     in_block = λ side. (can side).in_block;
     key_is = λ side. (can side).key_is;
   }
+
+  line_alone : (s : Side) (x : List ℕ) {first now : BlockLine} → IsInKey terminator cmp (key s) first now (x ∷ [])
+      → IsInKey terminator cmp (key s) first now (alone s x s)
+  line_alone First x i = i
+  line_alone Second x i = i
 
   -- one input has the least key
   module _ (by_line : IsLineByLine tool.entries) where
@@ -190,12 +292,12 @@ module _ (tool : MergeTool) (o : IsKeyOrder tool.cmp) where
 
     pub alone_step : (s : Side) {now : Side → BlockLine} {next : BlockLine} {mid is : Output}
         → is_gt (cmp (key (other s) (now (other s)).head.now) (key s (now s).head.now)) ≡ true
-        → IsNextLine terminator cmp (key s) (now s) next
+        → IsInKey terminator cmp (key s) (now s) next ((now s).head.now ∷ [])
         → PushEffect mid is (output_of tool (alone s (now s).head.now)) → IsStep tool now (with_side s next now) mid is
     alone_step s {now} {next} gt n wrote = record {
       k = key s (now s).head.now;
       f = alone s (now s).head.now;
-      passes = side_case _ s (inl (put_same s _ _, refl, rw (put_same s next now) n))
+      passes = side_case _ s (inl (refl, rw (put_same s next now) (line_alone s _ n)))
           (inr (put_other s _ _, gt, put_other s next now));
       first = λ r c. alone_splits s _ _ (λ side. lines_with_key (key side) (r side) (key s (now s).head.now))
           (none_follows (other s) _ _ _ gt (rw (put_other s next now) at (c (other s))));
@@ -203,26 +305,31 @@ module _ (tool : MergeTool) (o : IsKeyOrder tool.cmp) where
     }
 
   -- both inputs have the least key
-  pub pair_step : {now next : Side → BlockLine} {mid is : Output} → let k = key First (now First).head.now in
-      let one = (now First).head.now ∷ [] in let two = (now Second).head.now ∷ [] in
-      key Second (now Second).head.now ≡ k
-      → ((side : Side) → IsNextLine terminator cmp (key side) (now side) (next side))
+  pub pair_step : {now next : Side → BlockLine} {mid is : Output} {f g : Lines}
+      → let k = key First (now First).head.now in key Second (now Second).head.now ≡ k
+      → ((side : Side) → IsInKey terminator cmp (key side) (now side) (next side) (both f g side))
       → ((r : Side → Lines) → MayFollowHeads tool next r
-      → tool.entries k (one ++ lines_with_key (key First) (r First) k) (two ++ lines_with_key (key Second) (r Second) k)
-      ≡ tool.entries k one two ++ entries_of_key tool r k)
-      → PushEffect mid is (output_of tool (both one two)) → IsStep tool now next mid is
-  pair_step {now} same n first wrote = record {
+      → tool.entries k (f ++ lines_with_key (key First) (r First) k) (g ++ lines_with_key (key Second) (r Second) k)
+      ≡ tool.entries k f g ++ entries_of_key tool r k)
+      → PushEffect mid is (output_of tool (both f g)) → IsStep tool now next mid is
+  pair_step {now} {f = f} {g} same n first wrote = record {
     k = key First (now First).head.now;
-    f = both ((now First).head.now ∷ []) ((now Second).head.now ∷ []);
-    passes = elim [ First ↦ inl (refl, refl, n First) | Second ↦ inl (refl, same, n Second) ];
+    f = both f g;
+    passes = elim [ First ↦ inl (refl, n First) | Second ↦ inl (same, n Second) ];
     first = first;
     wrote = wrote;
   }
 
+  pub key_output : (k : List ℕ) (f : Side → Lines) → tool.entries k [] [] ≡ []
+      → ((side : Side) → HaveKey (key side) k (f side))
+      → output_of tool f ≡ unlines terminator (tool.entries k (f First) (f Second))
+  key_output k f none own =
+      ap (unlines terminator) (simp append-nil at (front_is tool o all_keys k none f (λ side. []) own (λ side. tt)))
+
   -- the keys that follow are greater
   pub pair_splits : ((k : List ℕ) → tool.entries k [] [] ≡ []) → {now next : Side → BlockLine} (k : List ℕ)
       (one two : Lines) → ((side : Side) → key side (now side).head.now ≡ k)
-      → ((side : Side) → IsNextLine terminator cmp (key side) (now side) (next side))
+      → ((side : Side) → IsInKey terminator cmp (key side) (now side) (next side) (both one two side))
       → ((side : Side) → (next side).same ≡ false) → (r : Side → Lines) → MayFollowHeads tool next r
       → tool.entries k (one ++ lines_with_key (key First) (r First) k) (two ++ lines_with_key (key Second) (r Second) k)
       ≡ tool.entries k one two ++ entries_of_key tool r k
@@ -238,6 +345,11 @@ module _ (tool : MergeTool) (o : IsKeyOrder tool.cmp) where
 
 -- ---- the steps of a tool in an order of its keys
 
+-- the output for these lines of a key comes first, whatever follows
+abbrev pub SplitsOff : Entries → Lines → Lines → Type 0
+SplitsOff entries f g =
+    (k : List ℕ) (q r : Lines) → entries k (f ++ q) (g ++ r) ≡ entries k f g ++ entries k q r
+
 module _ (tool : MergeTool) (cmp : Cmp) (key : Side → Key) (o : IsKeyOrder cmp) (by : IsBlockTool tool key) where
   abbrev ordered : MergeTool
   ordered = in_order tool cmp key
@@ -250,23 +362,30 @@ module _ (tool : MergeTool) (cmp : Cmp) (key : Side → Key) (o : IsKeyOrder cmp
   pub alone_passes : (s : Side) {now : Side → BlockLine} {next : BlockLine} {mid is : Output} {k l : List ℕ}
       → k ≡ key s (now s).head.now → l ≡ key (other s) (now (other s)).head.now → is_gt (cmp l k) ≡ true
       → PushEffect mid is (unlines tool.terminator (entries_alone tool.entries s k (now s).head.now))
-      → IsNextLine tool.terminator cmp (key s) (now s) next → IsStep ordered now (with_side s next now) mid is
-  alone_passes s own others gt pushed n =
-      alone_step ordered o by.alone s (rw (own, others) at gt) n (line_pushed s own pushed)
+      → IsInBlock (now s) → IsNextLine tool.terminator cmp (key s) (now s) next
+      → IsStep ordered now (with_side s next now) mid is
+  alone_passes s own others gt pushed fits n =
+      alone_step ordered o by.alone s (rw (own, others) at gt) (one_in_key cmp (key s) n fits)
+      (line_pushed s own pushed)
 
-  pub pair_passes : {now next : Side → BlockLine} {mid is : Output} {k l : List ℕ} → k ≡ key First (now First).head.now
-      → l ≡ key Second (now Second).head.now → k ≡ l
-      → PushEffect mid is
-      (unlines tool.terminator (tool.entries k ((now First).head.now ∷ []) ((now Second).head.now ∷ [])))
-      → ((side : Side) → IsNextLine tool.terminator cmp (key side) (now side) (next side))
-      → IsPairByPair tool.entries ⊎ ((side : Side) → (next side).same ≡ false) → IsStep ordered now next mid is
-  pair_passes {now} own others equal pushed n first =
+  pub pair_passes : {now next : Side → BlockLine} {mid is : Output} {k l : List ℕ} {f g : Lines}
+      → k ≡ key First (now First).head.now → l ≡ key Second (now Second).head.now → k ≡ l
+      → PushEffect mid is (unlines tool.terminator (tool.entries k f g))
+      → ((side : Side) → IsInKey tool.terminator cmp (key side) (now side) (next side) (both f g side))
+      → SplitsOff tool.entries f g ⊎ ((side : Side) → (next side).same ≡ false) → IsStep ordered now next mid is
+  pair_passes {now} {f = f} {g} own others equal pushed n first =
       let same : key Second (now Second).head.now ≡ key First (now First).head.now =
       sym others ∙ sym equal ∙ own in
       pair_step ordered o same n
-      (⊎_elim (λ law r c. law _ _ _ _ _)
-      (λ new. pair_splits ordered o by.alone.none _ _ _ (elim [ First ↦ refl | Second ↦ same ]) n new) first)
-      (rw (entries_of_pair ordered o _ _ same) (rw own at pushed))
+      (⊎_elim (λ law r c. law _ _ _)
+      (λ new. pair_splits ordered o by.alone.none _ f g (elim [ First ↦ refl | Second ↦ same ]) n new) first)
+      (rw (key_output ordered o _ (both f g) (by.alone.none _)
+      (elim [ First ↦ (n First).own | Second ↦ rw same at (n Second).own ])) (rw own at pushed))
+
+-- the lines have the key by the keys of the tool, too
+pub have_keys : {key own : Key} {k l : List ℕ} (f : Lines) → HaveKey key k f → ((x : List ℕ) → key x ≡ own x) → k ≡ l
+    → HaveKey own l f
+have_keys {l = l} f have same is = subst (λ t. HaveKey t l f) (λ i x. same x i) (rw is at have)
 
 -- the lines that follow have other keys, unless the tool writes pair by pair
 pub pairs_or_new : {P : Type 0} (pairs : Bool) (next : Side → BlockLine) → (pairs ≡ true → P)
@@ -290,9 +409,9 @@ pub record NoneBelow (cmp : Cmp) (key : Key) (old now : BlockLine) (q : Lines) :
 module _ (cmp : Cmp) (o : IsKeyOrder cmp) (key : Key) where
   pub none_below_first : {end : ℕ} {old now : BlockLine} {q : Lines} → ArePassed end cmp key old now q
       → NoneBelow cmp key old now q
-  none_below_first {old = old} {now} (inl u) =
+  none_below_first {old = old} {now} (_, inl u) =
       record { passed = rw u.none tt; current = rw u.same (self_at_most cmp o (key old.head.now)) }
-  none_below_first {old = old} {now} (inr m) =
+  none_below_first {old = old} {now} (_, inr m) =
       let (a, b) = each_last _ key m.middle now.head.now (from_key cmp o key _ _ m.ordered) in
       record { passed = rw m.lines (self_at_most cmp o (key old.head.now), a); current = b }
 
@@ -361,19 +480,27 @@ each_ends end (x ∷ ls) = grind (usual, each_ends end ls)
 pub can_resume : {end : ℕ} {cmp : Cmp} {key : Key} {old now : BlockLine} {q : Lines} {reached : Reached}
     {cursor : Sorted} {reader : Reader} → old.rest.now ≡ reader.buffered → ArePassed end cmp key old now q
     → IsReached now reached → cursor.status ≡ Head → IsReaderOf cursor reader → CanResume reached cursor reader
-can_resume rest (inl u) at head own = record {
+can_resume rest (none, inl u) at head own = record {
   head = head;
   own_reader = own;
-  within = omega (arith, at.left, at.passed, u.passed, ap (λ l. length l.rest.now) u.same, ap length rest);
-  line = λ some. absurd (omega (arith, at.passed, u.passed));
+  within = omega (
+    arith,
+    at.left,
+    at.passed,
+    ap (λ l. l.passed) u.same,
+    none,
+    ap (λ l. length l.rest.now) u.same,
+    ap length rest,
+  );
+  line = λ some. absurd (omega (arith, at.passed, ap (λ l. l.passed) u.same, none));
 }
-can_resume {end} {now = now} rest (inr m) at head own =
+can_resume {end} {now = now} rest (none, inr m) at head own =
     let size = ap length m.bytes ∙ length-append (unlines end m.middle) (now.head.now ++ (end ∷ now.rest.now)) in
     let more = length-append now.head.now (end ∷ now.rest.now) in
     record {
       head = head;
       own_reader = own;
-      within = omega (arith, at.left, at.passed, m.passed, ap length rest, size, more, each_ends end m.middle);
+      within = omega (arith, at.left, at.passed, m.passed, none, ap length rest, size, more, each_ends end m.middle);
       line = λ some. omega (arith, at.left, at.size, ap length rest, size, more);
     }
 

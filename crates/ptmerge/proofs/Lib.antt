@@ -7,6 +7,7 @@ pub mod CommLemmas
 pub mod Parts
 pub mod PassedLemmas
 pub mod PairLemmas
+pub mod RowLemmas
 pub mod OutputLaws
 pub mod JoinLemmas
 pub mod MergeLemmas

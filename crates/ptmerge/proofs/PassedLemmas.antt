@@ -121,16 +121,17 @@ module _ (tool : MergeTool) (o : IsKeyOrder tool.cmp) (s : Side) {old was : Read
     nothing_follows = grind arith;
   }
 
-  pub side_moved : {is : Reader} {next : Sorted} {after : Slots} → is ≡ consumed was now → IsSound is
+  pub side_moved : {is : Reader} {next : Sorted} {after : Slots} → first.passed ≡ 0 → is ≡ consumed was now → IsSound is
       → IsPassed now.passed now.head.now cursor next store after
       → SideInvariant tool s old is next after ((p ++ q) ++ current ∷ []) (p ++ q) (AtLeast (tool.key s current))
-  side_moved reader sound passed = record {
+  side_moved none reader sound passed = record {
     facts = facts_moved reader sound;
     begun = inr (omega (arith, length_push (p ++ q) current));
     number = omega (
       arith,
       ap (λ c. c.number) passed.cursor,
       m.passed,
+      none,
       i.number,
       ap length all_lines,
       length-append ls (m.middle ++ current ∷ []),
@@ -228,7 +229,7 @@ module _ {tool : MergeTool} {old : MergeState} {w : IsOpenMerge tool old} {reade
   }
 
   pub goes_ahead : Ahead
-  goes_ahead = ⊎_elim ahead_unmoved ahead_moved passed
+  goes_ahead = ⊎_elim ahead_unmoved ahead_moved passed.1
 
 module _ {tool : MergeTool} {old : MergeState} {w : IsOpenMerge tool old} {reader : Side → Reader}
     {cursor : Side → Sorted} {store : Slots} {ls p : Side → Lines} {b : Side → Bound}
@@ -246,7 +247,7 @@ module _ {tool : MergeTool} {old : MergeState} {w : IsOpenMerge tool old} {reade
 
   by_unmoved : IsUnmoved first now q → Goal
   by_unmoved u =
-      let none : reached.passed ≡ 0 = reached_is.passed ∙ u.passed in
+      let none : reached.passed ≡ 0 = reached_is.passed ∙ ap (λ l. l.passed) u.same ∙ passed.0 in
       let left : reached.left ≡ length (reader s).buffered =
       reached_is.left ∙ ap (λ l. length l.rest.now) u.same ∙ ap length at_rest in
       let same = nothing_used (reader s) is reached.left left resumed.reader in
@@ -289,7 +290,7 @@ module _ {tool : MergeTool} {old : MergeState} {w : IsOpenMerge tool old} {reade
       } in
       record {
         now_ls = (p s ++ q) ++ x ∷ [];
-        side = side_moved tool w.o s (a.sides s) head at_head at_rest m (rw reached_is.left at resumed.reader)
+        side = side_moved tool w.o s (a.sides s) head at_head at_rest m passed.0 (rw reached_is.left at resumed.reader)
             resumed.sound on;
         status_is = ap (λ c. c.status) on.cursor ∙ head;
         line_is = rw (on.cursor, on.store)
@@ -303,7 +304,7 @@ module _ {tool : MergeTool} {old : MergeState} {w : IsOpenMerge tool old} {reade
       }
 
   pub has_passed : Goal
-  has_passed = ⊎_elim by_unmoved by_moved passed
+  has_passed = ⊎_elim by_unmoved by_moved passed.1
 
   pub cursors_on : (n : Goal) → CursorsInvariant w (with_side s is reader) (with_side s next cursor) after
       (with_side s n.now_ls ls) (with_side s (p s ++ q) p) (with_side s (AtLeast (tool.key s now.head.now)) b)
@@ -340,8 +341,8 @@ emptied_fits s cursor slots keeps all up =
 still_there : {end : ℕ} {cmp : Cmp} {key : Key} {old now : BlockLine} {q : Lines} {reached : Reached} {reader : Reader}
     → old.rest.now ≡ reader.buffered → ArePassed end cmp key old now q → IsReached now reached → 0 < reached.passed
     → IsDone reader → ⊥
-still_there rest (inl u) at some done = absurd (omega (arith, at.passed, u.passed))
-still_there {end} {now = now} rest (inr m) at some done =
+still_there rest (none, inl u) at some done = absurd (omega (arith, at.passed, ap (λ l. l.passed) u.same, none))
+still_there {end} {now = now} rest (none, inr m) at some done =
     let size = ap length m.bytes ∙ length-append (unlines end m.middle) (now.head.now ++ (end ∷ now.rest.now)) in
     absurd (omega (
       arith,

@@ -1,13 +1,14 @@
 -- The merge of the lines of two blocks: keys in order, what it requires of a tool, the lines passed in the block of one
 -- input, and the contracts of a step and of the whole merge of both, or of one after the end of the other input. `head`
 -- is the current line of an input, and `rest` the bytes of its block after this line.
-use Rattle.std.specs.Prelude.{◌≡◌, ◌⊎◌, ℕ, suc, ◌+◌, ◌<◌, ◌≤◌, List, [], ◌∷◌, ◌++◌, length, map}
+use Rattle.std.specs.Prelude.{◌≡◌, ◌⊎◌, ℕ, suc, ◌+◌, ◌<◌, ◌≤◌, List, [], ◌∷◌, ◌++◌, length, map, take}
 use Rattle.std.specs.Prelude.{Bool, true, false, Option, Some, None}
+use Rattle.std.specs.List.{flat_map}
 use Rattle.std.specs.Ordering.{is_eq, is_gt}
 use Rattle.ptlines.specs.Calls.Outputs.{Output, PushEffect}
 use Rattle.ptlines.specs.Calls.Text.{IsLine}
 use Rattle.ptlines.specs.Laws.Text.{AreLines}
-use Rattle.ptlines.specs.Text.{unlines}
+use Rattle.ptlines.specs.Text.{complete_lines, unlines}
 use Rattle.ptlines.specs.ByteOrder.{Cmp}
 use Rattle.ptlines.specs.declared.sizes.TheConstants.{BLOCK}
 use Rattle.ptmerge.specs.Calls.MergeSpec.{MergeTool, entries_by_key, entries_of_key}
@@ -18,6 +19,8 @@ use Rattle.ptmerge.specs.declared.key_order.Side.{Side}
 use Rattle.ptmerge.specs.declared.key_order.Side.TheVariants.{First, Second}
 use Rattle.ptmerge.specs.declared.merging.block_lines.BlockLine.{BlockLine}
 use Rattle.ptmerge.specs.declared.merging.block_lines.BlockRun.{BlockRun}
+use Rattle.ptmerge.specs.declared.merging.block_lines.KeyLines.{KeyLines}
+use Rattle.ptmerge.specs.declared.merging.block_lines.WholeKey.{WholeKey}
 use Rattle.ptmerge.specs.declared.merging.cursor.Reached.{Reached}
 
 -- ---- keys in order
@@ -30,6 +33,10 @@ AtMost cmp a b = is_gt (cmp a b) ≡ false
 abbrev pub Each : (List ℕ → Type 0) → Lines → Type 0
 Each P [] = Unit {0}
 Each P (x ∷ xs) = P x × Each P xs
+
+-- The key of each line is `k`.
+abbrev pub HaveKey : Key → List ℕ → Lines → Type 0
+HaveKey key k xs = Each (λ x. x ≡ k) (map key xs)
 
 -- The key of each line has the property.
 abbrev pub EachKey : (List ℕ → Type 0) → Key → Lines → Type 0
@@ -67,6 +74,19 @@ abbrev pub IsPairByPair : Entries → Type 0
 IsPairByPair entries = (k x y : List ℕ) (f g : Lines)
     → entries k (x ∷ f) (y ∷ g) ≡ entries k (x ∷ []) (y ∷ []) ++ entries k f g
 
+-- The output for a line of the first input with each of these lines of the second one.
+abbrev pub row : Entries → List ℕ → List ℕ → Lines → Lines
+row entries k x g = flat_map (λ y. entries k (x ∷ []) (y ∷ [])) g
+
+-- The output for each of these lines of the first input with each of those of the second one.
+abbrev pub rows : Entries → List ℕ → Lines → Lines → Lines
+rows entries k f g = flat_map (λ x. row entries k x g) f
+
+-- The output for a key is that of each line of the first input with each line of the second one.
+abbrev pub IsEachWithEach : Entries → Type 0
+IsEachWithEach entries = (k x y : List ℕ) (f g : Lines)
+    → entries k (x ∷ f) (y ∷ g) ≡ rows entries k (x ∷ f) (y ∷ g)
+
 -- The lines of both inputs are merged by the keys of the tool.
 pub record IsBlockTool (tool : MergeTool) (key : Side → Key) : Type 0 where
   pub keys : (side : Side) (x : List ℕ) → key side x ≡ tool.key side x
@@ -101,7 +121,6 @@ pub record IsNextLine (end : ℕ) (cmp : Cmp) (key : Key) (line next : BlockLine
 pub record IsUnmoved (old now : BlockLine) (q : Lines) : Type 0 where
   pub none : q ≡ []
   pub same : now ≡ old
-  pub passed : now.passed ≡ 0
 
 -- The lines `q` were passed, which are the line `old` and then lines of the block.
 pub record IsMoved (end : ℕ) (cmp : Cmp) (key : Key) (old now : BlockLine) (q : Lines) : Type 0 where
@@ -110,11 +129,43 @@ pub record IsMoved (end : ℕ) (cmp : Cmp) (key : Key) (old now : BlockLine) (q 
   pub bytes : old.rest.now ≡ unlines end middle ++ (now.head.now ++ (end ∷ now.rest.now))
   pub whole : AreLines end middle × IsLine end now.head.now
   pub ordered : IsSortedFrom cmp key (Some (key old.head.now)) (middle ++ now.head.now ∷ [])
-  pub passed : now.passed ≡ suc (length middle)
+  pub passed : now.passed ≡ old.passed + suc (length middle)
 
--- The lines `q` were passed, if any.
+-- The lines `q` were passed, if any, and none before them.
 abbrev pub ArePassed : ℕ → Cmp → Key → BlockLine → BlockLine → Lines → Type 0
-ArePassed end cmp key old now q = IsUnmoved old now q ⊎ IsMoved end cmp key old now q
+ArePassed end cmp key old now q = (old.passed ≡ 0) × (IsUnmoved old now q ⊎ IsMoved end cmp key old now q)
+
+-- The lines `f` were passed, from the line `first` on, and have its key.
+pub record IsInKey (end : ℕ) (cmp : Cmp) (key : Key) (first now : BlockLine) (f : Lines) : Type 0 where
+  pub passed : IsMoved end cmp key first now f
+  pub own : HaveKey key (key first.head.now) f
+  pub ordered : AtMost cmp (key first.head.now) (key now.head.now)
+  pub same : now.same ≡ is_eq (cmp (key first.head.now) (key now.head.now))
+  pub in_block : IsInBlock now
+  pub key_is : HasKey key now
+
+-- Lines were passed, from the line `first` on, and have its key.
+pub record IsReachedInKey (end : ℕ) (cmp : Cmp) (key : Key) (first now : BlockLine) : Type 0 where
+  pub f : Lines
+  pub passed : IsInKey end cmp key first now f
+
+-- So many lines of the bytes after the first one.
+abbrev pub further_lines : ℕ → KeyLines → Lines
+further_lines end g = take g.more (complete_lines end g.rest.now)
+
+-- The first line, and those after it.
+abbrev pub key_lines : ℕ → KeyLines → Lines
+key_lines end g = g.line.now ∷ further_lines end g
+
+-- These lines, if there are any.
+abbrev pub lines_if_any : ℕ → Option KeyLines → Lines
+lines_if_any end None = []
+lines_if_any end (Some g) = key_lines end g
+
+-- All lines with the key of the line `first`.
+pub record IsWholeKey (end : ℕ) (cmp : Cmp) (key : Key) (first : BlockLine) (whole : WholeKey) : Type 0 where
+  pub passed : IsInKey end cmp key first whole.after (key_lines end whole.lines)
+  pub new : whole.after.same ≡ false
 
 -- Where the input is.
 pub record IsReached (line : BlockLine) (reached : Reached) : Type 0 where
@@ -143,11 +194,10 @@ pub record AreMerged (tool : MergeTool) (old now : Side → BlockLine) (was is :
   pub in_block : (side : Side) → IsInBlock (now side)
   pub key_is : (side : Side) → HasKey (tool.key side) (now side)
 
--- The current line, which has the key `k`, is passed. Or it stays, with a greater key.
+-- The current line is passed, which has the key `k`, and lines with this key after it. Or it stays, with a greater key.
 abbrev pub IsPassedOrAbove : MergeTool → Side → List ℕ → BlockLine → BlockLine → Lines → Type 0
 IsPassedOrAbove tool side k now next f =
-    ((f ≡ now.head.now ∷ []) × (tool.key side now.head.now ≡ k)
-    × IsNextLine tool.terminator tool.cmp (tool.key side) now next)
+    ((tool.key side now.head.now ≡ k) × IsInKey tool.terminator tool.cmp (tool.key side) now next f)
     ⊎ ((f ≡ []) × (is_gt (tool.cmp (tool.key side now.head.now) k) ≡ true) × (next ≡ now))
 
 -- The current lines with the least key `k` are passed, and were written. They are the lines `f`, and come before

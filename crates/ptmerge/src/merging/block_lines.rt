@@ -5,7 +5,8 @@
 ghost use Rattle.memchr.specs.Find.{IsFirstByte, is_byte};
 ghost use Rattle.std.specs.Prelude.{◌≡◌, IfSome};
 ghost use Rattle.ptmerge.specs.Calls.Sides.{both};
-ghost use Rattle.ptmerge.specs.Private.BlockLines.{AreReached, HasKey, IsInBlock, IsNextLine, IsReached};
+ghost use Rattle.ptmerge.specs.Private.BlockLines.{AreReached, HasKey, IsInBlock, IsNextLine, IsReached, IsWholeKey};
+ghost use Rattle.ptmerge.specs.Private.BlockLines.{further_lines, lines_if_any};
 
 use crate::key_order::{KeyOrder, Side};
 use crate::merging::cursor::Reached;
@@ -39,6 +40,21 @@ pub(crate) struct BlockLine<'a> {
     pub rest: &'a [u8],
     pub passed: usize,
     pub same: bool,
+}
+
+// Lines of one key: the first one, and `more` lines of the bytes after it.
+#[derive(Clone, Copy)]
+pub(crate) struct KeyLines<'a> {
+    pub line: &'a [u8],
+    pub rest: &'a [u8],
+    pub more: usize,
+}
+
+// All lines of a key, and the line after them.
+#[derive(Clone, Copy)]
+pub(crate) struct WholeKey<'a> {
+    pub lines: KeyLines<'a>,
+    pub after: BlockLine<'a>,
 }
 
 // Where a merge of two blocks ended.
@@ -94,6 +110,34 @@ impl<'a> BlockLine<'a> {
         })
     }
 
+    // Returns the lines that have this line's key, and the line after them, if that ends in the block and is in order.
+    // `next` is the line after this one.
+    #[inline(always)]
+    pub(crate) fn whole_key<K: KeyOrder>(
+        self,
+        next: BlockLine<'a>,
+        order: &K,
+        side: Side,
+        terminator: u8,
+    ) -> Option<WholeKey<'a>>
+        requires next { let key = K.key_of order.now side in
+            IsNextLine terminator (K.order order.now) key self next }
+        requires passed { IsInBlock self }
+        ensures { let key = K.key_of order.now side in
+            IfSome result (λ whole. IsWholeKey terminator (K.order order.now) key self.entry whole) }
+    {
+        let mut after = next;
+        'lines: while after.same {
+            after = after.next(order, side, terminator)?;
+        }
+        let lines = KeyLines {
+            line: self.head,
+            rest: self.rest,
+            more: after.passed - next.passed,
+        };
+        Some(WholeKey { lines, after })
+    }
+
     // Returns where the input is.
     #[inline(always)]
     pub(crate) fn reached(self) -> Reached
@@ -104,6 +148,25 @@ impl<'a> BlockLine<'a> {
             size: self.head.len(),
             left: self.rest.len(),
         }
+    }
+}
+
+impl<'a> KeyLines<'a> {
+    // Returns the lines after the first one, if there are any.
+    #[inline(always)]
+    #[tactic(auto, using(crate::proofs::BlockLemmas::last_of_key))]
+    pub(crate) fn next(self, terminator: u8) -> Option<KeyLines<'a>>
+        ensures { further_lines terminator self.entry ≡ lines_if_any terminator result }
+    {
+        if self.more == 0 {
+            return None;
+        }
+        let end = find_end(terminator, self.rest)?;
+        Some(KeyLines {
+            line: &self.rest[..end],
+            rest: &self.rest[end + 1..],
+            more: self.more - 1,
+        })
     }
 }
 

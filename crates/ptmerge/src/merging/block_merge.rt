@@ -2,13 +2,16 @@
 //! tool.
 
 ghost use Rattle.std.specs.Prelude.{◌≡◌, false, IfOk, OnOk, OnErr};
+ghost use Rattle.ptlines.specs.Text.{unlines};
 ghost use Rattle.ptmerge.specs.Calls.MergeCall.{merge_state};
 ghost use Rattle.ptmerge.specs.Calls.MergeSteps.{AreValidCursors};
 ghost use Rattle.ptmerge.specs.Calls.Sides.{both, other};
 ghost use Rattle.ptmerge.specs.Private.BlockLines.{BlockRunPost, CanMerge, HasFailed, HasFailedAlone};
-ghost use Rattle.ptmerge.specs.Private.BlockLines.{IsBlockTool, LineRunPost, in_order};
+ghost use Rattle.ptmerge.specs.Private.BlockLines.{HaveKey, IsBlockTool, LineRunPost, in_order, key_lines, row, rows};
 ghost use Rattle.ptmerge.specs.Private.Passed.{AreBlocksMerged, BlocksPost, BlocksPre, IsBlockPassed};
+ghost use Rattle.ptmerge.specs.Private.Write.{WriteBytesPost};
 ghost use Rattle.ptmerge.specs.Private.WriteAndAdvance.{AdvancePre};
+ghost use Rattle.ptmerge.specs.declared.key_order.Side.TheVariants as sides;
 ghost use Rattle.ptmerge.specs.declared.key_order.Side.{Side as SideType};
 ghost use Rattle.ptmerge.specs.declared.merging.cursor.CursorStatus.TheVariants as status_is;
 
@@ -16,7 +19,7 @@ use crate::faults::MergeFault;
 use crate::key_order::Side::{First, Second};
 use crate::key_order::{KeyOrder, Side};
 use crate::merging::Merge;
-use crate::merging::block_lines::{BlockLine, BlockRun};
+use crate::merging::block_lines::{BlockLine, BlockRun, KeyLines};
 use crate::merging::cursor::CursorStatus::{Ended, Head};
 use crate::merging::cursor::Reached;
 use crate::merging::writer::MergeWriter;
@@ -24,9 +27,62 @@ use ptlines::{LineReader, Out, Sink, Source, Store, WriteFault};
 use std::alloc::Allocator;
 use std::cmp::Ordering;
 
+// Writes the output for a line of the first input with each of these lines of the second one, all of one key.
+#[inline(always)]
+fn write_row<T: MergeWriter, W: Sink>(
+    tool: T,
+    key: &[u8],
+    one: &[u8],
+    seconds: KeyLines,
+    terminator: u8,
+    out: &mut Out<W>,
+) -> Result<(), WriteFault>
+    requires one { (T.tool tool).key sides.First one.now ≡ key.now }
+    requires two { HaveKey ((T.tool tool).key sides.Second) key.now (key_lines terminator seconds) }
+    requires clean { out.old.write_failed ≡ false }
+    ensures { let lines = row (T.tool tool).entries key.now one.now (key_lines terminator seconds.entry) in
+        WriteBytesPost out.old out.new (unlines terminator lines) result }
+{
+    let mut two = seconds;
+    'lines: loop {
+        tool.write_both(key, one, two.line, terminator, out)?;
+        let Some(next) = two.next(terminator) else {
+            return Ok(());
+        };
+        two = next;
+    }
+}
+
+// Writes the output for each of these lines of the first input with each of those of the second one, all of one key.
+#[inline(never)]
+fn write_rows<T: MergeWriter, W: Sink>(
+    tool: T,
+    key: &[u8],
+    firsts: KeyLines,
+    seconds: KeyLines,
+    terminator: u8,
+    out: &mut Out<W>,
+) -> Result<(), WriteFault>
+    requires one { HaveKey ((T.tool tool).key sides.First) key.now (key_lines terminator firsts) }
+    requires two { HaveKey ((T.tool tool).key sides.Second) key.now (key_lines terminator seconds) }
+    requires clean { out.old.write_failed ≡ false }
+    ensures { let f = key_lines terminator firsts.entry in
+        let lines = rows (T.tool tool).entries key.now f (key_lines terminator seconds.entry) in
+        WriteBytesPost out.old out.new (unlines terminator lines) result }
+{
+    let mut one = firsts;
+    'lines: loop {
+        write_row(tool, key, one.line, seconds, terminator, out)?;
+        let Some(next) = one.next(terminator) else {
+            return Ok(());
+        };
+        one = next;
+    }
+}
+
 // Merges the lines of two blocks, up to the first line that does not end in its block or is out of order. If the
-// tool does not write pair by pair, this also ends before a key with several lines of an input. Inlined, so that keys
-// that are whole lines take no registers.
+// tool does not write pair by pair, this also ends before a key of which not all lines, and the line after them, are
+// such. Inlined, so that keys that are whole lines take no registers.
 #[inline(always)]
 fn merge_lines<K: KeyOrder, T: MergeWriter, W: Sink>(
     order: &K,
@@ -70,12 +126,21 @@ fn merge_lines<K: KeyOrder, T: MergeWriter, W: Sink>(
                 let Some(next2) = two.next(order, Second, terminator) else {
                     return Ok(BlockRun::before(one, two));
                 };
-                if !by_pairs && (next1.same || next2.same) {
-                    return Ok(BlockRun::before(one, two));
+                if by_pairs || !(next1.same || next2.same) {
+                    tool.write_both(one.key, one.head, two.head, terminator, out)?;
+                    one = next1;
+                    two = next2;
+                    continue;
                 }
-                tool.write_both(one.key, one.head, two.head, terminator, out)?;
-                one = next1;
-                two = next2;
+                let Some(firsts) = one.whole_key(next1, order, First, terminator) else {
+                    return Ok(BlockRun::before(one, two));
+                };
+                let Some(seconds) = two.whole_key(next2, order, Second, terminator) else {
+                    return Ok(BlockRun::before(one, two));
+                };
+                write_rows(tool, one.key, firsts.lines, seconds.lines, terminator, out)?;
+                one = firsts.after;
+                two = seconds.after;
             }
         }
     }

@@ -6,7 +6,7 @@ ghost use Rattle.ptlines.specs.Calls.Slots.{line};
 ghost use Rattle.ptlines.specs.Text.{unlines};
 ghost use Rattle.ptmerge.specs.Calls.MergeSpec.{MergeTool};
 ghost use Rattle.ptmerge.specs.Calls.Sides.{both};
-ghost use Rattle.ptmerge.specs.Private.BlockLines.{IsPairByPair, entries_alone};
+ghost use Rattle.ptmerge.specs.Private.BlockLines.{IsEachWithEach, IsPairByPair, entries_alone};
 ghost use Rattle.ptmerge.specs.Private.Write.{WriteBytesPost};
 ghost use Rattle.ptmerge.specs.Private.WriteAndAdvance.{WriteThenAdvancePost, WriteThenAdvancePre};
 ghost use Rattle.ptmerge.specs.declared.key_order.Side.TheVariants as sides;
@@ -23,9 +23,10 @@ pub(crate) trait MergeWriter: Copy {
     ghost tool: { Self → MergeTool };
 
     /// Checks whether the output for a key with several lines is that of a line of each input, and then that of the
-    /// others.
+    /// others. If not, it is that of each line of the first input with each of the second one.
     fn is_pair_by_pair(self) -> bool
-        ensures { result ≡ true → IsPairByPair (tool self).entries };
+        ensures by_pairs { result ≡ true → IsPairByPair (tool self).entries }
+        ensures by_rows { result ≡ false → IsEachWithEach (tool self).entries };
 
     /// Writes the output for a line with a key that the other input does not have.
     fn write_alone<W: Sink>(

@@ -143,29 +143,20 @@ fn join_with_order<K: KeyOrder, A: Allocator + Copy, B: Allocator, S: Source, R:
         MergePost tool was (merge_state first.new second.new out.new store.new) result }
 {
     let mut merge = Merge::start(order, first, second, store)?;
-    let mut after_group = false;
     'steps: loop {
-        // After a key with several lines of an input, another such key would soon end a merge in the blocks.
-        if !after_group {
-            merge_in_blocks(&mut merge, job, first, second, store, out)?;
-        }
-        after_group = false;
+        merge_in_blocks(&mut merge, job, first, second, store, out)?;
         match merge.step(store) {
             Step::First => pass_line(&mut merge, job, First, first, store, out)?,
             Step::Second => pass_line(&mut merge, job, Second, second, store, out)?,
             Step::Both => {
                 let mut group = Group::new();
-                'lines: while group.read_line(&mut merge, job.pairs, second, store, out)? {
-                    after_group = true;
-                }
+                'lines: while group.read_line(&mut merge, job.pairs, second, store, out)? {}
                 let unchanged = group.is_unchanged(&merge, job, store);
                 let whole = WholeGroup {
                     lines: group,
                     unchanged,
                 };
-                'pairs: while write_pairs(&mut merge, job, whole, first, store, out)? {
-                    after_group = true;
-                }
+                'pairs: while write_pairs(&mut merge, job, whole, first, store, out)? {}
                 whole.lines.clear(store);
             }
             Step::End => {

@@ -325,6 +325,7 @@ impl<'a, A: Allocator> MergeWriter for &'a JoinJob<A> {
 
     // Each line of a key is paired with each.
     #[inline(always)]
+    #[tactic(auto, using(crate::proofs::RowLemmas::each_with_each))]
     fn is_pair_by_pair(self) -> bool {
         false
     }

@@ -1,9 +1,9 @@
 -- The loops of `join`: one lemma of `JoinLemmas` for each iteration, and one of `JoinLemmas` or `MergeLemmas` for each
--- exit. Also the state after the lines of the blocks were merged or were not (`by_blocks`), what the calls require,
--- and the reads that are left, which decrease in each loop.
+-- exit. Also the state after the lines of the blocks were merged (`on_by_blocks`), what the calls require, and the
+-- reads that are left, which decrease in each loop.
 use Rattle.ptmerge.proofs
 use Rattle.ptmerge.specs
-use proofs.Common.{◌≡◌, refl, sym, ◌∙◌, arith, ℕ, ◌<◌, ◌≤◌, both, inl, join_job, merge_state, Ok}
+use proofs.Common.{refl, sym, ◌∙◌, arith, ℕ, ◌<◌, ◌≤◌, both, join_job, merge_state, Ok}
 use proofs.JoinLemmas.{BetweenGroups, LoopOfJoin, alone_continues, alone_fails, join_opens, write_pre}
 use proofs.JoinLemmas.{group_opens, read_group_less, write_pairs_less}
 use proofs.JoinLemmas.{read_group_in, read_group_pre, read_group_continues, read_group_fails, write_pairs_next}
@@ -15,46 +15,28 @@ use proofs.PassedLemmas.{blocks_fail, blocks_pre, blocks_read, reads_once}
 use proofs.PairLemmas.{blocks_joined, joined_by_blocks}
 use specs.declared.key_order.Side.TheVariants as sides
 use specs.Calls.Join.{join_tool, join_with}
-use specs.Calls.MergeSteps.{AreValidCursors}
 use specs.Private.Passed.{BlocksPost}
 use proofs.tools.join.join_with_order.Given as given
-use Rattle.ptmerge.proofs.tools.join.join_with_order.Goals.{After-step, else-not-after_group}
-use Rattle.ptmerge.proofs.tools.join.join_with_order.Goals.{then-not-after_group+in_ok-merge_in_blocks}
+use Rattle.ptmerge.proofs.tools.join.join_with_order.Goals.{After-step}
 use proofs.tools.join.join_with_order.Goals as goal
 
 module _ (g : given.Over) (c : After-step g) where
   -- the lines of both blocks are merged, or nothing happened
-  by_blocks : let k = g.K.KeyOrder.key_of in
-      let was = c.steps in
-      let is = c.if-not-after_group in
-      BlocksPost (join_with (join_job c.args.job.now) (g.K.KeyOrder.order was.merge.order) (k was.merge.order))
+  by_blocks : let was = c.steps in
+      let is = c.merge_in_blocks.new in
+      BlocksPost (join_with (join_job c.args.job.now) (g.K.KeyOrder.order was.merge.order)
+      (g.K.KeyOrder.key_of was.merge.order))
       (both was.merge.first was.merge.second) (both is.merge.first is.merge.second)
       (merge_state was.first was.second was.out was.store) (merge_state is.first is.second is.out is.store) (Ok tt)
-      × (is.merge.order ≡ was.merge.order)
-      × AreValidCursors (k is.merge.order) is.merge.first is.merge.second is.store
-  by_blocks =
-      elim c.if-not-after_group.branch [
-        | then-not-after_group+in_ok-merge_in_blocks w ↦
-            simp (w.first-is, w.second-is, w.store-is, w.out-is, w.merge-is) (
-              blocks_joined (join_job c.args.job.now) c.steps.invariant.iteration.keys
-                  w.in_ok-merge_in_blocks.ensures.merges,
-              w.merge_in_blocks.ensures.order,
-              w.in_ok-merge_in_blocks.ensures.valid_cursors,
-            )
-        | else-not-after_group w ↦
-            simp (w.first-is, w.second-is, w.store-is, w.out-is, w.merge-is) (
-              inl (refl, refl, refl),
-              refl,
-              c.steps.invariant.iteration.between.valid_cursors,
-            )
-      ]
+  by_blocks = blocks_joined (join_job c.args.job.now) c.steps.invariant.iteration.keys
+      c.in_ok-merge_in_blocks.ensures.merges
 
-  on_by_blocks : let is = c.if-not-after_group in
+  on_by_blocks : let is = c.merge_in_blocks.new in
       LoopOfJoin (join_job c.args.job.now) g.K.KeyOrder.order g.K.KeyOrder.key_of
       (merge_state c.args.first.now c.args.second.now c.args.out.now c.args.store.now) BetweenGroups
       (merge_state is.first is.second is.out is.store) is.merge.first is.merge.second is.merge.order c.args.order
-  on_by_blocks = joined_by_blocks g.K.KeyOrder.order g.K.KeyOrder.key_of c.steps.invariant by_blocks.0 by_blocks.1
-      by_blocks.2
+  on_by_blocks = joined_by_blocks g.K.KeyOrder.order g.K.KeyOrder.key_of c.steps.invariant by_blocks
+      c.merge_in_blocks.ensures.order c.in_ok-merge_in_blocks.ensures.valid_cursors
 
 pub returns-in_err-merge : goal.returns-in_err-merge
 returns-in_err-merge g c =
@@ -91,12 +73,7 @@ returns-in_err-merge_in_blocks g c =
     (blocks_joined (join_job c.args.job.now) i.iteration.keys c.in_err-merge_in_blocks.ensures.merges))
 
 pub step-requires : goal.step-requires
-step-requires g c =
-    elim c.if-not-after_group.branch [
-      | then-not-after_group+in_ok-merge_in_blocks w ↦
-          simp (w.store-is, w.merge-is) w.in_ok-merge_in_blocks.ensures.valid_cursors
-      | else-not-after_group w ↦ simp (w.store-is, w.merge-is) c.steps.invariant.iteration.between.valid_cursors
-    ]
+step-requires g c = c.in_ok-merge_in_blocks.ensures.valid_cursors
 
 pub pass_line-requires : goal.pass_line-requires
 pass_line-requires g c =
@@ -128,7 +105,7 @@ steps-smaller-in-Continue-branch-3 g c =
     let h = c.in_ok-pass_line-in-First.ensures.advances in
     reads_once (reads_less i.iteration.between _ h.continues c.in-First.ensures.status_is h.came)
     (blocks_read c.steps.invariant.iteration.here c.steps.invariant.iteration.between
-    (by_blocks g (goal.at.steps-smaller-in-Continue-branch-3 g c).After-step).0)
+    (by_blocks g (goal.at.steps-smaller-in-Continue-branch-3 g c).After-step))
 
 pub steps-smaller-in-Continue-branch-4 : goal.steps-smaller-in-Continue-branch-4
 steps-smaller-in-Continue-branch-4 g c =
@@ -136,7 +113,7 @@ steps-smaller-in-Continue-branch-4 g c =
     let h = c.in_ok-pass_line-in-Second.ensures.advances in
     reads_once (reads_less i.iteration.between _ h.continues c.in-Second.ensures.status_is h.came)
     (blocks_read c.steps.invariant.iteration.here c.steps.invariant.iteration.between
-    (by_blocks g (goal.at.steps-smaller-in-Continue-branch-4 g c).After-step).0)
+    (by_blocks g (goal.at.steps-smaller-in-Continue-branch-4 g c).After-step))
 
 pub returns-in_err-pass_line-in-First : goal.returns-in_err-pass_line-in-First
 returns-in_err-pass_line-in-First g c =
@@ -208,6 +185,12 @@ lines-preserved g c =
       );
     }
 
+pub is_unchanged-unchanged-requires-clause-group : goal.is_unchanged-unchanged-requires-clause-group
+is_unchanged-unchanged-requires-clause-group g c =
+    let ok = c.in_ok-read_line-in-Both.ensures in
+    (write_pairs_group (write_pairs_next c.lines.invariant.kept.iteration c.read_line.ensures.written_out
+    ok.reads_line.1 ok.continues (sym ok.reads_line.0 ∙ c.if-branch.false))).within
+
 pub pairs-init : goal.pairs-init
 pairs-init g c =
     let i = c.lines.invariant.kept in
@@ -273,4 +256,4 @@ steps-smaller g c =
     c.pairs.invariant.fewer
     (read_group_less c.lines.invariant.kept.iteration line.reads_line.1.came line.continues) c.lines.invariant.fewer)
     (blocks_read c.steps.invariant.iteration.here c.steps.invariant.iteration.between
-    (by_blocks g (goal.at.steps-smaller g c).After-step).0)
+    (by_blocks g (goal.at.steps-smaller g c).After-step))
