@@ -83,7 +83,9 @@ BEYOND = Page("docs/BEYOND.md", BEYOND_WORDS, [
             "ptopts.Commands.words_view ptopts.Commands.command_view ptopts.Commands.with_inputs"),
 ])
 PROMISE = Page("docs/PROMISE.md", PROMISE_WORDS, [
-    Section("The theorem", "First what holds if nothing fails, then what holds whatever fails; then what they name.",
+    Section("The theorem",
+            "First what holds if nothing fails, then what holds whatever fails; then what they name. (`IsRunBeyond`, "
+            "the last field of `IsRun`, is on the second page: nothing here rests on it.)",
             "ptrun.Runs.IsExactUnlessFailed ptrun.Runs.IsExact ptrun.Runs.IsRun ptrun.Runs.RunEnd ptrun.Runs.HasCause",
             "ptrun.Runs ptrun.Files ptlines.Received ptlines.Readers ptlines.Sinks ptlines.Engines "
             "ptrun.MessageWrites.HasSaid"),

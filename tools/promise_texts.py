@@ -27,7 +27,7 @@ hold whatever fails.
 | A run that stopped has the messages about the operands before, and one about the failure | `message ≡ operand_messages m w n ++ fault_message m.tool m.names fault` | |
 | If a read failed and no write did, that read is named | FIELD(ptrun.Runs.IsRun.names_failed_read) | |
 | and what is decided is written | FIELD(ptrun.Runs.IsRun.decided_is_written) | more than `decided`: after 80,000 bytes of `a` lines and a failed read, `uniq` may have written nothing, as they are one run |
-| What is decided is not nothing: the whole output is what is decided by inputs that are known whole, and of `uniq` also the last run (the law `output_is_decided`) | `output job positions r = decided job positions r ++ at_end job positions r`, where `r` is `all_received w` | what `paste`, `comm` and `join` decide before the end of an input. Of `cut`, `tr` and `uniq` the law says that the output for complete lines is decided |
+| What is decided is not nothing: the whole output is what is decided by inputs that are known whole, and of `uniq` also the last run (the law `output_is_decided`) | `output job positions r = decided job positions r ++ at_end job positions r`, where `r` is `all_received w` | what `paste`, `comm` and `join` decide before the end of an input. Over standard input alone, the law says of `cut`, `tr` and `uniq` that all output for complete lines is decided, but for the last run of `uniq` |
 | Inputs may go on as any that are consistent with what was received | `AreInputsConsistent r w` | |
 | If the words are no command, one message names the first fault, the status is 2 and nothing is read or written | `spec_of_result tool (Err fault) = message_only (usage_text tool fault) 2` | |
 | If memory ran out while the words were read, one message says so, and the status is 1 | `spec_unless_memory` | when that happens |
@@ -58,9 +58,10 @@ turn** (`cut`, `tr`, `paste -s`), or **together** (the others). A file that coul
 and y. `{X : Type 0} →` stands for a parameter that is not written. A list of type `List A` is `[]` or `x ∷ xs`, an item
 before a list; an `Option A` is `None` or `Some x`; a `Result A B` is `Ok x` or `Err y`; a `Bool` is `true` or `false`.
 A byte is a number (`ℕ`), and so is a letter. `A × B × C` has the parts `p.0`, `p.1` and `p.2`. A record has fields,
-`r.field`; `record r { f = x; }` is r but for f. A record without values, as `IsRun`, holds if each of its fields does.
-A definition by several lines is that of the first line that fits. A line such as `Side = Side.First | Side.Second` is
-a type of the code, by its variants or its fields.
+`r.field`; `record r { f = x; }` is r but for f. A record that is a statement, as `IsRun`, holds if there are values for
+those of its fields that are values, with which its other fields hold. `zero` is 0, and `suc n` is n + 1. A definition
+by several lines is that of the first line that fits. A line such as `Side = Side.First | Side.Second` is a type of the
+code, by its variants or its fields.
 
 From the toolchain's library:
 
