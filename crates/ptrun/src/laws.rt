@@ -9,7 +9,8 @@ pub fn silent_if_zero()
 {}
 
 /// The whole output is what is decided by inputs that were received to their ends; of `uniq` also the last run.
-/// This function does nothing at run time. Its contract states the theorem.
+/// Before the end of standard input, `cut`, `tr` and `uniq` decide the output for complete lines, but for the last run of
+/// `uniq`. This function does nothing at run time. Its contract states the theorem.
 pub fn output_is_decided()
     ensures { OutputIsDecided }
 {}
