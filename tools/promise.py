@@ -84,8 +84,9 @@ BEYOND = Page("docs/BEYOND.md", BEYOND_WORDS, [
 ])
 PROMISE = Page("docs/PROMISE.md", PROMISE_WORDS, [
     Section("The theorem",
-            "First what holds if nothing fails, then what holds whatever fails; then what they name. (`IsRunBeyond`, "
-            "the last field of `IsRun`, is on the second page: nothing here rests on it.)",
+            "First what holds if nothing fails, then what holds whatever fails; then what they name. The last field "
+            "of `IsRun`, and five of a command's specification (`slot_bound`, `keeps_groups`, `sequential`, "
+            "`reads_nothing`, `accepts`) serve the second page: nothing here rests on them.",
             "ptrun.Runs.IsExactUnlessFailed ptrun.Runs.IsExact ptrun.Runs.IsRun ptrun.Runs.RunEnd ptrun.Runs.HasCause",
             "ptrun.Runs ptrun.Files ptlines.Received ptlines.Readers ptlines.Sinks ptlines.Engines "
             "ptrun.MessageWrites.HasSaid"),

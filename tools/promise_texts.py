@@ -14,7 +14,8 @@ line breaks, and the type before the name of a constructor that two types have.
 `m` is what the words mean (`spec_of_args`), `w` has the bytes of each input, `r` what was received of each, `before`
 the sinks before a run and `o` its result. The formal lines are fields of `IsExact`, which is claimed where no read, no
 write of the output and no request for memory failed (`IsExactUnlessFailed`), and of `IsRun` and what it cites, which
-hold whatever fails.
+hold whatever fails. Of the program, `out` is standard output, or the file that `uniq` names, and messages go to
+standard error; its words are those after `ptext`, of which the first is the name of the tool.
 
 | Sentence | Formal line | What it does not say |
 |---|---|---|
@@ -26,7 +27,7 @@ hold whatever fails.
 | A run ends with all output, messages and status; or it stopped, with status 1, for a failure that happened | FIELD(ptrun.Runs.IsRun.ends) | which failure is named, if several of a kind happened; a write is named before memory, and memory before a read |
 | A run that stopped has the messages about the operands before, and one about the failure | `message ≡ operand_messages m w n ++ fault_message m.tool m.names fault` | |
 | If a read failed and no write did, that read is named | FIELD(ptrun.Runs.IsRun.names_failed_read) | |
-| and what is decided is written | FIELD(ptrun.Runs.IsRun.decided_is_written) | more than `decided`: after 80,000 bytes of `a` lines and a failed read, `uniq` may have written nothing, as they are one run |
+| and what is decided is written | FIELD(ptrun.Runs.IsRun.decided_is_written) | more than `decided`: after 80,000 bytes of `a` lines and a failed read, `uniq` may have written nothing, as they are one run; after lines `a`, `a`, `b` it has written just that of the first run |
 | What is decided is not nothing: the whole output is what is decided by inputs that are known whole, and of `uniq` also the last run (the law `output_is_decided`) | `output job positions r = decided job positions r ++ at_end job positions r`, where `r` is `all_received w` | what `paste`, `comm` and `join` decide before the end of an input. Over standard input alone, the law says of `cut`, `tr` and `uniq` that all output for complete lines is decided, but for the last run of `uniq` |
 | Inputs may go on as any that are consistent with what was received | `AreInputsConsistent r w` | |
 | If the words are no command, one message names the first fault, the status is 2 and nothing is read or written | `spec_of_result tool (Err fault) = message_only (usage_text tool fault) 2` | |
