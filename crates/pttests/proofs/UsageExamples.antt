@@ -1,18 +1,12 @@
--- Examples of arguments that are no command: the message for each tool and each fault, with status 2. And a list of
--- words with `or`, which a message may contain.
+-- Examples of arguments that are no command: the message for each tool and each fault, with status 2.
 use Rattle.std.proofs.Common.{◌≡◌, ℕ, List, [], ◌∷◌, ◌++◌, refl, codes, map, replicate}
 use Rattle.ptfakes.proofs.SplitWords.{words}
-use Rattle.ptopts.specs.Syntax.{tools}
 use Rattle.ptrun.specs.SpecOfArgs.{spec_of_args, message_only}
-use Rattle.ptrun.specs.Messages.{or_list}
-
-three_in_or_list : or_list (words "one two three") ≡ codes "one, two or three"
-three_in_or_list = refl
 
 abbrev examples : List (List (List ℕ) × List ℕ)
 examples =
-    ([], codes "ptext: first word: " ++ or_list (map (λ t. t.0) tools))
-    ∷ (words "cat", codes "ptext: first word: " ++ or_list (map (λ t. t.0) tools))
+    ([], codes "ptext: first word: cut, paste, join, comm, uniq or tr")
+    ∷ (words "cat", codes "ptext: first word: cut, paste, join, comm, uniq or tr")
     ∷ (words "cut", codes "cut: one of -b, -c and -f is needed")
     ∷ (words "cut -d :: -s", codes "cut: one of -b, -c and -f is needed")
     ∷ (words "cut -xb", codes "cut: unknown option in -xb")
