@@ -59,7 +59,7 @@ async function main() {
     }
     is("a Blob, and a list of pieces", await call(["paste", "-", "f"], `{ stdin: new Blob(["a\\n", "b\\n"]),
         files: new Map([["f", ["1", new Uint8Array([10, 50, 10])]]]) }`), ["", "a\t1\nb\t2\n"]);
-    const million = `{ stdin: "0123456789\\n".repeat(10 ** 6), write: (it) => (size += it.length) }`;
+    const million = `{ stdin: new Blob(["0123456789\\n".repeat(10 ** 6)]), write: (it) => (size += it.length) }`;
     is("output in pieces", await browser.value(`{ globalThis.size = 0;
         run(["tr", "5", "x"], ${million}).then((it) => [it, size]); }`), [null, 11 * 10 ** 6]);
     const thrown = '{ write: () => { throw new Error("enough"); }, stdin: "a" }';

@@ -1,6 +1,6 @@
 #!/bin/sh
 # Tests the program as one file in C, build/onefile/ptext.c: compiled by gcc, with each address checked, and by tcc, all
-# tests of a program and random commands; for a big-endian machine; and its archive.
+# tests of a program and random commands; for ARM64, and a big-endian machine; and its archive.
 # usage: bindings/onefile/tests/onefile.sh PROGRAM
 set -u
 program=$(realpath "${1:?which program?}")
@@ -32,12 +32,15 @@ command=$(sed -n 's/^    \(cc .*\)/\1/p' "$room/one/README")
 is "how to compile it" "cc -O2 -w -o ptext ptext.c" "$command"
 
 # (Beside the other tests, since it takes long.)
-has_s390x=
-if has qemu-s390x s390x-linux-gnu-gcc && [ -e /usr/s390x-linux-gnu/lib/libc.a ]; then
-    has_s390x=yes
-    s390x-linux-gnu-gcc -w -static -o "$room/s390x.bin" "$source" &
-    compiling=$!
-fi
+compiling=
+for processor in aarch64 s390x; do
+    if has "qemu-$processor" "$processor-linux-gnu-gcc" && [ -e "/usr/$processor-linux-gnu/lib/libc.a" ]; then
+        "$processor-linux-gnu-gcc" -w -static -o "$room/$processor.bin" "$source" &
+        compiling="$compiling $processor:$!"
+    else
+        left_out "the one file on $processor (there is no qemu-$processor, or no compiler for it)"
+    fi
+done
 
 # (With -O2 gcc takes two minutes. Without, a program may need more than the second that a random command has.)
 export PTEXT_SECONDS=30
@@ -74,13 +77,13 @@ ends '"$0"'
 ends '{ yes | "$0" tr a b; echo $? >&2; } | head -n 1'
 ends 'ulimit -v 400000; head -c 300000000 /dev/zero | "$0" uniq | wc -c'
 
-if [ "$has_s390x" ]; then
-    quiet "gcc compiles it for s390x" wait "$compiling"
-    printf '#!/bin/sh\nexec qemu-s390x "%s" "$@"\n' "$room/s390x.bin" >"$room/s390x"
-    chmod +x "$room/s390x"
-    quiet "random commands, big-endian" python3 tools/compare "$room/s390x" 200
-else
-    left_out "the one file on a big-endian machine (there is no qemu-s390x, or no compiler for s390x)"
-fi
+# (The second has its bytes in the other order.)
+for one in $compiling; do
+    processor=${one%:*}
+    quiet "gcc compiles it for $processor" wait "${one#*:}"
+    printf '#!/bin/sh\nexec qemu-%s "%s" "$@"\n' "$processor" "$room/$processor.bin" >"$room/$processor"
+    chmod +x "$room/$processor"
+    quiet "random commands on $processor" python3 tools/compare "$room/$processor" 200
+done
 echo "$count tests of the one file: $bad failed"
 [ "$bad" = 0 ]
