@@ -385,9 +385,9 @@ static void *many_runs(void *context) {
 static void four_threads(void) {
     pthread_t threads[4];
     static int wrong;
-    /* (A thread of musl has less than a world.) */
+    /* (A thread of musl has less than a world, and ThreadSanitizer takes most of a megabyte.) */
     pthread_attr_t large;
-    expect(!pthread_attr_init(&large) && !pthread_attr_setstacksize(&large, 1 << 20), "a large stack");
+    expect(!pthread_attr_init(&large) && !pthread_attr_setstacksize(&large, 8 << 20), "a large stack");
     for (int i = 0; i < 4; i++)
         expect(!pthread_create(&threads[i], &large, many_runs, &wrong), "a thread");
     for (int i = 0; i < 4; i++) {
