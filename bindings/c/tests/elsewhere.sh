@@ -13,8 +13,9 @@ $compiler -o "$room/shared" bindings/c/example.c -L"$built" -lptext "-Wl,-rpath,
 for program in static shared; do
     is "bindings/c/example.c, $program" "$(printf '1,ann,tea\n2,bob,milk\n')" "$($runner "$room/$program")"
 done
+$compiler -Wl,--wrap=malloc,--wrap=realloc -o "$room/library" bindings/c/tests/library.c "$built/libptext.a"
+$compiler -o "$room/streams" bindings/c/tests/streams.c "$built/libptext.a"
 for test in library streams; do
-    $compiler -o "$room/$test" "bindings/c/tests/$test.c" "$built/libptext.a"
     $runner "$room/$test" >"$room/said" 2>&1 || bad=$((bad + 1))
     sed "s|^|$1: |" "$room/said"
 done

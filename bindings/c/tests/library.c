@@ -247,7 +247,7 @@ static void a_long_input(void) {
     munmap(input, size);
 }
 
-/* The greatest request for memory. (library.sh links the calls of malloc and realloc to these two.) */
+/* The greatest request for memory. (Tests link the calls of malloc and realloc to these two.) */
 static size_t greatest;
 
 void *__real_malloc(size_t size);
