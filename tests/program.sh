@@ -437,10 +437,12 @@ status=$(cat ended)
 want '0 1 x\n' 'join: out of memory\n'
 same "a group of join that does not fit" 1
 
-# Words that do not fit: the program's own list of them is refused.
+# Words that do not fit: the program's own list of them is refused. (An emulator needs memory, too.)
 (
-    limit_memory 40960
-    "$program" cut -c 1 $(yes 1 | head -n 180000) <empty >out 2>messages
+    words=60000 least=12288
+    [ ! "$emulator" ] || words=180000 least=40960
+    limit_memory $least
+    "$program" cut -c 1 $(yes 1 | head -n $words) <empty >out 2>messages
     echo $? >ended
 )
 status=$(cat ended)
