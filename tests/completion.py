@@ -135,7 +135,7 @@ class Terminal:
 
 
 def strip_escapes(came, between=b""):
-    """The text that a terminal would show, with this in place of what moves its cursor or colours."""
+    """The text that a terminal would show, with `between` for what moves its cursor or colours."""
     return ESCAPES.sub(between, came).decode(errors="replace")
 
 

@@ -245,7 +245,7 @@ rmdir "$room/strict/share/man/man1/ptext.1"
 install uninstall PREFIX="$room/strict" DESTDIR=
 is "and goes whole" "" "$(ls -A "$room/strict")"
 
-# Files of others stay, whatever their names.
+# Files of others stay, also those with odd names.
 mkdir "$room/others" "$room/others/bin"
 for name in ptext.new ptext.old; do
     echo kept >"$room/others/bin/$name"

@@ -92,7 +92,7 @@ class Command(NamedTuple):
         return b"\0" if "z" in self.options else b"\n"
 
     def name_inputs(self, names: dict[int, str]) -> list[str]:
-        """The words, with these names in place of some operands."""
+        """The words, with these names for some operands."""
         if self.tool == "tr":
             return self.words
         return [*self.words[: self.front], *(names.get(at, name) for at, name in enumerate(self.operands))]
@@ -244,7 +244,7 @@ def count_run(command: Command, file: File, at: int) -> int:
 
 
 def skip_lines(file: File, at: int, count: int) -> int:
-    """The offset after so many lines, of which the first begins at an offset."""
+    """The offset after `count` lines, of which the first begins at an offset."""
     for text in file.read_blocks(at):
         found = text.count(file.terminator)
         if found >= count:
@@ -331,13 +331,13 @@ def count_lines(file: File) -> list[Range]:
 
 
 def find_row(file: File, counted: list[Range], lines: int) -> int:
-    """The offset after so many lines, or the end if there are fewer."""
+    """The offset after `lines` lines, or the end if there are fewer."""
     at, before = next((at, count) for at, count in reversed(counted) if count <= lines)
     return skip_lines(file, at, lines - before)
 
 
 def cut_after_rows(files: list[File], uses: list[int], parts: int) -> Offsets:
-    """After the same row: so many lines of each file, or twice as many of standard input that is named twice."""
+    """After the same row, which is one line of each file, or two of standard input that is named twice."""
     counted = [count_lines(file) for file in files]
     rows = share(max(-(-lines[-1][1] // used) for lines, used in zip(counted, uses)), parts)
     return [
@@ -551,7 +551,7 @@ class Feed(threading.Thread):
         self.why = ""
         self.file = os.open(path, os.O_RDONLY)
         self.reader, self.writer = os.pipe()
-        with contextlib.suppress(OSError):  # (A user may have so many bytes in pipes.)
+        with contextlib.suppress(OSError):  # (The bytes that a user has in pipes are limited.)
             fcntl.fcntl(self.writer, SET_PIPE_SIZE, LARGE)
 
     def close(self) -> None:
@@ -705,7 +705,7 @@ def write_out(file: IO[bytes]) -> None:
 
 
 def run_all(plan: Plan, jobs: int) -> None:
-    """Runs all parts, so many at a time, and writes their outputs in order to standard output. They wait for their turn
+    """Runs all parts, `jobs` at a time, and writes their outputs in order to standard output. They wait for their turn
     in files without a name, so that nothing is left of them, however this ends."""
     work, folder = Work(), os.environ.get("TMPDIR") or "/tmp"
     ahead = min(2 * jobs, len(plan.parts))
