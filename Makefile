@@ -201,7 +201,7 @@ install: $(if $(filter 0,$(shell id -u)),is-built,build/ptext)
 is-built:
 	@{ [ -x build/ptext ] && { [ "$(PTEXT_AS_BUILT)" ] || $(MAKE) -s -q build/ptext; }; } || { \
 	    echo "build/ptext is not there, or older than its source. Run 'make' first, best not as root: it proves the" \
-	        "program, which takes some 15 minutes. Nothing was installed." >&2; exit 1; }
+	        "program, which takes half an hour. Nothing was installed." >&2; exit 1; }
 
 install-tools: install
 	@python3 tools/install.py tools $(INSTALL_TO)
