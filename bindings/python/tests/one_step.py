@@ -222,9 +222,10 @@ def check_ends(room):
             check(f"{words}: status", process.returncode == 128 + number, process.returncode)
             check(f"{words}: {number}", not list_left(room), list_left(room))
     os.truncate("pids", 0)
-    found = run_shell(f"PYTHONPATH={os.path.dirname(PARTS[1])} {shlex.join([PARTS[0], '-c', STOPPED])} run plan 1")
+    at_start = f"PYTHONPATH={os.path.dirname(PARTS[1])} {shlex.join([PARTS[0], '-c', STOPPED])}"
+    status = run_shell(f"{at_start} run plan 1 > out 2>&1")[0]
     time.sleep(1)
-    check("ended at its start", found[0] == 143 and not list_left(room), [found, list_left(room)])
+    check("ended at its start", status == 143 and not list_left(room), [status, list_left(room)])
 
 
 def main():
