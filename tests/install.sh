@@ -95,7 +95,8 @@ is "nothing is left" "" "$(ls -A "$room/empty")"
 install install install-tools PREFIX=/usr DESTDIR="$room/root"
 is "no root in a file" "" "$(grep -rl "$room" "$room/root")"
 # (A script starts the program without the root.)
-[ ! -x "$top/build/ptext-by-name" ] || is "a tool below a root" b "$(echo ab | "$room/root/usr/libexec/ptext/bin/cut" -c 2)"
+[ ! -x "$top/build/ptext-by-name" ] ||
+    is "a tool below a root" b "$(echo ab | "$room/root/usr/libexec/ptext/bin/cut" -c 2)"
 install uninstall PREFIX=/usr DESTDIR="$room/root"
 is "nothing is left below a root" "" "$(ls -A "$room/root")"
 

@@ -80,8 +80,8 @@ def run_shell(command):
 
 
 def start_at_terminal(words, out, at_hangup=signal.SIG_DFL):
-    """Starts ptext-parts at a terminal of its own, with its output in a file if one is named, and returns its number and
-    the terminal."""
+    """Starts ptext-parts at a terminal of its own, with its output in a file, or there if none is named. Returns its
+    number and the terminal."""
     child, terminal = pty.fork()
     if not child:
         signal.signal(signal.SIGHUP, at_hangup)
@@ -117,15 +117,18 @@ def check_tools(room):
 
 def check_room():
     """While the first part is not done, no more of the others are begun than the room is said to be for."""
-    begun, begun_first, plan = [], [], parts.make_plan(["cut", "-c", "1", "left"], 9)
+    begun, written, plan = [], [], parts.make_plan(["cut", "-c", "1", "left"], 9)
 
     def run(_, part, *__):
         begun.append(part)
         time.sleep(0.5 if part == 1 else 0)
 
-    with mock.patch("parts.run_into_unnamed", run), mock.patch("parts.write_out", lambda _: begun_first.append(len(begun))):
+    def write(_):
+        written.append(len(begun))
+
+    with mock.patch("parts.run_into_unnamed", run), mock.patch("parts.write_out", write):
         parts.run_all(plan, 2)
-    check("parts that wait", begun_first[0] == 4 and len(begun_first) == 9, begun_first)
+    check("parts that wait", written[0] == 4 and len(written) == 9, written)
 
 
 def check_failures(room):
@@ -198,8 +201,8 @@ def check_terminal(room):
     child, terminal = start_at_terminal(["-j", "2", "cut", "-c", "1-4", "left"], "out", signal.SIG_IGN)
     read_terminal(terminal, b"0 of 2 parts")
     os.close(terminal)
-    status = os.waitstatus_to_exitcode(os.waitpid(child, 0)[1])
-    check("a terminal that is closed, as SIGHUP is ignored", (status, read_text("out")) == run_shell("cut -c 1-4 left")[:2])
+    found = os.waitstatus_to_exitcode(os.waitpid(child, 0)[1]), read_text("out")
+    check("a terminal that is closed, as SIGHUP is ignored", found == run_shell("cut -c 1-4 left")[:2])
     os.environ["SECONDS_OF_A_PART"] = "60"
     child, terminal = start_at_terminal(["-j", "2", "cut", "-c", "1-3", "left"], "out")
     text = read_terminal(terminal, b"0 of 2 parts")
