@@ -46,7 +46,8 @@ abbrev pub disorder_of : Merge → (Side → Received) → Option Disorder
 disorder_of m given = let found : Side → Option Disorder = λ side. disorder_in m side (known_lines m.end (given side)) in
     reported m.cmp (found First) (found Second)
 
--- No line to come has this key: by the end, a disorder, or a later key.
+-- No line to come has this key: the end is reached, or a line has a later key; or there is a disorder, after which no
+-- more lines of that input are used.
 abbrev pub is_final : Merge → Side → Received → List ℕ → Bool
 is_final m file given k = let ls = known_lines m.end given in
     given.eof || is_some (disorder_in m file ls)
