@@ -15,14 +15,16 @@ line breaks, and the type before the name of a constructor that two types have.
 the sinks before a run and `o` its result. The formal lines are fields of `IsExact`, which is claimed where no read, no
 write of the output and no request for memory failed (`IsExactUnlessFailed`), and of `IsRun` and what it cites, which
 hold whatever fails. Of the program, `out` is standard output, or the file that `uniq` names, and messages go to
-standard error; its words are those after `ptext`, of which the first is the name of the tool.
+standard error; its words are those after `ptext`, of which the first is the name of the tool. What a real file has is
+not known to the prover: of it, these lines say what holds whatever its bytes are.
 
 | Sentence | Formal line | What it does not say |
 |---|---|---|
-| If nothing fails, the output is exactly that of the words and the inputs | FIELD(ptrun.Runs.IsExact.out) | anything of inputs whose bytes are not known, as those of a real file, or of 2^63 bytes and more (`HasBytes`) |
+| If nothing fails, the output is exactly that of the words and the inputs | FIELD(ptrun.Runs.IsExact.out) | anything of inputs of which only the count of bytes is known, as real files, or of 2^63 bytes and more (`HasBytes`) |
 | So are the messages | FIELD(ptrun.Runs.IsExact.messages) | which of them were written if a message could not be |
 | So is the status | FIELD(ptrun.Runs.IsExact.status_is) | |
-| Fail or not, at most so many bytes of lines are in the store at any moment | FIELD(ptrun.Runs.IsRun.bounded) | what else takes memory: up to 8,192 bytes of a line that `uniq` keeps beside the store, buffers, spare room. And `peak` is a number that the run reports; one that reports 0 would meet this line. That it is the store's own is stated by `run_with_store`, in its clause `store` |
+| Fail or not, at most so many bytes of lines are in the store at any moment | FIELD(ptrun.Runs.IsRun.bounded) | what else takes memory: buffers, spare room, and up to 8,192 bytes of a line that `uniq` keeps beside the store |
+| The reported peak is that of the store | the clause `store` of `run_with_store`, which `run` calls | this of `run`, whose contract names no store: one that reports 0 would meet it |
 | Whatever fails, what was written is a beginning of the right output, however the inputs may go on | FIELD(ptrun.Runs.IsRun.is_prefix) | how much was written |
 | A run ends with all output, messages and status; or it stopped, with status 1, for a failure that happened | FIELD(ptrun.Runs.IsRun.ends) | which failure is named, if several of a kind happened; a write is named before memory, and memory before a read |
 | A run that stopped has the messages about the operands before, and one about the failure | `message ≡ operand_messages m w n ++ fault_message m.tool m.names fault` | |
@@ -39,6 +41,13 @@ contract of `run` itself:
 ```
 CONTRACT
 ```
+
+There `command` is what was read of the words: `CommandPost` says that it is the command or the fault that
+`command_of_args` gives, or a fault for want of memory, which `is_memory_fault` tells. `spec_of_parsed` is
+`spec_unless_memory` by that, `file_count` the number of the command's files, if there is one, and `HasToolName` says
+that the first word is the name of a tool. `words_view`, `sinks` and `outcome` are the words, the two sinks and the result
+as plain values. BEYOND.md defines all eight, and `IsUnchangedIfUnread`, under [Values of the
+code](BEYOND.md#values-of-the-code) and before.
 
 ## Words
 
@@ -60,7 +69,8 @@ and y. `{X : Type 0} →` stands for a parameter that is not written. A list of 
 before a list; an `Option A` is `None` or `Some x`; a `Result A B` is `Ok x` or `Err y`; a `Bool` is `true` or `false`.
 A byte is a number (`ℕ`), and so is a letter. `A × B × C` has the parts `p.0`, `p.1` and `p.2`. A record has fields,
 `r.field`; `record r { f = x; }` is r but for f. A record that is a statement, as `IsRun`, holds if there are values for
-those of its fields that are values, with which its other fields hold. `zero` is 0, and `suc n` is n + 1. A definition
+those of its fields that are values, with which its other fields hold. A field and a definition may have one name:
+after a dot, and before `=` or `:` in a record, it is the field's. `zero` is 0, and `suc n` is n + 1. A definition
 by several lines is that of the first line that fits. A line such as `Side = Side.First | Side.Second` is a type of the
 code, by its variants or its fields.
 
@@ -142,7 +152,8 @@ LIBRARY = [
     ("fold", "a function of two, from a value through the list", ("fold max 0 [1, 3]", "3")),
     ("find", "the first item that passes a test", ("find (λ n. n == 2) [1]", "None")),
     ("slice_split",
-     "the pieces between the items that pass a test", ('slice_split (λ b. b == 44) "a,,b"', '["a", [], "b"]')),
+     "the pieces before, between and after the items that pass a test, of which any may be empty",
+     ('slice_split (λ b. b == 44) "a,,b,"', '["a", [], "b", []]')),
     ("join_with_byte", "pieces with a byte between them", ('join_with_byte 44 ["a", "b"]', '"a,b"')),
     ("onto_first",
      "an item put before the first list, or a list of its own", ("onto_first 7 [[8], [9]]", "[[7, 8], [9]]")),

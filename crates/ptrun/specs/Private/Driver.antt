@@ -56,8 +56,8 @@ pub record InputsPre (m : CommandSpec) (inputs : List Reader) : Type 0 where
   pub fresh : All IsNewOrUnopened inputs
   pub in_range : All (λ p. p < length inputs) m.positions
   pub named : length inputs ≡ length m.names + 1
-  pub accepts_operands : m.accepts ≡ true
-  pub few : m.sequential ≡ None → length m.positions ≤ 512
+  pub accepts_operands : m.beyond.accepts ≡ true
+  pub few : m.beyond.sequential ≡ None → length m.positions ≤ 512
 
 -- The invariants of the readers at these positions hold.
 abbrev pub AreSoundAt : List ℕ → List Reader → Type 0
@@ -205,7 +205,7 @@ pub record RunInputsPost (m : CommandSpec) (old new : List Reader) (was is : Out
   pub bounded_lag : HasBoundedLag m received operands_done (λ decided. IsPushedUpToBlock decided was is pushed)
   pub peak : (w : InputBytes) → AreInputsConsistent received w → store.peak ≤ max before.peak (m.memory_bound w)
   pub slots : (w : InputBytes) → AreInputsConsistent received w
-      → length store.lines ≤ max (length before.lines) (m.slot_bound w)
+      → length store.lines ≤ max (length before.lines) (m.beyond.slot_bound w)
 
 -- The postcondition of a run with a lent store: the peak that it reports, and whether memory was denied, are the
 -- store's own, and if it reads nothing, then inputs, store and output are unchanged.
