@@ -1,6 +1,6 @@
 //! `cut -b` and `cut -c`: selects bytes of each line, block by block (`ByteCut`, which `run_blocks` runs). Most lines
-//! are cut by byte shuffles; a long line, or one that begins in an earlier block, is cut interval by interval. `cut`
-//! calls it.
+//! are cut by byte shuffles; the rest of a long line, or a line that begins in an earlier block, is cut interval by
+//! interval. `cut` calls it.
 
 ghost use Rattle.std.specs.Prelude.{◌≡◌, ◌<◌, ◌≤◌, ◌+◌, ◌*◌, ◌++◌, ◌∷◌, ℕ, List, [], length, take, drop};
 ghost use Rattle.ptlangs.specs.Calls.CutLists.{AreSeparated};
