@@ -39,9 +39,9 @@ fn copy_16(
     found
 }
 
-// Copies the line at the start of `bytes` to `at`, as vectors of 16 bytes, each of which is searched for the terminator.
-// Returns its length; `None` if it does not end in a vector that is within `bytes` and the block. The first vector, in
-// which most lines end, is apart from the loop (`paste` of 2 files).
+// Copies the line at the start of `bytes` to `at`, as vectors of 16 bytes, each of which is searched for the
+// terminator. Returns its length; `None` if it does not end in a vector that is within `bytes` and the block. The first
+// vector, in which most lines end, is apart from the loop (`paste` of 2 files).
 #[inline(always)]
 fn copy_by_16(terminator: u8, bytes: &[u8], into: &mut PaddedBlock, at: usize) -> Option<usize>
     ensures line { IfSome result (IsLineCopied terminator bytes.now at into.old into.new) }

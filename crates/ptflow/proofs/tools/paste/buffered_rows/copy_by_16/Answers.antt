@@ -1,8 +1,8 @@
 -- A line whose terminator is found in a vector was copied with the vectors up to there (`line_found`). Each vector is
 -- copied after those before it (`vector_copied`), and the bytes before the line stay (`kept`).
 use Rattle.ptflow.proofs
-use proofs.Common.{◌≡◌, ◌≤◌, ◌+◌, ◌++◌, ◌∙◌, ℕ, List, length, take, drop, sym, ap, arith, take-add, take-take, take-append-le}
-use proofs.Common.{length-take-le, append_assoc, NoneBefore, Passes, is_byte, nowhere_trans}
+use proofs.Common.{◌≡◌, ◌≤◌, ◌+◌, ◌++◌, ◌∙◌, ℕ, List, length, take, drop, sym, ap, arith, take-add, take-take}
+use proofs.Common.{take-append-le, length-take-le, append_assoc, NoneBefore, Passes, is_byte, nowhere_trans}
 use Rattle.ptlines.proofs.CopyFacts.{copied_prefix}
 use Rattle.ptflow.specs.Private.Paste.BufferedRows.{IsLineCopied}
 use Rattle.ptlines.specs.declared.sizes.TheConstants.{BLOCK}
@@ -60,10 +60,11 @@ returns-in-Some-copy_16-clause-line c =
 
 pub returns-in-Some-copy_16-clause-prefix_kept : goal.returns-in-Some-copy_16-clause-prefix_kept
 returns-in-Some-copy_16-clause-prefix_kept c =
+    let size = c.vectors.size in
     let was = c.args.into.now in
     let is = c.copy_16-in-vectors.new.into in
-    kept c.args.at (c.vectors.size + 16) was is _ (omega arith) (vector_copied c.args.at c.vectors.size was c.vectors.into
-    is c.args.bytes.now c.vectors.invariant.copied c.copy_16-in-vectors.ensures.copied)
+    kept c.args.at (size + 16) was is _ (omega arith) (vector_copied c.args.at size was c.vectors.into is
+    c.args.bytes.now c.vectors.invariant.copied c.copy_16-in-vectors.ensures.copied)
 
 pub vectors-preserved : goal.vectors-preserved
 vectors-preserved c =
