@@ -48,8 +48,9 @@ async function measure(begin, modules, commands, size, turns) {
         for (let turn = 0; turn < turns; turn++) {
             for (const [index, run] of runs.entries()) {
                 const [stdin, right] = inputs.map((it) => it.slice()), began = performance.now();
-                const { status } = await run(command.split(" "), stdin, right);
+                const { status, whole } = await run(command.split(" "), stdin, right);
                 times[index] = Math.min(times[index], performance.now() - began);
+                await whole;
                 if (status > 1) throw new Error(`${command}: status ${status}`);
             }
         }
@@ -58,14 +59,18 @@ async function measure(begin, modules, commands, size, turns) {
     return found;
 }
 
-/** Runs by a worker as the page has it. */
+/** Runs by a worker as the page has it: until what is shown is there. The whole of a long output comes after it. */
 async function beginInPage(encoded) {
     const scripts = ["library", "worker"].map((id) => document.getElementById(id).textContent);
     const worker = new Worker(URL.createObjectURL(new Blob(scripts, { type: "text/javascript" })));
-    const ask = (call, ...given) => new Promise((good, bad) => {
+    const answer = () => new Promise((good, bad) => {
         [worker.onerror, worker.onmessage] = [bad, ({ data }) => data.part || good(data)];
-        worker.postMessage(call, given);
     });
+    const ask = async (call, ...given) => {
+        worker.postMessage(call, given);
+        const { status, first, size } = await answer();
+        return { status, whole: size > first.length ? answer() : null };
+    };
     const bytes = Uint8Array.from(atob(encoded), (it) => it.charCodeAt(0));
     worker.postMessage({ module: await WebAssembly.compile(bytes) });
     await ask({ number: 1, commands: [["uniq"]], stdin: "", files: [] });

@@ -29,15 +29,18 @@ const NOTHING = new Uint8Array(0);
 /** The inputs that no field can hold, as a text or as a file: long ones, and those that are not UTF-8. */
 const held = new Map();
 let compiled = null, worker = null, number = 0, isRunning = false, waiting = 0, patience = 0, address = "", place = "";
-/** The output that is shown, and the last part of the address that this page has made itself. */
-let output = new Blob([]), linked = "";
+/** The output that is shown, if all of it is there, and the last part of the address that this page has made itself. */
+let output = null, linked = "";
 
 /** Makes a worker from the scripts of this page. (Their place is kept: a run that is stopped may have left no room.) */
 function newWorker() {
     place ||= URL.createObjectURL(new Blob([textOf("library"), textOf("worker")], { type: "text/javascript" }));
     const made = new Worker(place);
     made.onmessage = ({ data }) => {
-        if (data.number === number) (data.part ? showPart : finish)(data.part ?? data);
+        if (data.number !== number) return;
+        if (data.part) showPart(data.part);
+        else if (data.whole) offer(data.whole);
+        else finish(data);
     };
     made.onerror = () => {
         made.terminate();
@@ -236,18 +239,24 @@ function showPart({ first, size }) {
     at("size").textContent = `${counted(size, "byte")} so far`;
 }
 
-/** Shows the output and the messages, and offers the whole output as a file. */
-function show({ first = NOTHING, out = [], messages = NOTHING, output: file = null }) {
-    output = new Blob(out);
+/** Shows the output and the messages. A long output comes afterwards. */
+function show({ first = NOTHING, size = first.length, messages = NOTHING, output: file = null }) {
     fill("out", first);
-    at("size").textContent = counted(output.size, "byte") + (output.size > SHOWN ? CUT : "");
+    at("size").textContent = counted(size, "byte") + (size > SHOWN ? CUT : "");
     const isCut = fill("messages", messages);
     at("messages-size").textContent = isCut ? `${counted(messages.length, "byte")}${CUT}. ` : "";
     at("where").textContent = file === null ? "" : `to the file ${file}`;
-    URL.revokeObjectURL(address);
-    address = URL.createObjectURL(output);
-    at("download").href = address;
     at("download").download = file ?? "output.txt";
+    offer(first.length < size ? null : new Blob([first]));
+}
+
+/** Offers the whole output as a file, or nothing as long as it is not there. */
+function offer(whole) {
+    output = whole;
+    URL.revokeObjectURL(address);
+    if (whole) at("download").href = address = URL.createObjectURL(whole);
+    else at("download").removeAttribute("href");
+    at("copy").disabled = !whole;
 }
 
 /** Fills an element with bytes as text and escapes. Returns whether there are too many to show. */

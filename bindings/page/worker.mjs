@@ -2,7 +2,7 @@
 import { Ptext, isBytes, joined, readerOf } from "./ptext.mjs";
 import { runAll } from "./command.mjs";
 
-/** How much of a Blob is read at a time, and how much of the output becomes one, in bytes. */
+/** How much of a Blob is read at a time, in bytes. */
 const PART = 2 ** 20;
 /** How much of the output is sent to be shown. (The last byte tells whether there is more.) */
 const SENT = 65537;
@@ -10,6 +10,8 @@ const SENT = 65537;
 const PAUSE = 100;
 /** The longest output that is kept: a browser has no more room for Blobs than some gigabytes. */
 const MOST = 2 ** 31;
+/** Where an output is collected. (New memory, or a Blob, for each part of it would take longer than the command.) */
+const room = new Uint8Array(2 ** 25);
 
 let ptext = null;
 
@@ -35,40 +37,50 @@ function* partsOf(input) {
     }
 }
 
-/** An output. The browser keeps its Blobs outside of the memory of scripts. */
+/** An output: what was in the room when that was full, and the number of bytes that are there now. */
 class Output {
     constructor(tell) {
-        Object.assign(this, { tell, told: 0, size: 0, first: [], left: SENT, pieces: [], waiting: 0, blobs: [] });
+        Object.assign(this, { tell, told: 0, next: PART, size: 0, count: 0, kept: [], first: null });
     }
 
     add(piece) {
-        const bytes = piece.slice();
-        if (this.left) {
-            this.first.push(bytes.slice(0, this.left));
-            this.left -= this.first.at(-1).length;
-        }
-        this.pieces.push(bytes);
-        this.waiting += bytes.length;
-        this.size += bytes.length;
-        if (this.waiting < PART) return;
-        this.keep();
+        if (this.count + piece.length > room.length) this.keep();
+        room.set(piece, this.count);
+        this.count += piece.length;
+        this.size += piece.length;
         if (this.size > MOST) throw new Error("the output has more than 2 GiB, which this page does not keep");
-        const now = performance.now();
-        if (this.tell && now - this.told > PAUSE) {
-            this.tell({ size: this.size, ...(!this.told && { first: joined(this.first) }) });
-            this.told = now;
-        }
+        if (this.tell && this.size >= this.next) this.report();
     }
 
+    /** Makes the room empty. The browser keeps Blobs outside of the memory of scripts. */
     keep() {
-        if (!CAN_READ) return;
-        this.blobs.push(new Blob(this.pieces));
-        [this.pieces, this.waiting] = [[], 0];
+        this.begin();
+        const bytes = room.subarray(0, this.count);
+        this.kept.push(CAN_READ ? new Blob([bytes]) : bytes.slice());
+        this.count = 0;
     }
 
-    /** The whole output: a list of Blobs and bytes. */
+    /** What is shown of it. */
+    begin() {
+        return (this.first ??= room.slice(0, Math.min(this.count, SENT)));
+    }
+
+    report() {
+        this.next = this.size + PART;
+        const now = performance.now();
+        if (now - this.told < PAUSE) return;
+        this.tell({ size: this.size, ...(!this.told && { first: this.begin() }) });
+        this.told = now;
+    }
+
+    /** All of it, for the next command, which may have the room. */
     whole() {
-        return [...this.blobs, ...this.pieces];
+        return [...this.kept, room.slice(0, this.count)];
+    }
+
+    /** All of it, for the page. */
+    blob() {
+        return new Blob([...this.kept, room.subarray(0, this.count)]);
     }
 }
 
@@ -77,7 +89,7 @@ function run(words, stdin, files, tell) {
     const read = (input) => readerOf(partsOf(input));
     const open = (name) => (name === null ? read(stdin) : files.has(name) ? read(files.get(name)) : null);
     const out = new Output(tell), did = ptext.run(words, open, (piece) => out.add(piece));
-    return { ...did, out: out.whole(), first: joined(out.first) };
+    return { ...did, out: tell ? out : out.whole() };
 }
 
 self.onmessage = ({ data }) => {
@@ -88,7 +100,10 @@ self.onmessage = ({ data }) => {
     const { number, commands, stdin, files } = data, tell = (part) => self.postMessage({ number, part });
     try {
         const one = (words, input, known, isLast) => run(words, input, known, isLast ? tell : null);
-        self.postMessage({ number, ...runAll(one, commands, stdin, files) });
+        const { out, ...did } = runAll(one, commands, stdin, files), first = out.begin();
+        self.postMessage({ number, ...did, first, size: out.size });
+        // (A browser needs longer to take a long output than it took to make it: what is shown goes first.)
+        if (out.size > first.length) self.postMessage({ number, whole: out.blob() });
     } catch (error) {
         self.postMessage({ number, error: String(error) });
     }

@@ -74,7 +74,8 @@ ends '"$0" uniq none made; ls made'
 ends '"$0" cut -b 1 .'
 ends '"$0" cut -b 1 "$(printf "\\377")"'
 ends '"$0"'
-ends '{ yes | "$0" tr a b; echo $? >&2; } | head -n 1'
+# (What both write at once is in no order.)
+ends '{ yes | "$0" tr a b; echo $? >&2; } 2>said | head -n 1; cat said'
 ends 'ulimit -v 400000; head -c 300000000 /dev/zero | "$0" uniq | wc -c'
 
 # (The second has its bytes in the other order.)

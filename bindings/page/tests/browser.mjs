@@ -144,6 +144,8 @@ async function huge(browser) {
     is("a file of 100 MB", await sizeOf(browser, "tr '\\0' x | cut -b 2", "2 bytes"), "2 bytes");
     is("100 MB of output", await sizeOf(browser, "tr '\\0' '\\n' | tr -d x", "100,000,000 bytes, of which"),
         "100,000,000 bytes, of which the first 65,536 are shown");
+    const isOffered = `output?.size === 100000000 && document.getElementById("download").href.startsWith("blob:")`;
+    is("all of it is offered", await browser.until(isOffered), true);
     await browser.value(`document.getElementById("stdin-empty").click()`);
     fs.rmSync(`${room}/huge`);
 }

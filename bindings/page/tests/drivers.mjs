@@ -42,6 +42,8 @@ async function file() {
     is("its output", await shows(`${textOf("size")} === "${wanted}"`, 120), true);
     const status = "Status 0: the output of the last command was written";
     is("its status", await shows(`${textOf("status")} === "${status}"`), true);
+    const offered = `document.getElementById("download").href.startsWith("blob:")`;
+    is("all of it is offered", await shows(`${offered} && !document.getElementById("copy").disabled`), true);
     is("the beginning", await browser.value(`${textOf("out")} === "WORDS\\n".repeat(10923).slice(0, 65536)`), true);
 }
 

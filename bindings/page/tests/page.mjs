@@ -261,13 +261,21 @@ globalThis.self.onmessage({ data: { module: ptext.module } });
 globalThis.self.onmessage({ data: { number: 1, commands: [["uniq", 7]], stdin: "", files: [] } });
 globalThis.self.onmessage({ data: { number: 2, commands: [["uniq", "-c"]], stdin: "a\n", files: [] } });
 is("the worker after a run that fails", [answers[0].number, answers[0].error.split(":")[0]], [1, "TypeError"]);
-const next = [answers[1].number, decode(joined(answers[1].out)), decode(answers[1].first)];
-is("its next run", next, [2, "1 a\n", "1 a\n"]);
-const megabytes = "0123456789\n".repeat(500000);
-globalThis.self.onmessage({ data: { number: 3, commands: [["tr", "a", "b"]], stdin: megabytes, files: [] } });
+is("its next run", [answers[1].number, decode(answers[1].first), answers[1].size], [2, "1 a\n", 4]);
+const megabytes = "0123456789\n".repeat(500000), toWorker = (data) => globalThis.self.onmessage({ data });
+toWorker({ number: 3, commands: [["tr", "a", "b"]], stdin: megabytes, files: [] });
 const parts = answers.filter((it) => it.part);
 is("a part of the output", [parts[0].part.first.length, parts[0].part.size], [65537, 2 ** 20]);
-is("the whole", [decode(joined(answers.at(-1).out)) === megabytes, answers.at(-1).first.length], [true, 65537]);
+const [shownFirst, { whole }] = answers.slice(-2);
+is("what is shown goes first", [shownFirst.first.length, shownFirst.size, shownFirst.status], [65537, 5500000, 0]);
+is("the whole", await whole.text() === megabytes, true);
+// (Each output of this chain is longer than the room where it is collected.)
+const longer = "0123456789\n".repeat(4 * 10 ** 6);
+toWorker({ number: 4, commands: [["tr", "0", "a"], ["tr", "1", "b"]], stdin: longer, files: [] });
+const both = await answers.at(-1).whole.text();
+is("a chain of long outputs", both === longer.replaceAll("01", "ab"), true);
+toWorker({ number: 5, commands: [["cut", "-b", "1-4"], ["cut", "-b", "2"]], stdin: megabytes, files: [] });
+is("a run after it", await answers.at(-1).whole.text() === "1\n".repeat(500000), true);
 
 // ---- want of memory
 const middle = await load(2 ** 26), halfLine = "x".repeat(3 * 10 ** 7);
