@@ -85,7 +85,8 @@ BEYOND = Page("docs/BEYOND.md", BEYOND_WORDS, [
 PROMISE = Page("docs/PROMISE.md", PROMISE_WORDS, [
     Section("The theorem",
             "First what holds if nothing fails, then what holds whatever fails; then what they name. The last field "
-            "of `IsRun`, and that of a command's specification, are explained in BEYOND.md: nothing here rests on them.",
+            "of `IsRun`, and that of a command's specification, are explained in BEYOND.md: but for `reads_nothing`, "
+            "nothing here rests on them.",
             "ptrun.Runs.IsExactUnlessFailed ptrun.Runs.IsExact ptrun.Runs.IsRun ptrun.Runs.RunEnd ptrun.Runs.HasCause",
             "ptrun.Runs ptrun.Files ptlines.Received ptlines.Readers ptlines.Sinks ptlines.Engines "
             "ptrun.MessageWrites.HasSaid"),

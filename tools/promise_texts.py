@@ -27,13 +27,13 @@ function is one for files and for inputs and sinks whose bytes are known ([PROVE
 | Fail or not, at most so many bytes of lines are in the store at any moment | FIELD(ptrun.Runs.IsRun.bounded) | what else takes memory: buffers, spare room, and up to 8,192 bytes of a line that `uniq` keeps beside the store |
 | The reported peak is that of the store | the clause `store` of `run_with_store`, which `run` calls | this of `run`, whose contract names no store: one that reports 0 would meet it |
 | Whatever fails, what was written is a beginning of the right output, however the inputs may go on | FIELD(ptrun.Runs.IsRun.is_prefix) | how much was written |
-| A run ends with all output, messages and status; or it stopped, with status 1, for a failure that happened | FIELD(ptrun.Runs.IsRun.ends) | which failure is named, if several of a kind happened. A failed write is named before all others; after a failed read no memory is asked for |
+| A run ends with all output, messages and status; or it stopped, with status 1, for a failure that happened | FIELD(ptrun.Runs.IsRun.ends) | which failure is named, if several of a kind happened. A failed write is named before all others; after a failed read no request for memory fails |
 | A run that stopped has the messages about the operands before, and one about the failure | `message ≡ operand_messages m w n ++ fault_message m.tool m.names fault` | how many operands these are, if a write or memory failed |
 | If a read failed and no write did, that read is named | FIELD(ptrun.Runs.IsRun.names_failed_read) | |
 | and what is decided is written | FIELD(ptrun.Runs.IsRun.decided_is_written) | that more than `decided` is written: of 80,000 bytes of lines `a` `uniq` has decided nothing, as they are one run; of lines `a`, `a`, `b` the first run |
 | What is decided is not nothing: the whole output is what is decided by inputs that are known whole, and of `uniq` also the last run (the law `output_is_decided`) | `output job positions r = decided job positions r ++ at_end job positions r`, where `r` is `all_received w` | what `paste`, `comm` and `join` decide before the end of an input. Over standard input alone, the law says of `cut`, `tr` and `uniq` that all output for complete lines is decided, but for the last run of `uniq` |
 | Inputs may go on as any that are consistent with what was received | `AreInputsConsistent r w` | |
-| If the words are no command, one message names the first fault, the status is 2 and nothing is read or written | `spec_of_result tool (Err fault) = message_only (usage_text tool fault) 2` | |
+| If the words are no command, one message names the first fault, the status is 2 and nothing is read or written | `spec_of_result tool (Err fault) = message_only (usage_text tool fault) 2`, whose `reads_nothing` (BEYOND.md) is true | |
 | If memory ran out while the words were read, one message says so, and the status is 1 | `spec_unless_memory` | when that happens |
 
 A file that could not be opened is no failure: it has a message, and the status is 1. These are the clauses of the
@@ -107,7 +107,7 @@ and of `CommandSpec` that say these things.
 | If the words are no command, or an input that has to be there is not, nothing is read, written or kept | `reads_nothing` of `run` | |
 | The store has no more slots than these lines need | `slots` of `IsRunInStore` | how much memory a slot takes |
 | The files that the words name are opened in order, each once, and no other; the output file is created if all inputs were opened | `RunOverFilesPost` of `run_over_files` | |
-| The same of the files of the system | `PerformPost` of `perform` | which files: it states only that there are such calls, tied to no file. What was opened and created is read by eye, in four bodies ([PROVED.md](PROVED.md)) |
+| The same of the files of the system | `PerformPost` of `perform` | which files: it states only that there are such calls, tied to no file. What was opened and created is read by eye, in five bodies ([PROVED.md](PROVED.md)) |
 
 From the toolchain's library, beside the names that the first page explains:
 
@@ -122,7 +122,8 @@ PARTS
 # In terms `[1, 2]` stands for `1 ∷ 2 ∷ []`, and a text in quotes for its bytes.
 LIBRARY = [
     ("◌+◌ ◌*◌ ◌-◌ ◌%◌ ◌^◌", "arithmetic of natural numbers; a difference is at least 0", ("3 - 5", "0")),
-    ("◌≡◌ ◌≢◌ ◌<◌ ◌≤◌", "statements about values", "`2 ≡ 2` holds"),
+    ("◌≡◌ ◌<◌ ◌≤◌", "statements about values", "`2 ≡ 2` holds"),
+    ("◌≢◌", "two values are not equal", "`2 ≢ 3` holds"),
     ("◌==◌ nat_lt nat_le is_in_range",
      "tests of numbers, which give a Bool: equal, less, at most, from one number to another",
      ("nat_lt 1 2", "true")),

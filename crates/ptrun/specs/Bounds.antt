@@ -15,9 +15,9 @@ use Rattle.ptrun.specs.Merges.{Disorder, disorder_of}
 abbrev pub two_of_each : ℕ → (Side → Received) → ℕ
 two_of_each terminator given = 2 * longest terminator (given First) + 2 * longest terminator (given Second)
 
--- The most bytes of lines that are stored at any moment: of operands that are read in turn the longest line; of those
--- that are read together that of each column of `paste`, two of each input of the others, and for `join`, if it writes
--- pairs, the second input's lines with one key. `tr` stores none.
+-- A bound on the bytes of lines that are stored at any moment. Of operands that are read in turn: the longest line; for
+-- `tr` none. Of operands that are read together: for `paste` the longest line of each operand's input, for the others two
+-- of each, and for `join`, if it writes pairs, the lines of the second input with one key, of the key with the most bytes.
 abbrev pub bound : Job → List ℕ → ReceivedInputs → ℕ
 bound (RunCut job) positions r = maximum (map (longest job.terminator) (inputs_in_turn r positions))
 bound (RunTr m) positions r = 0

@@ -14,7 +14,7 @@ pub record SpecBeyond : Type 0 where
   pub slot_bound : InputBytes → ℕ
   -- whether the tool may request memory once its inputs have ended, as `join` does for a group
   pub keeps_groups : Bool
-  -- what one operand decides, if they are read one after another
+  -- what one operand decides, if operands are read one after another
   pub sequential : Option (Received → List ℕ)
   -- whether the tool reads and writes nothing, given which of the inputs could not be opened
   pub reads_nothing : (ℕ → Bool) → Bool
@@ -36,6 +36,7 @@ pub record CommandSpec : Type 0 where
   -- the name of the tool, and the names of the files
   pub tool : List ℕ
   pub names : List (List ℕ)
+  -- what is specified beyond these
   pub beyond : SpecBeyond
 
 -- A message for each of the first `n` operands that is unopened.

@@ -41,7 +41,7 @@ abbrev pub operand : List ℕ → Side → ℕ
 operand positions First = slice_index_or positions 0 0
 operand positions Second = slice_index_or positions 1 0
 
--- The received part of the input at a position.
+-- The received part of the input at a position. One that is not there is empty, and its end was reached.
 abbrev pub received_in : ReceivedInputs → ℕ → Received
 received_in r position = unwrap_or (at r position) (whole [])
 
@@ -49,7 +49,8 @@ received_in r position = unwrap_or (at r position) (whole [])
 abbrev pub has_unopened : {X : Type 0} → List ℕ → List (Option X) → Bool
 has_unopened positions xs = list_any (is_unopened xs) positions
 
--- What a tool has of the inputs that reads its operands together: nothing, if one could not be opened.
+-- The inputs as a tool sees them that reads its operands together: if one could not be opened, it sees none, and each
+-- counts as empty and ended, of which nothing is written.
 abbrev pub inputs_together : ReceivedInputs → List ℕ → ReceivedInputs
 inputs_together r positions = if has_unopened positions r then [] else r
 

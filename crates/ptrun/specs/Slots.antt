@@ -23,8 +23,9 @@ decided_of_one (RunPaste job) = if job.serial then Some (paste_serial_decided jo
 decided_of_one _ = None
 
 -- The most slots that the store needs for the lines of these inputs: one for `cut` by fields, if an operand was opened;
--- one for each column of `paste`, two for each input of the others, and for `join`, if it writes pairs, one for each of
--- the second input's lines with one key.
+-- none for `cut` by bytes, `tr` and `paste -s`. For tools that read their operands together, if all were opened: one for
+-- each operand of `paste`, two for each input of the others, and for `join`, if it writes pairs, one for each of the
+-- second input's lines with one key.
 abbrev pub slot_bound : Job → List ℕ → ReceivedInputs → ℕ
 slot_bound (RunCut job) positions r = maximum (map (λ input. if job.fields then 1 else 0) (inputs_in_turn r positions))
 slot_bound (RunTr m) positions r = 0

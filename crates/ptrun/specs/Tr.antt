@@ -2,7 +2,7 @@
 use Rattle.std.specs.Prelude.{ℕ, ◌==◌, ◌&&◌, List, ◌∷◌, Bool, filter, if◌then◌else◌, map, not}
 use Rattle.ptlangs.specs.TrPlan.{ByteMap}
 
--- The bytes without those that are squeezed and come before an equal one.
+-- The bytes without those that are squeezed and stand right before an equal one.
 abbrev pub squeeze : (ℕ → Bool) → List ℕ → List ℕ
 squeeze test (a ∷ b ∷ more) = if (a == b) && test b then squeeze test (b ∷ more) else a ∷ squeeze test (b ∷ more)
 squeeze test bytes = bytes
