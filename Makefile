@@ -50,7 +50,7 @@ libdir = $(PREFIX)/lib
 includedir = $(PREFIX)/include
 datadir = $(PREFIX)/share
 mandir = $(datadir)/man
-# The command that puts the program in its place, as `install`. Without one it is stripped, if there is strip.
+# The command that installs the program, as `install`. Without one it is stripped, if there is strip.
 INSTALL_PROGRAM =
 # With `no`, build/ptext is installed even if there is a build/ptext-static.
 STATIC =
@@ -151,7 +151,7 @@ install-lib: build/libptext.a
 
 # (The modules of Debian's packages python3-setuptools and python3-wheel are those of its own Python.)
 PYTHON ?= /usr/bin/python3
-# (In build/dist is one wheel for a processor and a C library, manylinux or musllinux, whatever their versions.)
+# (In build/dist is one wheel for a processor and a C library, manylinux or musllinux, of any version.)
 WHEEL := build/dist/ptext-*$(if $(filter musl,$(LIBC)),l,[-y])linux_*$(TARGET).whl
 python: $(BUILT)/libptext.a
 	rm -rf build/python && cp -r bindings/python build/python
@@ -201,7 +201,7 @@ install: $(if $(filter 0,$(shell id -u)),is-built,build/ptext)
 is-built:
 	@{ [ -x build/ptext ] && { [ "$(PTEXT_AS_BUILT)" ] || $(MAKE) -s -q build/ptext; }; } || { \
 	    echo "build/ptext is not there, or older than its source. Run 'make' first, best not as root: it proves the" \
-	        "program, which takes some 15 minutes. Nothing was installed." >&2; exit 1; }
+	        "program, which takes half an hour. Nothing was installed." >&2; exit 1; }
 
 install-tools: install
 	@python3 tools/install.py tools $(INSTALL_TO)

@@ -26,9 +26,9 @@ def draw(means):
         draw_text(LEFT, 20, "Time of ptext / time of GNU's tool (lower is faster)", "start", 14, ' font-weight="bold"'),
         draw_text(LEFT, 44, "bytes a line:", "start"),
     ]
-    for place, length in enumerate(LENGTHS):
-        x = LEFT + 90 + place * 84
-        parts.append(f'<rect x="{x}" y="33" width="14" height="14" fill="{SHADES[place]}"/>\n')
+    for index, length in enumerate(LENGTHS):
+        x = LEFT + 90 + index * 84
+        parts.append(f'<rect x="{x}" y="33" width="14" height="14" fill="{SHADES[index]}"/>\n')
         parts.append(draw_text(x + 20, 44, f"{length:,}", "start"))
     for tenths in range(0, int(most * 4) + 1):
         ratio = tenths / 4
@@ -40,11 +40,11 @@ def draw(means):
         parts.append(draw_text(LEFT - 6, y + 4, "GNU 1" if ratio == 1 else f"{ratio:g}", "end", 11))
     for number, (tool, ratios) in enumerate(means.items()):
         left = LEFT + GAP / 2 + number * group
-        for place, length in enumerate(LENGTHS):
-            x, tall = left + place * BAR, scale(ratios[length])
+        for index, length in enumerate(LENGTHS):
+            x, tall = left + index * BAR, scale(ratios[length])
             parts.append(
                 f'<rect x="{x:.0f}" y="{bottom - tall:.1f}" width="{BAR - 2}" height="{tall:.1f}" '
-                f'fill="{SHADES[place]}"/>\n'
+                f'fill="{SHADES[index]}"/>\n'
             )
             parts.append(draw_text(x + (BAR - 2) / 2, bottom - tall - 3, f"{ratios[length]:.2f}".lstrip("0"), size=10))
         parts.append(draw_text(left + BAR * len(LENGTHS) / 2, bottom + 20, tool, size=14))

@@ -67,7 +67,7 @@ def make_item_lines(size, first):
 
 
 def make_items(count):
-    """So many files of as many lines."""
+    """`count` files of the same number of lines."""
     return lambda size: [make_item_lines(size // count, 1000 * number) for number in range(count)]
 
 
@@ -122,7 +122,7 @@ def make_words_of_a_text(size):
 
 
 def make_wide_line(separator, count):
-    """Makers of lines of so many fields."""
+    """Makers of lines of `count` fields."""
 
     def make(number):
         fields = [str((number + index) * 7919 % 65536) for index in range(count - 1)]
@@ -172,7 +172,7 @@ def make_runs(size):
 
 
 def make_groups(first, second):
-    """Makers of two files, with so many lines of each key."""
+    """Makers of two files, with `first` and `second` lines of each key."""
 
     def make(size):
         keys = range(size // (15 * (first + second)))

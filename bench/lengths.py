@@ -23,7 +23,7 @@ KEY = 8
 
 @functools.cache
 def list_words(length):
-    """All words of so many letters, in order."""
+    """All words of `length` letters, in order."""
     return ["".join(letters) for letters in itertools.product(LETTERS, repeat=length)]
 
 
@@ -43,7 +43,7 @@ def count_kept(count, lacks):
 
 def make_lines(length, count, lacks, among, separator):
     """Lines for the first numbers, without each third one from `lacks` on. They ascend. Each is a key of up to 8
-    letters, and after it fields of 7 letters. There are `among` keys, or all words of so many letters if these are
+    letters, and after it fields of 7 letters. There are `among` keys, or all words of these letters if they are
     fewer; then keys repeat."""
     key = min(length, KEY)
     rest = ((separator + "xyzxyzx") * (length // 8 + 1))[: length - key] + "\n"
@@ -59,7 +59,7 @@ def make_lines(length, count, lacks, among, separator):
 
 @functools.cache
 def make_thirds(kind):
-    """The lines of two inputs of one length: of the places of both, the first lacks each third one, and the second
+    """The lines of two inputs of one length: of the numbers of both, the first lacks each third one, and the second
     another third; so half of each is common."""
 
     def make(length, count, separator):
@@ -119,7 +119,7 @@ def write_input(folder, name, text):
 def count_a_line(folder, ptext, make, separator, words, length):
     """Those of a short input, without those of an empty one, for each line of standard input."""
     count = min(COUNTED_LINES, COUNTED_SIZE // (length + 1))
-    paths = [write_input(folder, f"few{place}", text) for place, text in enumerate(make(length, count, separator))]
+    paths = [write_input(folder, f"few{at}", text) for at, text in enumerate(make(length, count, separator))]
     return count_beyond_none(folder, paths, ptext, words) / count
 
 
@@ -134,9 +134,9 @@ def measure_all(folder, ptext, other, quick):
             count = (min(whole, LINES) if tool in ("join", "comm") else whole) // (10 if quick else 1)
             for make, separator, words in cases:
                 if (make, separator) not in inputs:
-                    place = len(inputs)
+                    number = len(inputs)
                     texts = enumerate(make(length, count, separator))
-                    inputs[make, separator] = [write_input(folder, f"in{place}{at}", text) for at, text in texts]
+                    inputs[make, separator] = [write_input(folder, f"in{number}{at}", text) for at, text in texts]
                 ours, theirs = compare(folder, inputs[make, separator], ptext, other, words, 1 if quick else RUNS)
                 few = count_a_line(folder, ptext, make, separator, words, length) if counted else None
                 rows.append((tool, " ".join(words), length, ours, theirs, few))

@@ -73,7 +73,7 @@ def make_ended(size):
 
 
 def repeat_fields(separator, count, lines):
-    """These lines of so many fields, again and again."""
+    """These lines of `count` fields, again and again."""
     return repeat_text("".join(map(make_wide_line(separator, count), range(lines))))
 
 

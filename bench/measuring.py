@@ -17,13 +17,13 @@ FILES = "FILES"
 
 
 def fill_in(words, paths):
-    """The words, with the paths of the inputs in place of their names."""
+    """The words, with the paths of the inputs for their names."""
     operands = {FILE: paths[:1], OTHER: paths[1:2], FILES: paths}
     return [operand for word in words for operand in operands.get(word, [word])]
 
 
 def run_timed(command, path, output, limit=resource.RLIM_INFINITY, messages=None):
-    """The exit status, and the seconds of user and system time. After so many of these the command is killed."""
+    """The exit status, and the seconds of user and system time. After `limit` of these the command is killed."""
     with open(path, "rb") as standard, open(output, "wb") as out:
         child = subprocess.Popen(
             command, stdin=standard, stdout=out, stderr=messages, env={**os.environ, "LC_ALL": "C"}
@@ -82,7 +82,7 @@ def count_instructions(folder, paths, ptext, words):
 
 
 def count_beyond_none(folder, paths, ptext, words):
-    """Those that are not run over as many empty inputs."""
+    """Those that are not run if each input is empty."""
     empty = os.path.join(folder, "empty")
     open(empty, "wb").close()
     none = count_instructions(folder, [empty] * len(paths), ptext, words)
@@ -90,7 +90,7 @@ def count_beyond_none(folder, paths, ptext, words):
 
 
 def runs_within(command, path, size):
-    """Whether the command runs in so many KiB of address space."""
+    """Whether the command runs in `size` KiB of address space."""
 
     def limit():
         resource.setrlimit(resource.RLIMIT_AS, (size << 10, size << 10))

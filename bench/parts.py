@@ -36,7 +36,7 @@ CASES = [
 
 
 def write_lines(name, size, line):
-    """So many bytes of lines, from the first on."""
+    """Lines from the first on, of `size` bytes."""
     with open(name, "w", encoding="ascii") as file:
         number = 0
         while file.tell() < size:
@@ -69,7 +69,7 @@ def format_times(times):
 
 
 def start_dask(cores):
-    """A client of a cluster of this machine, with as many workers as processors; or None."""
+    """A client of a cluster of this machine, with a worker for each processor; or None."""
     sys.path.insert(0, f"{TOP}/bindings/python")
     os.environ.setdefault("PTEXT_LIBRARY", f"{TOP}/build/libptext.so")
     os.environ["PYTHONPATH"] = f"{TOP}/bindings/python"

@@ -46,7 +46,7 @@ def keep_table(path, part, text):
 
 def main():
     parser = argparse.ArgumentParser(description="Ratios of ptext to the system's tools.")
-    parser.add_argument("--against", metavar="OTHER", help="another build of ptext, in place of the system's tools")
+    parser.add_argument("--against", metavar="OTHER", help="another build of ptext, instead of the system's tools")
     parser.add_argument("--quick", action="store_true", help="few lines, each command once")
     parser.add_argument("--to", metavar="FOLDER", default=HERE, help="where tables, data and chart are written")
     parser.add_argument("ptext", help="the program")

@@ -101,7 +101,7 @@ COUNT_IN_AWK = [
     FILE,
 ]
 
-ODD = ",".join(str(place) for place in range(1, 70, 2))
+ODD = ",".join(str(column) for column in range(1, 70, 2))
 OUTER = ["-a", "1", "-a", "2", "-e", "-", "-o", "0,1.2,1.3,2.2,2.3"]
 SCATTERED = ["aeiouyAEIOUY,.;:-", "4310vYqXQWZ&_|%+/"]
 PERMUTED = ["\\000-\\377", "".join(f"\\{byte:03o}" for byte in random.Random(1).sample(range(256), 256))]

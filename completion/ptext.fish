@@ -22,14 +22,14 @@ function __ptext_options
         case uniq
             set valued fs
     end
-    set -l place 3
-    while set -q words[$place]
-        string match -qr '^-.' -- $words[$place]; and test $words[$place] != --; or return
+    set -l at 3
+    while set -q words[$at]
+        string match -qr '^-.' -- $words[$at]; and test $words[$at] != --; or return
         # A letter with a value at the end of a word takes the next word.
-        if test -n "$valued"; and string match -qr "^-[^$valued]*[$valued]\$" -- $words[$place]
-            set place (math $place + 1)
+        if test -n "$valued"; and string match -qr "^-[^$valued]*[$valued]\$" -- $words[$at]
+            set at (math $at + 1)
         end
-        set place (math $place + 1)
+        set at (math $at + 1)
     end
 end
 

@@ -1,6 +1,6 @@
 #!/usr/bin/env python3
-"""Tests a file that is each tool by its own name: by whatever path or link it is called, it answers as the program does
-with the last part of that name before the words. A name that is no tool's is refused, and so is an empty one.
+"""Tests a file that is each tool by its own name: by any path or link, it answers as the program does with the
+last part of that name before the words. A name that is no tool's is refused, and so is an empty one.
 
   python3 tests/by_name.py FILE PROGRAM
 """

@@ -61,7 +61,7 @@ ROWS = [
     Row("ptext ", NAMES),
     *(Row(f"ptext {tool} -", [f"-{letter}" for letter in FLAGS[tool] + VALUED[tool]]) for tool in NAMES),
     Row("ptext cut -sf 1 -", ["-d", "-z"]),
-    Row("ptext join -a ", ["1", "2"]),
+    *(Row(f"ptext join -{letter} ", ["1", "2"]) for letter in "av"),
     Row("ptext tr -d '[:", CLASSES),
     Row("ptext-parts ", [*NAMES, "plan", "run", "whole"]),
     Row("ptext-parts -", ["-i", "-j", "--help"]),
@@ -135,7 +135,7 @@ class Terminal:
 
 
 def strip_escapes(came, between=b""):
-    """The text that a terminal would show, with this in place of what moves its cursor or colours."""
+    """The text that a terminal would show, with `between` for what moves its cursor or colours."""
     return ESCAPES.sub(between, came).decode(errors="replace")
 
 

@@ -18,7 +18,7 @@ static unsigned next_random(void) {
     return (unsigned)(state >> 33);
 }
 
-/* Moves so many bytes between two places of one room. Returns whether all bytes of the room are as they should be. */
+/* Moves bytes within one room. Returns whether all bytes of the room are as they should be. */
 static int is_right(size_t to, size_t from, size_t size) {
     for (size_t i = 0; i < ROOM; i++)
         moved[i] = wanted[i] = start[i];

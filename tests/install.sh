@@ -94,7 +94,9 @@ is "nothing is left" "" "$(ls -A "$room/empty")"
 
 install install install-tools PREFIX=/usr DESTDIR="$room/root"
 is "no root in a file" "" "$(grep -rl "$room" "$room/root")"
-is "a tool below a root" b "$(echo ab | "$room/root/usr/libexec/ptext/bin/cut" -c 2)"
+# (A script starts the program without the root.)
+[ ! -x "$top/build/ptext-by-name" ] ||
+    is "a tool below a root" b "$(echo ab | "$room/root/usr/libexec/ptext/bin/cut" -c 2)"
 install uninstall PREFIX=/usr DESTDIR="$room/root"
 is "nothing is left below a root" "" "$(ls -A "$room/root")"
 
@@ -161,9 +163,13 @@ install uninstall "$@"
 is "nothing is left of other folders" "" "$(ls -A "$room/parts.of")"
 is "a command that fails" "cannot install: $room/parts.of/usr/bin/ptext: false failed. Nothing was installed." \
     "$(fails install prefix=/usr DESTDIR="$room/parts.of" INSTALL_PROGRAM=false)"
+# (Whoever started this may ignore SIGINT, as a shell's background does.)
+is "an installation that is stopped halfway" "stopped: nothing was installed." \
+    "$(env --default-signal=INT python3 "$top/tools/install.py" install /usr "$room/parts.of" \
+        INSTALL_PROGRAM="sh -c 'kill -INT \$PPID; sleep 9'" 2>&1)"
 is "an empty folder" "mandir is empty. Nothing was done." \
     "$(fails install prefix=/usr DESTDIR="$room/parts.of" mandir=)"
-is "nothing is left of both" "" "$(ls -A "$room/parts.of")"
+is "nothing is left of them" "" "$(ls -A "$room/parts.of")"
 set --
 
 # The program without shared libraries is taken if it is not older than the other one, unless STATIC=no, with the license
@@ -203,7 +209,7 @@ if [ "$(id -u)" = 0 ]; then
     tar -C "$top" -cf - --exclude='crates/*/out' Makefile HANDLES crates.txt crates tools | tar -xf - -C "$room/copy"
     for state in missing older; do
         is "root, where the program is $state" "build/ptext is not there, or older than its source. Run 'make' first, \
-best not as root: it proves the program, which takes some 15 minutes. Nothing was installed." \
+best not as root: it proves the program, which takes half an hour. Nothing was installed." \
             "$(unset PTEXT_AS_BUILT; tree=$room/copy && fails install PREFIX="$room/unbuilt" DESTDIR=)"
         mkdir -p "$room/copy/build"
         cp "$top/build/ptext" "$room/copy/build"
@@ -245,7 +251,7 @@ rmdir "$room/strict/share/man/man1/ptext.1"
 install uninstall PREFIX="$room/strict" DESTDIR=
 is "and goes whole" "" "$(ls -A "$room/strict")"
 
-# Files of others stay, whatever their names.
+# Files of others stay, also those with odd names.
 mkdir "$room/others" "$room/others/bin"
 for name in ptext.new ptext.old; do
     echo kept >"$room/others/bin/$name"
@@ -284,6 +290,13 @@ if [ -n "$python" ]; then
         "cannot uninstall: $room/theirs/bin/ptext: Permission denied. What is left is noted in $room/theirs/share/ptext/installed." \
         "$($as "$python" "$room/readable/tools/install.py" uninstall "$room/theirs" 2>&1)"
     is "it is unchanged, and its notes" "$before" "$(listed "$room/theirs")"
+    # If only some of it may be taken away, the notes stay.
+    chmod -R a+w "$room/theirs"
+    chmod 555 "$room/theirs/share/man/man7"
+    is "no rights to take away all" "cannot uninstall: $room/theirs/share/man/man7/ptext-replacing.7: Permission denied. \
+What is left is noted in $room/theirs/share/ptext/installed." \
+        "$($as "$python" "$room/readable/tools/install.py" uninstall "$room/theirs" 2>&1)"
+    is "the notes stay" yes "$([ -s "$room/theirs/share/ptext/installed" ] && echo yes)"
     chmod -R u+w "$room/theirs"
 else
     left_out "an installation without rights (there is no python3 that nobody can run)"

@@ -88,9 +88,9 @@ most() {
     [ "$(cat peak)" -le "$limit" ] || wrong "$* <$from: $(cat peak) bytes at a time, wanted at most $limit"
 }
 
-# keeps LINES INPUTS FILE WORDS..: the run needs no more than it may for so many lines of `size` bytes. A buffer has
-# room for at most twice its line, and while the last one is moved, its old room is still there. Each input has a block
-# of 8 KiB. The rest is for words, lists and empty slots.
+# keeps LINES INPUTS FILE WORDS..: the run needs no more than it may for LINES lines of `size` bytes. A buffer has room
+# for at most twice its line, and while the last one is moved, its old room is still there. Each input has a block of
+# 8 KiB. The rest is for words, lists and empty slots.
 keeps() {
     limit=$((($1 * 2 + ($1 > 0)) * size + $2 * 9000 + 3000))
     shift 2
@@ -132,7 +132,7 @@ keeps 2 1 short paste - -
 keeps 2 2 short paste - short
 keeps 4 2 short comm - short
 keeps 6 2 short join -a 1 - short
-# The lines of one key: each has a buffer of 128 bytes, and its place in the list of slots.
+# The lines of one key: each has a buffer of 128 bytes, and its entry in the list of slots.
 yes 'k some words' | head -n 1000 >keys
 most 300000 keys join - keys
 keeps 2 1 keys uniq -c

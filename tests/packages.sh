@@ -40,6 +40,7 @@ for file in "ptext-$version.tar.gz" $programs SHA256SUMS; do
     same "$file, made twice" "$room/one/$file" "$room/two/$file"
 done
 is "checksums" "" "$(cd "$room/one" && sha256sum --quiet -c SHA256SUMS 2>&1)"
+is "files that others can read" 644 "$(stat -c %a "$room"/two/* | uniq)"
 is "nothing else is made" "$(echo SHA256SUMS $(printf '%s\n' $programs | LC_ALL=C sort) ptext-$version.tar.gz)" \
     "$(echo $(ls -A "$room/one" | LC_ALL=C sort))"
 
@@ -55,6 +56,10 @@ if [ -e "$top/.git" ] && command -v git >/dev/null; then
 fi
 is "the source has its parts" yes \
     "$(cd "$room/source" && [ -s Makefile ] && [ -s crates.txt ] && [ -s crates/ptext/src/main.rt ] && echo yes)"
+if [ -e "$top/.git" ] && command -v git >/dev/null; then
+    is "what can be run" "$(git -c safe.directory="$top" -C "$top" ls-files -s | sed -n 's/^100755 .*\t//p' | sort)" \
+        "$(cd "$room/source" && find . -type f -perm -100 | sed 's|^\./||' | sort)"
+fi
 is "the source has nothing that was built" "" \
     "$(cd "$room/source" && find . -name '*.rlib' -o -name build -o -name .git)"
 for folder in source program; do
@@ -143,12 +148,17 @@ is "nothing is left of the archive" "" "$(find "$local" ! -type d; find "$local"
 # that is changed is refused.
 mkdir "$room/source/build" && cp "$top/build/ptext" "$room/source/build"
 mkdir "$room/source/debian/tmp" && ln -s nothing "$room/source/debian/tmp/link" && : >"$room/source/debian/files"
+mkdir "$room/source/crates/ptrun/out" && : >"$room/source/crates/ptrun/out/kept"
 again() {
     python3 "$room/source/tools/dist.py" archives "$room/three" "$@" 2>&1
 }
 again >"$room/said"
 same "an archive of the archive" "$room/one/ptext-$version.tar.gz" "$room/three/ptext-$version.tar.gz"
-rm -r "$room/three" "$room/source/debian/tmp" "$room/source/debian/files"
+rm -r "$room/three" "$room/source/debian/tmp" "$room/source/debian/files" "$room/source/crates/ptrun/out"
+(SOURCE_DATE_EPOCH=86400 && export SOURCE_DATE_EPOCH && again >"$room/said")
+is "the time that is given" 1970-01-02 \
+    "$(TZ=UTC tar -tvzf "$room/three/ptext-$version.tar.gz" | tr -s ' ' | cut -d ' ' -f 4 | sort -u)"
+rm -r "$room/three"
 echo >>"$room/source/README.md"
 : >"$room/source/docs/new.md"
 uncommitted() {

@@ -220,7 +220,7 @@ class Run:
                 self.ends[which] = None
 
     def wait_for(self, count):
-        """Reads until so many bytes have come in all, or with None until the end."""
+        """Reads until `count` bytes have come in all, or with None until the end."""
         until = time.monotonic() + MOST
         while count is None or len(self.came) < count:
             ready, _, _ = select.select([self.out], [], [], max(until - time.monotonic(), 0))

@@ -1,6 +1,6 @@
 #!/usr/bin/env python3
 """Runs each tool with each number of operands from 0 to 513: it is neither denied memory nor refused, unless the tool
-does not take so many.
+takes other numbers of them.
 
   python3 tests/words.py PROGRAM
 """
@@ -16,7 +16,7 @@ from project import Failed
 
 MOST = 512
 REFUSED = "{}: wrong number of operands\n"
-# For each command, the least and the greatest number of operands, and what it writes for so many names of the file.
+# For each command, the least and the greatest number of operands, and what it writes for `count` names of the file.
 COMMANDS = {
     "cut -c 1": (0, MOST, lambda count: "a\n" * (count or 1)),
     "cut -f 1": (0, MOST, lambda count: "a\n" * (count or 1)),
@@ -37,7 +37,7 @@ def run(program, words, folder):
 
 
 def check(program, command, count, folder):
-    """Raises Failed if the command with so many operands does not do what it should."""
+    """Raises Failed if the command with `count` operands does not do what it should."""
     least, most, write = COMMANDS[command]
     tool = command.split()[0]
     wanted = (0, write(count), "") if least <= count <= most else (2, "", REFUSED.format(tool))

@@ -62,14 +62,14 @@ For one user, in the folder with this file:
     mkdir -p ~/.local
     cp -r bin libexec share ~/.local
 
-`~/.local/bin` has to be in `PATH`. For all users, put `/usr/local` in place of `~/.local`, as root.
+`~/.local/bin` has to be in `PATH`. For all users, write `/usr/local` instead of `~/.local`, as root.
 
 fish then completes its words, bash does with the package `bash-completion`, and zsh with this line before `compinit` in
 `~/.zshrc`:
 
     fpath=(~/.local/share/zsh/site-functions $fpath)
 
-To use the tools by their own names (`cut` in place of `ptext cut`), read `man ptext-replacing`, and put
+To use the tools by their own names (`cut` instead of `ptext cut`), read `man ptext-replacing`, and put
 `~/.local/libexec/ptext/bin` first in `PATH`. Then `man cut` shows the page of this `cut`, and zsh and fish complete its
 options. bash does so with this line in `~/.bash_completion`:
 

@@ -9,7 +9,7 @@ was installed.
 
 The names are those of other projects: bindir (PREFIX/bin), libexecdir (PREFIX/libexec), datadir (PREFIX/share), mandir
 (datadir/man), libdir (PREFIX/lib), includedir (PREFIX/include) and INSTALL_PROGRAM, the command that puts the program
-in its place (without one, it is stripped).
+there (without one, it is stripped).
 
 The program is build/ptext-static, which starts faster, if it was linked of build/ptext as it is, and otherwise
 build/ptext. With STATIC=no it is build/ptext in any case. The tools by their own names are one file, linked of the same
@@ -200,7 +200,7 @@ class Place:
             self.noted.append(name)
 
     def make_folder(self, folder):
-        """Makes a folder that all may enter, whatever the umask."""
+        """Makes a folder that all may enter, with any umask."""
         if not os.path.isdir(folder):
             self.make_folder(os.path.dirname(folder))
             os.mkdir(folder)
@@ -337,7 +337,7 @@ def list_files_of_library(where, prefix):
 
 
 def put_all(place, files_in):
-    """Puts all files in their places, or none."""
+    """Puts all files, or none."""
     try:
         for name, mode, text in files_in(place.folders):
             place.put(name, mode, text)

@@ -44,7 +44,7 @@ OF_ENGINES = {
     *"ptflow.Cuts ptflow.PasteText ptflow.TrOutput ptflow.Uniqs ptmerge.MergeSpec ptmerge.Comm ptmerge.Join".split(),
     # lines and bytes, of which the same holds
     *"ptlines.Received.known_lines ptlines.Text.onto_first_if_any ptlines.Text.complete_lines ptlines.Text.max_length "
-    "ptlines.Text.max_line_length ptlines.Slots.total_bytes".split(),
+    "ptlines.Text.max_line_length ptlines.Slots.total_bytes ptlines.Received.empty_input".split(),
 }
 
 
@@ -68,7 +68,7 @@ class Page(NamedTuple):
 
 BEYOND = Page("docs/BEYOND.md", BEYOND_WORDS, [
     Section("Slots, and inputs that are not touched", "", "",
-            "ptrun.Slots ptrun.CommandSpec.may_touch ptlines.Slots.Slots ptrun.CommandSpec.ended_operands "
+            "ptrun.CommandSpec.SpecBeyond ptrun.Slots ptrun.CommandSpec.may_touch ptlines.Slots.Slots ptrun.CommandSpec.ended_operands "
             "ptrun.CommandSpec.IsUnwritten ptrun.CommandSpec.IsUnfinished ptrun.Files.AreReadToEnd "
             "ptrun.Files.IsOneUnended ptlines.Readers.IsDone ptrun.Runs.IsRunBeyond ptlines.Sinks.flushes_after "
             "ptrun.Files.is_reader_unopened ptrun.Runs.IsRunInStore ptrun.Runs.HasWrittenNothing "
@@ -85,15 +85,13 @@ BEYOND = Page("docs/BEYOND.md", BEYOND_WORDS, [
 PROMISE = Page("docs/PROMISE.md", PROMISE_WORDS, [
     Section("The theorem",
             "First what holds if nothing fails, then what holds whatever fails; then what they name. The last field "
-            "of `IsRun`, and five of a command's specification (`slot_bound`, `keeps_groups`, `sequential`, "
-            "`reads_nothing`, `accepts`) serve the second page: nothing here rests on them.",
+            "of `IsRun`, and that of a command's specification, are explained in BEYOND.md: nothing here rests on them.",
             "ptrun.Runs.IsExactUnlessFailed ptrun.Runs.IsExact ptrun.Runs.IsRun ptrun.Runs.RunEnd ptrun.Runs.HasCause",
             "ptrun.Runs ptrun.Files ptlines.Received ptlines.Readers ptlines.Sinks ptlines.Engines "
             "ptrun.MessageWrites.HasSaid"),
     Section("A run", "From a job and what was received to output, messages, status and bound.",
             "ptrun.SpecOfArgs.spec_of_args ptrun.SpecOfArgs.spec_of_result ptrun.SpecOfArgs.command_spec "
-            "ptrun.Decided.output ptrun.Decided.decided ptrun.Decided.at_end ptrun.Decided.decided_of_one "
-            "ptrun.Decided.decided_of_all ptrun.Decided.reads_in_turn ptrun.Bounds.bound",
+            "ptrun.Decided.output ptrun.Decided.decided ptrun.Decided.at_end ptrun.Bounds.bound",
             "ptrun.SpecOfArgs ptrun.CommandSpec ptrun.Decided ptrun.Bounds ptrun.Operands"),
     Section("Bytes and lines", "", "ptlines.Text.lines ptrun.Lines.known_lines",
             "ptlines.Text ptlines.ByteOrder ptrun.Lines"),
@@ -106,8 +104,8 @@ PROMISE = Page("docs/PROMISE.md", PROMISE_WORDS, [
     Section("Merges", "`comm` and `join` are merges of two lists of lines by their keys.", "ptrun.Merges.merged",
             "ptrun.Merges ptmerge.Orders ptmerge.MergeSpec"),
     Section("tr", "First what it does to a text; then its strings, from characters to the plan that two of them make.",
-            "ptflow.TrOutput.tr_decided ptflow.TrOutput.tr ptlangs.TrPlan.byte_map ptlangs.TrPlan.Plan",
-            "ptflow.TrOutput ptlangs.TrChars ptlangs.TrClasses ptlangs.TrElements ptlangs.TrPlan"),
+            "ptrun.Tr.tr ptrun.Tr.squeeze ptlangs.TrPlan.byte_map ptlangs.TrPlan.Plan",
+            "ptlangs.TrChars ptlangs.TrClasses ptlangs.TrElements ptlangs.TrPlan"),
     Section("Lists", "", "", "ptlangs.Numbers ptlangs.CutLists ptlangs.DelimLists ptlangs.OutLists"),
     Section("Words", "From the words of a command line to a job and its inputs, or to the first fault.", "",
             "ptopts.Syntax ptopts.Args ptopts.Faults ptopts.Commands"),

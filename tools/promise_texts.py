@@ -15,19 +15,22 @@ line breaks, and the type before the name of a constructor that two types have.
 the sinks before a run and `o` its result. The formal lines are fields of `IsExact`, which is claimed where no read, no
 write of the output and no request for memory failed (`IsExactUnlessFailed`), and of `IsRun` and what it cites, which
 hold whatever fails. Of the program, `out` is standard output, or the file that `uniq` names, and messages go to
-standard error; its words are those after `ptext`, of which the first is the name of the tool.
+standard error; its words are those after `ptext`, of which the first is the name of the tool. What a real file has is
+not known to the prover (`left` and `accepted` are `None`): of its bytes these lines say nothing by themselves. But the
+function is one for files and for inputs and sinks whose bytes are known ([PROVED.md](PROVED.md)).
 
 | Sentence | Formal line | What it does not say |
 |---|---|---|
-| If nothing fails, the output is exactly that of the words and the inputs | FIELD(ptrun.Runs.IsExact.out) | anything of inputs whose bytes are not known, as those of a real file, or of 2^63 bytes and more (`HasBytes`) |
+| If nothing fails, the output is exactly that of the words and the inputs | FIELD(ptrun.Runs.IsExact.out) | anything of inputs of which only the count of bytes is known, as real files, or of 2^63 bytes and more (`HasBytes`) |
 | So are the messages | FIELD(ptrun.Runs.IsExact.messages) | which of them were written if a message could not be |
 | So is the status | FIELD(ptrun.Runs.IsExact.status_is) | |
-| Fail or not, at most so many bytes of lines are in the store at any moment | FIELD(ptrun.Runs.IsRun.bounded) | what else takes memory: up to 8,192 bytes of a line that `uniq` keeps beside the store, buffers, spare room. And `peak` is a number that the run reports; one that reports 0 would meet this line. That it is the store's own is stated by `run_with_store`, in its clause `store` |
+| Fail or not, at most so many bytes of lines are in the store at any moment | FIELD(ptrun.Runs.IsRun.bounded) | what else takes memory: buffers, spare room, and up to 8,192 bytes of a line that `uniq` keeps beside the store |
+| The reported peak is that of the store | the clause `store` of `run_with_store`, which `run` calls | this of `run`, whose contract names no store: one that reports 0 would meet it |
 | Whatever fails, what was written is a beginning of the right output, however the inputs may go on | FIELD(ptrun.Runs.IsRun.is_prefix) | how much was written |
-| A run ends with all output, messages and status; or it stopped, with status 1, for a failure that happened | FIELD(ptrun.Runs.IsRun.ends) | which failure is named, if several of a kind happened; a write is named before memory, and memory before a read |
-| A run that stopped has the messages about the operands before, and one about the failure | `message ≡ operand_messages m w n ++ fault_message m.tool m.names fault` | |
+| A run ends with all output, messages and status; or it stopped, with status 1, for a failure that happened | FIELD(ptrun.Runs.IsRun.ends) | which failure is named, if several of a kind happened. A failed write is named before all others; after a failed read no memory is asked for |
+| A run that stopped has the messages about the operands before, and one about the failure | `message ≡ operand_messages m w n ++ fault_message m.tool m.names fault` | how many operands these are, if a write or memory failed |
 | If a read failed and no write did, that read is named | FIELD(ptrun.Runs.IsRun.names_failed_read) | |
-| and what is decided is written | FIELD(ptrun.Runs.IsRun.decided_is_written) | more than `decided`: after 80,000 bytes of `a` lines and a failed read, `uniq` may have written nothing, as they are one run; after lines `a`, `a`, `b` it has written just that of the first run |
+| and what is decided is written | FIELD(ptrun.Runs.IsRun.decided_is_written) | that more than `decided` is written: of 80,000 bytes of lines `a` `uniq` has decided nothing, as they are one run; of lines `a`, `a`, `b` the first run |
 | What is decided is not nothing: the whole output is what is decided by inputs that are known whole, and of `uniq` also the last run (the law `output_is_decided`) | `output job positions r = decided job positions r ++ at_end job positions r`, where `r` is `all_received w` | what `paste`, `comm` and `join` decide before the end of an input. Over standard input alone, the law says of `cut`, `tr` and `uniq` that all output for complete lines is decided, but for the last run of `uniq` |
 | Inputs may go on as any that are consistent with what was received | `AreInputsConsistent r w` | |
 | If the words are no command, one message names the first fault, the status is 2 and nothing is read or written | `spec_of_result tool (Err fault) = message_only (usage_text tool fault) 2` | |
@@ -40,15 +43,24 @@ contract of `run` itself:
 CONTRACT
 ```
 
+There `command` is what was read of the words: `CommandPost` says that it is the command or the fault that
+`command_of_args` gives, or a fault for want of memory, which `is_memory_fault` tells. `spec_of_parsed` is
+`spec_unless_memory` by that, `file_count` the number of the command's files, if there is one, and `HasToolName` says
+that the first word is the name of a tool. `words_view`, `sinks` and `outcome` are the words, the two sinks and the result
+as plain values. BEYOND.md defines all eight, and `IsUnchangedIfUnread`, under [Values of the
+code](BEYOND.md#values-of-the-code) and before. `x.now` and `x.entry` are the value of a parameter at the call, `x.old`
+and `x.new` what it refers to before and after it; `W.state` and `E.state` give the state of a sink.
+
 ## Words
 
 The **terminator** ends a line: newline, or byte 0 with `-z`. What was **received** of an input is the bytes that were
 read of it, and whether its end was reached. An input is **consistent** with that if it begins so, and equals it if the
-end was reached. Output is **decided** by what was received as far as `decided` says. Of an incomplete line `cut` has to
-write nothing, and `uniq` nothing of the last **run**, the adjacent lines with equal **keys**. `comm` and `join` merge
-two inputs key by key, and write an **entry** a line; the **group** of a key is the second input's lines with it. A
-**disorder** is the first line of an input whose key comes before that of the previous line; if both inputs have one,
-that with the lesser previous key is reported, or the first input's, and no entry of a key after that one is written.
+end was reached. Output is **decided** by what was received if it stays, however the inputs go on; `decided` says how much
+of it has to be written: of an incomplete line nothing by `cut`, and nothing of the last **run**, the adjacent lines with
+equal **keys**, by `uniq`. `comm` and `join` merge two inputs key by key, and write an **entry** a line; the **group** of a
+key is the second input's lines with it. A **disorder** is the first line of an input whose key comes before that of the
+previous line. If both inputs have one, that with the lesser previous key (with `-r`, the greater) is reported, that of
+the first input if these are equal, and no entry of a key after it is written.
 The **store** keeps lines. Inputs have **positions**: 0 is standard input, i + 1 is file i. Operands are read **in
 turn** (`cut`, `tr`, `paste -s`), or **together** (the others). A file that could not be opened is **unopened**.
 
@@ -60,9 +72,11 @@ and y. `{X : Type 0} →` stands for a parameter that is not written. A list of 
 before a list; an `Option A` is `None` or `Some x`; a `Result A B` is `Ok x` or `Err y`; a `Bool` is `true` or `false`.
 A byte is a number (`ℕ`), and so is a letter. `A × B × C` has the parts `p.0`, `p.1` and `p.2`. A record has fields,
 `r.field`; `record r { f = x; }` is r but for f. A record that is a statement, as `IsRun`, holds if there are values for
-those of its fields that are values, with which its other fields hold. `zero` is 0, and `suc n` is n + 1. A definition
+those of its fields that are values, with which its other fields hold. A field and a definition may have one name:
+after a dot, and before `=` or `:` in a record, it is the field's. `zero` is 0, and `suc n` is n + 1. A definition
 by several lines is that of the first line that fits. A line such as `Side = Side.First | Side.Second` is a type of the
-code, by its variants or its fields.
+code, by its variants or its fields. A name after `one.` or `jobs.` is that of another module. In tables, **chosen** says
+that POSIX leaves it open.
 
 From the toolchain's library:
 
@@ -121,7 +135,7 @@ LIBRARY = [
     ("drop", "the other items", ("drop 1 [7, 8]", "[8]")),
     ("take_while", "the items before the first that fails a test", ("take_while (λ n. n == 7) [7, 8, 7]", "[7]")),
     ("slice_get", "the item at an index, from 0", ("slice_get [7] 1", "None")),
-    ("slice_index_or slice_index", "the item at an index, or else a value", ("slice_index_or [7] 1 0", "0")),
+    ("slice_index_or slice_index", "the item at an index, or else a value, or 0", ("slice_index_or [7] 1 2", "2")),
     ("last_or", "the last item as an Option, or else a value", ("last_or None [7, 8]", "Some 8")),
     ("map", "a function of each item", ("map (λ n. n + 1) [1, 2]", "[2, 3]")),
     ("filter", "the items that pass a test", ("filter (λ n. n == 1) [1, 2]", "[1]")),
@@ -134,7 +148,7 @@ LIBRARY = [
      "items with their indices, counted from a number", ("enumerate_from 0 [7, 8]", "[(0, 7), (1, 8)]")),
     ("range_with_len", "numbers in order, from a number", ("range_with_len 3 2", "[3, 4]")),
     ("replicate", "an item so many times", ("replicate 2 7", "[7, 7]")),
-    ("remove", "a list without the item at an index", ("remove [7, 8, 9] 1", "[7, 9]")),
+    ("remove", "a list without the item at an index, if it has one", ("remove [7, 8, 9] 1", "[7, 9]")),
     ("set", "a list with another item at an index", ("set [7, 8] 1 0", "[7, 0]")),
     ("list_any list_all", "some item, or each, passes a test", ("list_any (λ n. n == 2) [1, 2]", "true")),
     ("count_by", "how many items pass a test", ("count_by (λ n. n == 1) [1, 1]", "2")),
@@ -142,16 +156,17 @@ LIBRARY = [
     ("fold", "a function of two, from a value through the list", ("fold max 0 [1, 3]", "3")),
     ("find", "the first item that passes a test", ("find (λ n. n == 2) [1]", "None")),
     ("slice_split",
-     "the pieces between the items that pass a test", ('slice_split (λ b. b == 44) "a,,b"', '["a", [], "b"]')),
+     "the pieces before, between and after the items that pass a test, of which any may be empty",
+     ('slice_split (λ b. b == 44) "a,,b,"', '["a", [], "b", []]')),
     ("join_with_byte", "pieces with a byte between them", ('join_with_byte 44 ["a", "b"]', '"a,b"')),
     ("onto_first",
      "an item put before the first list, or a list of its own", ("onto_first 7 [[8], [9]]", "[[7, 8], [9]]")),
     ("bytes_eq", "two texts are equal", ('bytes_eq "a" "a"', "true")),
     ("slice_cmp nat_cmp Ordering is_lt is_gt is_le match_ordering flip_args",
-     "the order of texts and of numbers: an Ordering, tests of it, a choice of three by it; and a function of two in "
-     "the other order", ("is_lt (nat_cmp 1 2)", "true")),
+     "the order of texts and of numbers: an Ordering, tests of it, a choice of three by it, if less, equal or greater; "
+     "and a function of two in the other order", ("match_ordering (nat_cmp 1 2) 7 8 9", "7")),
     ("codes byte String", "the bytes of a text in quotes, or its only one", ('"ab"', "[97, 98]")),
-    ("decimal digits_value", "a number in digits, and back", ("decimal 12", '"12"')),
+    ("decimal digits_value", "a number in digits; the number of digits in a base", ('digits_value 8 "12"', "10")),
     ("encode_utf8", "the bytes of a character", ("encode_utf8 97", "[97]")),
     ("is_ascii_digit is_ascii_lowercase", "kinds of bytes", ("is_ascii_digit 48", "true")),
     ("is_some is_none", "tests of an Option", ("is_some (Some 7)", "true")),

@@ -14,7 +14,6 @@ NAMES = {
     "ptflow.Uniqs": "key output_of runs",
     "ptflow.Cuts": "select_from",
     "ptflow.PasteText": "join_with_cycle",
-    "ptflow.TrOutput": "tr translation",
     "ptmerge.MergeSpec": "distinct_keys",
     "ptopts.Args": "ParsedOption tool_of_name with_value",
     "ptopts.Commands": "RunUniq command_of_args file_names input_operands order_from read_words",
@@ -27,6 +26,7 @@ NAMES = {
     "ptrun.Merges": "disorder_of merged",
     "ptrun.Messages": "disorder_message fault_message unopened_message usage_text",
     "ptrun.Paste": "columns paste_decided",
+    "ptrun.Tr": "squeeze tr",
     "ptrun.Uniq": "uniq_decided",
 }
 VARIANTS = {"ptlangs.declared.jobs.Show": "Counts", "ptmerge.declared.key_order.Side": "First",
@@ -93,7 +93,8 @@ STEPS = {
     ]),
     "tr": ("what `tr -s a x` does to bytes", "plan", "ByteMap",
         "record { deletes = λ b. false; image = λ b. if b == 97 then 120 else b; squeezes = λ b. b == 120 }", [
-        ('translation plan "aab"', '"xxb"'),
+        ('map plan.image "aab"', '"xxb"'),
+        ('squeeze plan.squeezes "xxb"', '"xb"'),
         ('tr plan "aab"', '"xb"'),
         ('tr plan "bb"', '"bb"'),
     ]),

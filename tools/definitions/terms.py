@@ -42,7 +42,7 @@ content {{X}} files name =
     option_map (λ (f : List ℕ × X). f.1) (find (λ (f : List ℕ × X). bytes_eq name f.0) files)
 
 abbrev outcome : CommandSpec → InputBytes → Outcome
-outcome m w = wrote (m.out w) (messages m w) (m.status w) (m.memory_bound w) (m.slot_bound w)
+outcome m w = wrote (m.out w) (messages m w) (m.status w) (m.memory_bound w) (m.beyond.slot_bound w)
 
 abbrev run_spec : CommandSpec → List ℕ → List (List ℕ × List ℕ) → Outcome
 run_spec m standard files = outcome m (Some standard ∷ map (content files) m.names)

@@ -19,6 +19,7 @@ import collections
 import contextlib
 import errno
 import fcntl
+import functools
 import getopt
 import hashlib
 import json
@@ -92,7 +93,7 @@ class Command(NamedTuple):
         return b"\0" if "z" in self.options else b"\n"
 
     def name_inputs(self, names: dict[int, str]) -> list[str]:
-        """The words, with these names in place of some operands."""
+        """The words, with these names for some operands."""
         if self.tool == "tr":
             return self.words
         return [*self.words[: self.front], *(names.get(at, name) for at, name in enumerate(self.operands))]
@@ -224,14 +225,11 @@ def count_run(command: Command, file: File, at: int) -> int:
     words = ["uniq", "-c", *[f"-{letter}{value}" for letter, value in command.options.items() if letter in "fsz"], "-"]
     work = Work()
     feed = Feed(file.path, (at, file.size), work)
+    feed.start()
     try:
         process: Any = work.start(words, stdin=feed.reader, stdout=subprocess.PIPE)
-    except PartsError:
-        feed.close()
-        raise
     finally:
         os.close(feed.reader)
-    feed.start()
     text = b""
     while b" " not in text and (more := process.stdout.read1()):
         text += more
@@ -244,7 +242,7 @@ def count_run(command: Command, file: File, at: int) -> int:
 
 
 def skip_lines(file: File, at: int, count: int) -> int:
-    """The offset after so many lines, of which the first begins at an offset."""
+    """The offset after `count` lines, of which the first begins at an offset."""
     for text in file.read_blocks(at):
         found = text.count(file.terminator)
         if found >= count:
@@ -331,13 +329,13 @@ def count_lines(file: File) -> list[Range]:
 
 
 def find_row(file: File, counted: list[Range], lines: int) -> int:
-    """The offset after so many lines, or the end if there are fewer."""
+    """The offset after `lines` lines, or the end if there are fewer."""
     at, before = next((at, count) for at, count in reversed(counted) if count <= lines)
     return skip_lines(file, at, lines - before)
 
 
 def cut_after_rows(files: list[File], uses: list[int], parts: int) -> Offsets:
-    """After the same row: so many lines of each file, or twice as many of standard input that is named twice."""
+    """After the same row, which is one line of each file, or two of standard input that is named twice."""
     counted = [count_lines(file) for file in files]
     rows = share(max(-(-lines[-1][1] // used) for lines, used in zip(counted, uses)), parts)
     return [
@@ -551,13 +549,8 @@ class Feed(threading.Thread):
         self.why = ""
         self.file = os.open(path, os.O_RDONLY)
         self.reader, self.writer = os.pipe()
-        with contextlib.suppress(OSError):  # (A user may have so many bytes in pipes.)
+        with contextlib.suppress(OSError):  # (The bytes that a user has in pipes are limited.)
             fcntl.fcntl(self.writer, SET_PIPE_SIZE, LARGE)
-
-    def close(self) -> None:
-        """Closes the end of the pipe that is written to, and the file."""
-        os.close(self.writer)
-        os.close(self.file)
 
     def run(self) -> None:
         try:
@@ -571,7 +564,8 @@ class Feed(threading.Thread):
         except OSError as why:
             self.why = why.strerror or "read failed"
         finally:
-            self.close()
+            os.close(self.writer)
+            os.close(self.file)
 
 
 def describe_part(plan: Plan, part: int) -> str:
@@ -611,18 +605,13 @@ def run_part(plan: Plan, part: int, out: int | IO[bytes], place: str = "output",
     for (at, name), feed in zip(command.inputs.items(), feeds):
         names[at] = "-" if name == "-" else f"/dev/fd/{feed.reader}"
         stdin = feed.reader if name == "-" else stdin
+        feed.start()
     readers = [feed.reader for feed in feeds]
     try:
         process = work.start(command.name_inputs(names), stdin=stdin, stdout=out, pass_fds=readers)
-    except BaseException:
-        for feed in feeds:
-            feed.close()
-        raise
     finally:
         for reader in readers:
             os.close(reader)
-    for feed in feeds:
-        feed.start()
     said = work.wait(process).replace(f"{command.tool}: output: ", f"{command.tool}: {place}: ")
     for feed in feeds:
         feed.join()
@@ -634,6 +623,17 @@ def run_part(plan: Plan, part: int, out: int | IO[bytes], place: str = "output",
     if process.returncode:
         raise ToolError(describe_failure(plan, part, said, names), process.returncode)
     check_unchanged(plan)
+
+
+def run_alone(run: Callable[[Work], None]) -> None:
+    """Runs a part in a thread, which no signal interrupts: so each process is known by the time that it shall end."""
+    work = Work()
+    with ThreadPoolExecutor(1) as pool:
+        try:
+            pool.submit(run, work).result()
+        except BaseException:
+            work.end()
+            raise
 
 
 # ---- all parts on this machine
@@ -652,7 +652,7 @@ class Progress(threading.Thread):
 
     def __enter__(self) -> Progress:
         if self.is_shown:
-            print(f"ptext-parts: {self.room}", file=sys.stderr)
+            self.show(f"ptext-parts: {self.room}\n")
             self.start()
         return self
 
@@ -660,19 +660,18 @@ class Progress(threading.Thread):
         self.is_over.set()
         if self.is_shown:
             self.join()
-            print(end="\r\x1b[K", file=sys.stderr, flush=True)
+            self.show("\r\x1b[K")
+
+    def show(self, text: str) -> None:
+        with contextlib.suppress(OSError):  # (The terminal may be gone by now.)
+            os.write(2, text.encode())
 
     def run(self) -> None:
         began = time.monotonic()
         while not self.is_over.wait(0.2):
             left = (time.monotonic() - began) * (self.size / max(self.work.given, 1) - 1)
-            print(
-                f"\r\x1b[K{self.done} of {len(self.plan.parts)} parts, {self.work.given >> 20} of {self.size >> 20} MB, "
-                f"{left:.0f} s left",
-                end="",
-                file=sys.stderr,
-                flush=True,
-            )
+            parts = f"{self.done} of {len(self.plan.parts)} parts"
+            self.show(f"\r\x1b[K{parts}, {self.work.given >> 20} of {self.size >> 20} MB, {left:.0f} s left")
 
 
 def run_into_unnamed(plan: Plan, part: int, folder: str, work: Work) -> IO[bytes]:
@@ -705,7 +704,7 @@ def write_out(file: IO[bytes]) -> None:
 
 
 def run_all(plan: Plan, jobs: int) -> None:
-    """Runs all parts, so many at a time, and writes their outputs in order to standard output. They wait for their turn
+    """Runs all parts, `jobs` at a time, and writes their outputs in order to standard output. They wait for their turn
     in files without a name, so that nothing is left of them, however this ends."""
     work, folder = Work(), os.environ.get("TMPDIR") or "/tmp"
     ahead = min(2 * jobs, len(plan.parts))
@@ -803,9 +802,11 @@ def call(words: list[str]) -> None:
         sys.stdout.write(make_plan(command, read_number(given[0]), dict(options).get("-i")).write())
         sys.stdout.flush()
     elif does == "run" and len(given) == 2:
-        run_part(read_plan(given[0]), read_number(given[1]), 1, name_output())
+        plan, part = read_plan(given[0]), read_number(given[1])
+        run_alone(lambda work: run_part(plan, part, 1, name_output(), work))
     elif does == "run" and len(given) == 3:
-        put_part(read_plan(given[0]), read_number(given[1]), given[2])
+        plan, part = read_plan(given[0]), read_number(given[1])
+        run_alone(lambda work: put_part(plan, part, given[2], functools.partial(run_part, work=work)))
     elif does == "whole" and len(given) == 3:
         put_together(read_plan(given[0]), given[1], given[2])
     elif does in VALUED or does.startswith("-"):

@@ -39,7 +39,7 @@ COMMANDS = [
 
 
 def write_inputs(megabytes):
-    """Files of so many bytes: lines of a log, runs of equal words, and two sorted files."""
+    """Files of this size: lines of a log, runs of equal words, and two sorted files."""
     from parts import make_log_line, write_lines
 
     size = megabytes << 20

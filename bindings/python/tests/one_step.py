@@ -13,11 +13,13 @@ import subprocess
 import sys
 import tempfile
 import time
+from unittest import mock
 
 sys.dont_write_bytecode = True
 TOP = os.path.realpath(os.path.join(os.path.dirname(os.path.realpath(__file__)), "../../.."))
-sys.path[:0] = [f"{TOP}/tools"]
+sys.path[:0] = [f"{TOP}/tools", f"{TOP}/bindings/python/ptext"]
 
+import parts
 from project import Failed, read_text, run_script
 
 PARTS = [sys.executable, f"{TOP}/bindings/python/ptext/parts.py"]
@@ -39,6 +41,18 @@ if "/dev/null" not in sys.argv:
         print(os.getpid(), file=file)
     time.sleep(float(os.environ["SECONDS_OF_A_PART"]))
 os.execv("PROGRAM", ["ptext", *sys.argv[1:]])
+"""
+# Runs a part, and gets SIGTERM as soon as it has started the program.
+STOPPED = """
+import os, signal, subprocess, sys
+import parts
+begin = subprocess.Popen
+def start(*words, **how):
+    process = begin(*words, **how)
+    os.kill(os.getpid(), signal.SIGTERM)
+    return process
+subprocess.Popen = start
+sys.exit(parts.main())
 """
 WRONG = []
 
@@ -65,11 +79,14 @@ def run_shell(command):
     return answer.returncode, answer.stdout, answer.stderr.replace(os.getcwd() + "/", "")
 
 
-def start_at_terminal(words, out):
-    """Starts ptext-parts at a terminal of its own, with its output in a file, and returns its number and the terminal."""
+def start_at_terminal(words, out, at_hangup=signal.SIG_DFL):
+    """Starts ptext-parts at a terminal of its own, with its output in a file, or there if none is named. Returns its
+    number and the terminal."""
     child, terminal = pty.fork()
     if not child:
-        os.dup2(os.open(out, os.O_WRONLY | os.O_CREAT | os.O_TRUNC, 0o666), 1)
+        signal.signal(signal.SIGHUP, at_hangup)
+        if out:
+            os.dup2(os.open(out, os.O_WRONLY | os.O_CREAT | os.O_TRUNC, 0o666), 1)
         os.execvp(PARTS[0], [*PARTS, *words])
     return child, terminal
 
@@ -88,15 +105,38 @@ def read_terminal(terminal, until=None):
 def check_tools(room):
     for command in COMMANDS:
         for jobs in ("", "-j 1 ", "-j 7 "):
-            parts = run_shell(f"{shlex.join(PARTS)} {jobs}{command}")
+            found = run_shell(f"{shlex.join(PARTS)} {jobs}{command}")
             whole = run_shell(f"{os.environ['PTEXT_PROGRAM']} {command}")
-            check(f"{jobs}{command}", parts == whole, parts[2])
+            check(f"{jobs}{command}", found == whole, found[2])
+    found = run_shell(f"{shlex.join(PARTS)} -i left -j 3 tr a-z A-Z")
+    check("-i", found[1] == read_text("left").upper(), found)
+    found = run_shell(f"echo first > more; {shlex.join(PARTS)} -j 3 cut -c 1- left >> more; cat more")
+    check("a result that is appended", found == (0, "first\n" + read_text("left"), ""), found[2])
     check("files after success", not list_left(room), list_left(room))
+
+
+def check_room():
+    """While the first part is not done, no more of the others are begun than the room is said to be for."""
+    begun, written, plan = [], [], parts.make_plan(["cut", "-c", "1", "left"], 9)
+
+    def run(_, part, *__):
+        begun.append(part)
+        time.sleep(0.5 if part == 1 else 0)
+
+    def write(_):
+        written.append(len(begun))
+
+    with mock.patch("parts.run_into_unnamed", run), mock.patch("parts.write_out", write):
+        parts.run_all(plan, 2)
+    check("parts that wait", written[0] == 4 and len(written) == 9, written)
 
 
 def check_failures(room):
     """The messages name the line in the whole file, the folder and the result; what was written is a prefix."""
     parts = shlex.join(PARTS)
+    for number, name in ((0, "disorder"), (1, "/dev/stdin")):
+        found = run_shell(f"{parts} -j 5 comm {('left disorder', '- right < disorder')[number]}")
+        check(f"the name of {name}", f"comm: {name}: line 3001 is out of order (part " in found[2], found[2])
     status, out, said = run_shell(f"{parts} -j 5 comm left disorder")
     whole = run_shell(f"{os.environ['PTEXT_PROGRAM']} comm left disorder")
     wanted = f"ptext-parts: {whole[2].rstrip()} (part 3 of 5)\n"
@@ -154,6 +194,15 @@ def check_terminal(room):
     check("progress", re.search(r"\r\x1b\[K0 of 2 parts, [0-9]+ of [0-9]+ MB, [0-9]+ s left", text), text)
     check("the end of the progress", text.endswith("\r\x1b[K"), text)
     check("the result", read_text("out") == run_shell("cut -c 1-3 left")[1])
+    child, terminal = start_at_terminal(["-j", "2", "cut", "-c", "1-3", "left"], "")
+    text = read_terminal(terminal)
+    os.waitpid(child, 0)
+    check("a result that goes to the terminal", text.replace("\r\n", "\n") == read_text("out"), text)
+    child, terminal = start_at_terminal(["-j", "2", "cut", "-c", "1-4", "left"], "out", signal.SIG_IGN)
+    read_terminal(terminal, b"0 of 2 parts")
+    os.close(terminal)
+    found = os.waitstatus_to_exitcode(os.waitpid(child, 0)[1]), read_text("out")
+    check("a terminal that is closed, as SIGHUP is ignored", found == run_shell("cut -c 1-4 left")[:2])
     os.environ["SECONDS_OF_A_PART"] = "60"
     child, terminal = start_at_terminal(["-j", "2", "cut", "-c", "1-3", "left"], "out")
     text = read_terminal(terminal, b"0 of 2 parts")
@@ -175,6 +224,11 @@ def check_ends(room):
                 process.send_signal(number)
             check(f"{words}: status", process.returncode == 128 + number, process.returncode)
             check(f"{words}: {number}", not list_left(room), list_left(room))
+    os.truncate("pids", 0)
+    at_start = f"PYTHONPATH={os.path.dirname(PARTS[1])} {shlex.join([PARTS[0], '-c', STOPPED])}"
+    status = run_shell(f"{at_start} run plan 1 > out 2>&1")[0]
+    time.sleep(1)
+    check("ended at its start", status == 143 and not list_left(room), [status, list_left(room)])
 
 
 def main():
@@ -197,6 +251,7 @@ def main():
             with open(name, "w", encoding="ascii") as file:
                 file.writelines(f"{line:05} {'x' * (line % 50)} {line // 100}\n" for line in lines)
         check_tools(room)
+        check_room()
         check_failures(room)
         check_full_disk(room)
         check_terminal(room)

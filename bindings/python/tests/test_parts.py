@@ -38,7 +38,7 @@ class Room(unittest.TestCase):
 
 class Disturbed(Room):
     def run_by(self, script):
-        """Runs a part by a script in the place of the program."""
+        """Runs a part by a script instead of the program."""
         path = f"{self.room}/program"
         with open(path, "w", encoding="ascii") as file:
             file.write(f"#!/bin/sh\n{script}\n")
@@ -96,7 +96,7 @@ class Disturbed(Room):
 
 
 class Client:
-    """In the place of a Dask cluster: it runs each call at once."""
+    """Like a client of a Dask cluster, but it runs each call at once."""
 
     def __init__(self):
         self.cancelled = []

@@ -1,8 +1,9 @@
 //! The standard descriptors that are closed when the program begins. `main` occupies them before it opens anything: a
 //! file gets the least descriptor that is free, and would be mistaken for a standard stream.
 
+use crate::system::open_file;
+use std::fs::{File, OpenOptions};
 use std::os::fd::{AsFd, IntoRawFd};
-use std::{fs, io};
 
 // The error of a call on a descriptor that is closed.
 const EBADF: i32 = 9;
@@ -11,7 +12,7 @@ const EBADF: i32 = 9;
 /// closed any more.
 pub fn occupy_closed_descriptors(rt: &HostRuntime) -> bool {
     for _ in 0..3 {
-        let Ok(file) = open_unusable(rt) else {
+        let Some(file) = open_unusable(rt) else {
             return !is_any_closed(rt);
         };
         // Each lesser descriptor is in use.
@@ -24,17 +25,18 @@ pub fn occupy_closed_descriptors(rt: &HostRuntime) -> bool {
 
 // Opens a directory, which can be neither read nor written. If none may be opened, it is the null device, and not for
 // what the standard stream with the least free descriptor does: an empty input, or output that is lost, is no failure.
-fn open_unusable(rt: &HostRuntime) -> io::Result<fs::File> {
+fn open_unusable(rt: &HostRuntime) -> Option<File> {
+    let mut reading = OpenOptions::new();
+    let reading = reading.read(true);
     let null_device = || {
         let is_input = is_closed(rt.stdin());
-        fs::OpenOptions::new()
-            .write(is_input)
-            .read(!is_input)
-            .open(rt, "/dev/null")
+        let mut options = OpenOptions::new();
+        let options = options.write(is_input).read(!is_input);
+        open_file(rt, options, "/dev/null")
     };
-    fs::open(rt, "/")
-        .or_else(|_| fs::open(rt, "."))
-        .or_else(|_| null_device())
+    open_file(rt, reading, "/")
+        .or_else(|| open_file(rt, reading, "."))
+        .or_else(|| null_device())
 }
 
 fn is_any_closed(rt: &HostRuntime) -> bool {

@@ -6,6 +6,7 @@ ghost use Rattle.ptext.specs.Perform.{no_calls};
 use ptfiles::{Calls, Files};
 use ptlines::{FromRead, FromWrite};
 use std::fs;
+use std::fs::OpenOptions;
 
 /// The files of the system. Which names were opened and created is recorded for contracts alone.
 #[derive(Drop)]
@@ -28,6 +29,13 @@ impl<'a, R: fs::Files> SystemFiles<'a, R> {
     }
 }
 
+/// Opens a file, or returns `None` if it cannot be opened. The standard library is asked to open one only here, and
+/// this is not inlined: so the texts of its errors, and what makes these, are no part of the program.
+#[inline(never)]
+pub fn open_file<R: fs::Files>(rt: &R, options: &OpenOptions, name: &str) -> Option<R::File> {
+    options.open(rt, name).ok()
+}
+
 impl<R: fs::Files> Files for SystemFiles<'_, R> {
     ghost use Rattle.std.specs.Prelude.{None, map, option_map};
     ghost use Rattle.ptlines.specs.Private.Sinks.{hide_accepted};
@@ -46,13 +54,18 @@ impl<R: fs::Files> Files for SystemFiles<'_, R> {
     } };
 
     fn open(&mut self, name: &str) -> Option<FromRead<R::File>> {
-        let file = fs::open(self.rt, name).ok().map(FromRead::new);
+        let file = open_file(self.rt, OpenOptions::new().read(true), name).map(FromRead::new);
         self.opens = self.opens.with(name, &file);
         file
     }
 
     fn create(&mut self, name: &str) -> Option<FromWrite<R::File>> {
-        let file = fs::create(self.rt, name).ok().map(FromWrite::new);
+        let file = open_file(
+            self.rt,
+            OpenOptions::new().write(true).create(true).truncate(true),
+            name,
+        )
+        .map(FromWrite::new);
         self.creates = self.creates.with(name, &file);
         file
     }

@@ -62,7 +62,7 @@ const EXAMPLES: &[Example] = &[
         b"one,b 3\ntwo,c 4\n",
         b"",
     ),
-    // A file cannot be opened if its byte is 0 or not there, whatever its stream has.
+    // A file cannot be opened if its byte is 0 or not there, even if its stream has text.
     (
         b"cut\0-c1\0f\0g\0",
         &[b"", b"", b"", F, G],

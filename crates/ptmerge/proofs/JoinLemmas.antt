@@ -11,17 +11,15 @@ use proofs.Common.{cond, Err, flat_map-append, Cmp, MergeFault, IsReadyToContinu
 use proofs.Common.{MergeRunPre, merge_state, both, lines_of, Memory, HaveEqualKeys, HasOnlyLeastKey, ◌⊎◌, AdvancePre}
 use proofs.Common.{push_nothing, inl, inr, ◌==◌, length_push, nil_from_length}
 use specs.Private.JoinGroup.{IsInItsSlot, IsCopiedToGroup, ReadGroupLineOkPost, ReadGroupLinePost, IsGroup}
-use specs.Private.JoinGroup.{IsGroupUnchanged, group_first_slot, group_lines}
+use specs.Private.JoinGroup.{group_lines}
 use specs.Private.WriteAndAdvance.{WriteThenAdvancePre}
 use proofs.MergeLemmas.{BetweenSteps, between_next, advance_pre, wrote_alone}
 use proofs.MergeLemmas.{alone_breaks, place_is, LoopInvariant, Extends, input_split_of, extends}
 use proofs.MergeLemmas.{extends_on, runs_on, valid_cursors_kept, wrote_and_sent, others_stay, open_merge, IsKeyOrder}
-use proofs.MergeLemmas.{line_other, next_at}
 use proofs.MergeLemmas.{IsOpenMerge}
 use proofs.MergeLemmas.{exit_is_merge_post, continues, same_bound, bounds_change, EachKey-at, Kept, reads_ahead}
 use proofs.MergeLemmas.{reads_less}
 use Rattle.std.proofs.lemmas.Bool.{false≢true}
-use Rattle.std.proofs.Common.{if◌then◌else◌}
 use specs.Join.{unpaired_entries1, join_entries}
 use specs.Private.BlockLines as lines
 use specs.Calls.Join.{join_with, join_key, join_tool}
@@ -419,31 +417,6 @@ module _ {job : Join} {cmp : Cmp} {key : Side → Key} {old now : MergeState} {o
         (arith, rw (is_alone h.none) at from, rw (is_alone h.none) at low) in rw is h.own) state.lines_in
         ∙ sym state.head.is;
   }
-
-  -- the slots of the group are those of the second input or are after them
-  slot_is_after_first : (slot : ℕ) → group_first_slot two end ≤ slot → 2 ≤ slot
-  slot_is_after_first slot from = by (end == 4) from
-    where
-      high : 2 ≤ two.previous_slot
-      high = ⊎_elim (λ s. omega (arith, s.1)) (λ s. omega (arith, s.1)) (state.q.sides Second).slots
-
-      by : (single : Bool) → (if single then two.previous_slot else 4) ≤ slot → 2 ≤ slot
-      by true least = omega (arith, least, high)
-      by false least = omega (arith, least)
-
-  first_slot_is_low : one.previous_slot < 2
-  first_slot_is_low = ⊎_elim (λ s. omega (arith, s.1)) (λ s. omega (arith, s.1)) (state.q.sides First).slots
-
-  pub stays_unchanged : {one2 two2 : Sorted} {reader : Reader} {after : Slots} {new : Output}
-      → AdvanceOkPost key cmp First one two one2 two2 (now.reader First) reader now.store after new
-      → IsGroupUnchanged job two now.store end → IsGroupUnchanged job two2 after end
-  stays_unchanged {one2} {two2} {reader} {after} h unchanged slot from low =
-      let two_is : two2 ≡ two = h.continues.others in
-      let within = rw two_is at from in
-      let stored = (next_at o state.q.sides First state.head.head h.came).stored in
-      let same : line after slot ≡ line now.store slot = rw stored (line_other now.store _ slot _
-      (omega (arith, slot_is_after_first slot within, first_slot_is_low))) in
-      rw same (unchanged slot within (rw two_is at low))
 
   abbrev z : Lines
   z = line now.store one.current_slot ∷ []

@@ -203,8 +203,13 @@ impl<K: KeyOrder> Merge<K> {
         ensures rest { result.rest.now ≡ reader.now.buffered }
         ensures begins { CanMerge (K.key_of self.now.order side) result }
     {
-        let (head, key) = (self.head(side, store), self.key(side, store));
-        BlockLine::new(head, key, reader.buffered())
+        BlockLine {
+            head: self.head(side, store),
+            key: self.key(side, store),
+            rest: reader.buffered(),
+            passed: 0,
+            same: false,
+        }
     }
 
     // Makes the lines reached in both blocks the current ones, and consumes the bytes up to them.

@@ -40,9 +40,8 @@ pub use specs.Private.Sequential.{decided_in_order}
 pub use specs.Runs.{HasCause, IsRun, outcome, sinks}
 pub use specs.Private.Tools.{spec_of_tool, tool_spec}
 pub use specs.SpecOfArgs.{command_spec, spec_of_parsed}
-pub use specs.declared.driver.Completion.{Completion}
-pub use specs.declared.driver.Completion.TheVariants.{AllWritten, Disordered, Unopened}
-pub use specs.declared.tool.Disorder.{Disorder}
+pub use specs.declared.tool.Completion.{Completion}
+pub use specs.declared.tool.Completion.TheVariants.{AllWritten, Disordered, Unopened}
 pub use Rattle.std.proofs.Common.{Bool, Err, List, None, Ok, Option, Result, Some, [], ap, append_assoc, arith, cond}
 pub use Rattle.std.proofs.Common.{drop, false, get_or, inl, inr, length, length-append, length-drop, length-set, map}
 pub use Rattle.std.proofs.Common.{max, refl, rules, set, subst, suc, sym, take, take-append-drop, true, zero, ℕ}

@@ -4,7 +4,7 @@
 use Rattle.ptrun.proofs
 use Rattle.ptrun.specs
 use proofs.Common.{All, AllPushed, AllWritten, AreInputsConsistent, AreReadToEnd, Bool, BoundedLag, CallOutcome}
-use proofs.Common.{Completion, Disorder, Disordered, Err, FlowFault, HasIndexBelow, HasReadFailed, HaveReceived}
+use proofs.Common.{Completion, Disordered, Err, FlowFault, HasIndexBelow, HasReadFailed, HaveReceived}
 use proofs.Common.{InputBytes, InputsPre, IsDone, IsRun, IsTooLong, List, Memory, None, Ok, Option, Output, PassPost}
 use proofs.Common.{Paste, Read, Reader, Received, ReceivedInputs, Result, RunInputsEnd, RunInputsPost, SinkState, Slots}
 use proofs.Common.{Some, ToolSpec, Write, [], ap, append-nil, arith, call_state, cases_eq, usual, cond, drop}
@@ -31,7 +31,7 @@ use Rattle.ptmerge.specs.Calls.MergeSpec.{merge_engine}
 use Rattle.ptmerge.specs.Calls.Sides.{both}
 use Rattle.ptmerge.specs.declared.faults.MergeFault.{MergeFault}
 use Rattle.ptmerge.specs.declared.key_order.Side.{Side}
-use specs.Private.Driver.{JointPost, JointPre, ReportUnopenedPost, fault_at, joint_completion, merge_found}
+use specs.Private.Driver.{JointPost, JointPre, ReportUnopenedPost, fault_at, merge_found}
 use specs.Private.Driver.{result_of_end, result_status, run_state}
 use specs.Private.Engines.{at_positions, line_at}
 use specs.Private.Engines.{end_at, in_run}
@@ -139,8 +139,8 @@ one_placed p = record {
   placed_at = λ f u. refl;
 }
 
-abbrev found_in_pass : ℕ → Result (Unit {0}) FlowFault → Result (Option Disorder) FlowFault
-found_in_pass p (Ok u) = Ok None
+abbrev found_in_pass : ℕ → Result (Unit {0}) FlowFault → Result Completion FlowFault
+found_in_pass p (Ok u) = Ok AllWritten
 found_in_pass p (Err fault) = Err (fault_at p fault)
 
 pass_ends : (p : ℕ) (r : Result (Unit {0}) FlowFault) → found_in_pass p r ≡ result_of_end (end_at (λ u. p) (pass_end r))
@@ -185,8 +185,8 @@ module _ {j : JointTool} {positions : List ℕ} {old : List Reader} {was : Outpu
         here : reader_at (set old p new) p ≡ new
         here = get_or-set_same old p new no_reader (only_operand_within d)
 
-abbrev found_in_rows : Result (Unit {0}) FlowFault → Result (Option Disorder) FlowFault
-found_in_rows (Ok u) = Ok None
+abbrev found_in_rows : Result (Unit {0}) FlowFault → Result Completion FlowFault
+found_in_rows (Ok u) = Ok AllWritten
 found_in_rows (Err fault) = Err fault
 
 module _ (job : Paste) {positions : List ℕ} {old : List Reader} {was : Output} {before : Slots}
@@ -305,7 +305,7 @@ module _ (engine : EngineSpec Side) {positions : List ℕ} {old : List Reader} {
       others q other = grind (usual, side_named)
 
       pub merge_post : {is : Output} {store : Slots} {result : Result (Unit {0}) MergeFault}
-          {found : Result (Option Disorder) FlowFault} (t : MergeTool) → merge_engine t ≡ engine
+          {found : Result Completion FlowFault} (t : MergeTool) → merge_engine t ≡ engine
           → MergePost t (merge_state a b was before) (merge_state x y is store) result
           → found ≡ merge_found (both (at_side First) (at_side Second)) result
           → JointPost (two_input_tool engine) positions old new was is before store found
@@ -386,10 +386,10 @@ at_received given n (r ∷ readers) (suc q) m is = at_received given (n + 1) rea
 -- how a run ends that found a line out of order, given by position and number, or none
 abbrev completion_of : Option (ℕ × ℕ) → Completion
 completion_of None = AllWritten
-completion_of (Some found) = Disordered (record { position = found.0; line = found.1 })
+completion_of (Some found) = Disordered found.0 found.1
 
 module _ (word : List ℕ) {t : JointTool} (names : List (List ℕ)) {positions : List ℕ} {old new : List Reader}
-    {was is : Output} (messages_old : SinkState) {before store : Slots} {result : Result (Option Disorder) FlowFault}
+    {was is : Output} (messages_old : SinkState) {before store : Slots} {result : Result Completion FlowFault}
     (start : JointPre t positions old was before)
     (post : JointPost t positions old new was is before store result) where
   k : CallPost (inputs_at positions) (in_run (t.engine positions)) (run_state old was before)
@@ -488,7 +488,7 @@ module _ (word : List ℕ) {t : JointTool} (names : List (List ℕ)) {positions 
   }
 
   ending : (end : CallEnd ℕ)
-      → EndedAs end → Ending (joint_completion (result_of_end end))
+      → EndedAs end → Ending (result_of_end end)
   ending Complete e = all_pushed None e tt
   ending (OutOfOrder p line) e = all_pushed (Some (p, line)) e.pushed_all
       (each_listed (λ q. q < length old) positions start.in_range p e.named)
@@ -509,7 +509,7 @@ module _ (word : List ℕ) {t : JointTool} (names : List (List ℕ)) {positions 
   ending MemoryFault e = grind (arith, none_failed)
 
   left_by : (end : CallEnd ℕ)
-      → EndedAs end → joint_completion (result_of_end end) ≡ Err Memory
+      → EndedAs end → result_of_end end ≡ Err Memory
       → IsCallUnfinished (inputs_at positions) (in_run (t.engine positions)) (run_state new is store) k.given k.pushed
   left_by Complete e memory = cc
   left_by (OutOfOrder p line) e memory = cc
@@ -518,8 +518,8 @@ module _ (word : List ℕ) {t : JointTool} (names : List (List ℕ)) {positions 
   left_by MemoryFault e memory = e.left (omega arith)
 
   pub joint_post : RunInputsPost (joint_spec word t names positions) old new was is messages_old messages_old before
-      store (joint_completion result)
-  joint_post = let e = subst (λ r. Ending (joint_completion r)) (sym post.result_is) (ending _ k.ends) in record {
+      store result
+  joint_post = let e = subst Ending (sym post.result_is) (ending _ k.ends) in record {
     received = received;
     came = came;
     pushed = k.pushed;
@@ -544,7 +544,7 @@ module _ (word : List ℕ) {t : JointTool} (names : List (List ℕ)) {positions 
         (λ (keeps, unwritten). inr (
           keeps,
           λ w agrees. rw (complete w agrees) (unwritten (bytes_of w) (agree w agrees)),
-        )) (left_by post.end k.ends (sym (ap joint_completion post.result_is) ∙ memory));
+        )) (left_by post.end k.ends (sym post.result_is ∙ memory));
     is_prefix = λ w agrees. rw (complete w agrees) (k.is_prefix (bytes_of w) (agree w agrees));
     names_failed_read = e.names_failed_read;
     decided_is_written = grind (arith, decided_is received k.given (λ q. refl) given_listed);

@@ -21,7 +21,7 @@ use specs.Files.{HasReceivedAt, IsConsistentAt, IsNewOrUnopened, at}
 use specs.Private.Operands.{input_of_operand, inputs_of_operands, opened_inputs, opened_values}
 use specs.Lines.{maximum}
 use Rattle.std.proofs.Math.ListN.{get_or-map as get_or-map_any}
-use specs.Lag.{BoundedLagAs, HasBoundedLag, IsWrittenUpToBlock, LagOfAny, LagOfLast}
+use specs.Lag.{HasBoundedLag, IsWrittenUpToBlock, LagBy, LagOfAny, LagOfLast}
 use Rattle.ptlines.specs.declared.sizes.TheConstants.{BLOCK}
 
 pub some_same : {X : Type 0} {a b : X} → Some a ≡ Some b → a ≡ b
@@ -321,9 +321,9 @@ nothing_decided positions decided r failed none position came named is = (
 
 pub earlier_map : (m : CommandSpec) (r : ReceivedInputs) (n : ℕ) (P Q : List ℕ → Type 0)
     → ((bytes : List ℕ) → P bytes → Q bytes) → HasBoundedLag m r n P → HasBoundedLag m r n Q
-earlier_map m r n P Q follows = by_kind m.sequential
+earlier_map m r n P Q follows = by_kind m.beyond.sequential
   where
-    by_kind : (kind : Option (Received → List ℕ)) → BoundedLagAs m r n P kind → BoundedLagAs m r n Q kind
+    by_kind : (kind : Option (Received → List ℕ)) → LagBy m r n P kind → LagBy m r n Q kind
     by_kind None k = λ position came named is. let (lagged, holds) = k position came named is in
         (lagged, grind arith)
     by_kind (Some t) k = λ done last is. let (lagged, holds) = k done last is in

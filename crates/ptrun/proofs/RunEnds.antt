@@ -115,7 +115,7 @@ exact_of_run m old new before o fresh k w bytes none fine not_denied = by_fault 
 -- There is nothing to read, the output is unchanged, and `text` is the only message.
 pub unread : (m : CommandSpec) {old : List Reader} {out messages_old messages_new : SinkState} {text : List ℕ}
     (status : ℕ)
-    → m.sequential ≡ None → m.reads_nothing (is_reader_unopened old) ≡ true
+    → m.beyond.sequential ≡ None → m.beyond.reads_nothing (is_reader_unopened old) ≡ true
     → ((r : ReceivedInputs) → ((q : ℕ) → is_reader_unopened old q ≡ is_unopened r q) → m.decided r ≡ [])
     → All IsNewOrUnopened old → out.failed ≡ false → HasSaid messages_old messages_new text
     → ((w : InputBytes) → AreInputsConsistent (map received_of old) w
@@ -241,7 +241,7 @@ module _ {m : CommandSpec} {old new : List Reader} {was is : Output}
     };
   }
 
-  pub stored : (m.reads_nothing (is_reader_unopened old) ≡ true → ⊥)
+  pub stored : (m.beyond.reads_nothing (is_reader_unopened old) ≡ true → ⊥)
       → RunWithStorePost m old new (sinks out messages_first) o before store
   unfolding run_of
   stored reads = record {
@@ -259,8 +259,8 @@ pub spec_of_fault : {A : Type 0} (command : Result (code.Command A) UseFault) (w
 spec_of_fault command words fault is m = grind arith
 
 record AcceptsOperands (m : CommandSpec) : Type 0 where
-  accepts_operands : m.accepts ≡ true
-  few : m.sequential ≡ None → length m.positions ≤ 512
+  accepts_operands : m.beyond.accepts ≡ true
+  few : m.beyond.sequential ≡ None → length m.positions ≤ 512
 
 accepts_operands : (job : Job) (word : List ℕ) (names : List (List ℕ)) (order : List Input) → AreInputsOf job order
     → AcceptsOperands (spec_of_tool word (tool_of_job job) names (positions order))

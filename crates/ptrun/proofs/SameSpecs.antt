@@ -10,16 +10,17 @@ use proofs.OperandInputs.{any_same}
 use proofs.SameLines.{in_turn_same, longest_whole}
 use proofs.SameMerges.{comm_same, join_same, reported_same, short}
 use proofs.SameTools.{cut_same, first_key_same, group_same, map_twice, paste_same, second_key_same, serial_same}
-use proofs.SameTools.{uniq_same}
+use proofs.SameTools.{tr_same, uniq_same}
 use mathlib.Core.Path.{fun_ext}
 use Rattle.std.proofs.Math.ListN.{get_or-map as get_or-map_any}
-use Rattle.std.specs.List.{last_or}
-use Rattle.std.specs.Prelude.{◌&&◌, ◌*◌, ◌||◌, filter, if◌then◌else◌, is_none, is_some, length, option_to_list, sum_by}
-use Rattle.std.specs.Prelude.{unwrap_or}
+use Rattle.std.specs.List.{enumerate_from, last_or, range_with_len}
+use Rattle.std.specs.Prelude.{◌%◌, ◌&&◌, ◌*◌, ◌==◌, ◌||◌, count_by, filter, fold, if◌then◌else◌, is_none, is_some, length}
+use Rattle.std.specs.Prelude.{max, option_to_list, sum_by, take, unwrap_or}
 use Rattle.ptflow.specs.Cuts as old_cut
 use Rattle.ptflow.specs.PasteText as old_paste
-use Rattle.ptflow.specs.PasteText.{columns, is_row_known, paste, paste_serial, row_at, rows_text}
-use Rattle.ptflow.specs.TrOutput.{tr, tr_decided}
+use Rattle.ptflow.specs.Cuts.{select_from}
+use Rattle.ptflow.specs.PasteText.{is_row_known, join_with_cycle, paste, paste_serial, row_at, rows_text}
+use Rattle.ptflow.specs.TrOutput as old_tr
 use Rattle.ptflow.specs.Uniqs as old_uniq
 use Rattle.ptflow.specs.Uniqs.{Run, init, output_of, runs, uniq}
 use Rattle.ptlangs.specs.Jobs.{Comm, Join, Paste, Uniq}
@@ -30,7 +31,8 @@ use Rattle.ptmerge.specs.Comm as old_comm
 use Rattle.ptmerge.specs.Comm.{comm_entries, itself}
 use Rattle.ptmerge.specs.Join as old_join
 use Rattle.ptmerge.specs.Join.{join_entries, join_key1, join_key2, max_over_keys}
-use Rattle.ptmerge.specs.MergeSpec.{Entries, Lines, MergeDisorder, disordered_line, entries_of_keys, is_up_to, merged}
+use Rattle.ptmerge.specs.MergeSpec as old_merge
+use Rattle.ptmerge.specs.MergeSpec.{Entries, Lines, MergeDisorder, disordered_line, entries_of_keys, is_up_to}
 use Rattle.ptmerge.specs.MergeSpec.{merged_so_far, reported_disorder, sorted_prefix}
 use Rattle.ptmerge.specs.Orders.{Key, line_cmp}
 use Rattle.ptmerge.specs.declared.key_order.Side.{Side}
@@ -38,13 +40,16 @@ use Rattle.ptmerge.specs.declared.key_order.Side.TheVariants.{First, Second}
 use Rattle.ptopts.specs.Commands.{Command, Job, RunComm, RunCut, RunJoin, RunPaste, RunTr, RunUniq}
 use specs.Comm.{comm}
 use specs.Cut.{cut_decided}
-use specs.Decided.{all_received, has_unopened, input_of, inputs_in_turn, operand, received_in, whole}
+use specs.Bounds.{two_of_each}
+use specs.Decided.{all_received, has_unopened, inputs_in_turn, inputs_together, operand, received_in, whole}
 use specs.Files.{InputBytes, ReceivedInputs, at}
 use specs.Join.{join, join_key, max_group}
 use specs.Lines.{known_lines, longest, maximum}
-use specs.Paste.{paste_serial_decided}
+use specs.Paste.{columns, paste_decided, paste_serial_decided}
+use specs.Slots.{spec_beyond}
+use specs.Tr.{tr}
 use specs.Uniq.{uniq_decided}
-use specs.Merges.{Disorder, disorder_of}
+use specs.Merges.{Disorder, Merge, disorder_of, merged}
 use specs.Private.Engines.{line_at}
 use specs.Private.Messages.{disorder_status, disorder_text}
 use specs.Private.Operands.{bytes_of, inputs_of_operands, opened_inputs, opened_values}
@@ -66,7 +71,7 @@ filter_all test (x ∷ xs) all = rw (all x) (ap (λ l. x ∷ l) (filter_all test
 paste_whole : (job : Paste) (cells : List ℕ) (texts : ℕ → List ℕ)
     → old_paste.paste_decided job cells (λ p. whole (texts p)) ≡ paste job cells texts
 paste_whole job cells texts =
-    let cols = columns cells (λ input. lines job.terminator (texts input)) in
+    let cols = old_paste.columns cells (λ input. lines job.terminator (texts input)) in
     ap (λ rs. rows_text job (map (row_at cols) rs)) (filter_all _ _ (all_known cols cells))
 
 and_true : (b : Bool) → (b && true && true) ≡ b
@@ -74,7 +79,7 @@ and_true true = refl
 and_true false = refl
 
 merged_whole : (cmp : Cmp) (key1 key2 : Key) (entries : Entries) (ls1 ls2 : Lines)
-    → merged_so_far cmp key1 key2 entries true ls1 true ls2 ≡ merged cmp key1 key2 entries ls1 ls2
+    → merged_so_far cmp key1 key2 entries true ls1 true ls2 ≡ old_merge.merged cmp key1 key2 entries ls1 ls2
 merged_whole cmp key1 key2 entries ls1 ls2 =
     ap (λ wanted. entries_of_keys cmp key1 key2 entries wanted (sorted_prefix cmp key1 ls1) (sorted_prefix cmp key2 ls2))
     (fun_ext (λ k. and_true (is_up_to cmp (reported_disorder cmp key1 key2 ls1 ls2) k)))
@@ -136,8 +141,12 @@ opened_all : (w : InputBytes) (ps : List ℕ)
     → opened_inputs empty_input (all_received w) ps ≡ map whole (opened_inputs [] w ps)
 opened_all w ps = ap opened_values (inputs_all w [] ps) ∙ values_all (inputs_of_operands [] w [] ps)
 
+-- the input of the first or of the second operand
+abbrev side_of : ReceivedInputs → List ℕ → Side → Received
+side_of r ps side = received_in r (operand ps side)
+
 input_whole : (w : InputBytes) (ps : List ℕ) (side : Side)
-    → input_of (all_received w) ps side ≡ whole (bytes_of w (operand ps side))
+    → side_of (all_received w) ps side ≡ whole (bytes_of w (operand ps side))
 input_whole w ps side = ap (λ (f : ℕ → Received). f (operand ps side)) (received_all w)
 
 in_turn_whole : (w : InputBytes) (ps : List ℕ) → inputs_in_turn (all_received w) ps ≡ map whole (opened_inputs [] w ps)
@@ -169,9 +178,9 @@ bound_in_turn one size same w ps = ap (λ inputs. maximum (map one inputs)) (in_
     ∙ (ap maximum (map_twice one whole (opened_inputs [] w ps))
     ∙ ap (λ (size : List ℕ → ℕ). maximum (map size (opened_inputs [] w ps))) (fun_ext same))
 
-if_nil : (b : Bool) → ◌≡◌ {A = List ℕ} (if b then [] else []) []
-if_nil true = refl
-if_nil false = refl
+no_lines : {X : Type 0} (xs : List X) → 0 ≡ maximum (map (λ x. 0) xs)
+no_lines [] = refl
+no_lines (x ∷ xs) = ap (max 0) (no_lines xs)
 
 unopened_status : (b : Bool) → ◌≡◌ {A = ℕ} (if b || false then 1 else 0) (if b then 1 else 0)
 unopened_status true = refl
@@ -179,29 +188,57 @@ unopened_status false = refl
 
 -- ---- tools that read their operands together
 
+if_nil : (b : Bool) → ◌≡◌ {A = List ℕ} [] (if b then [] else [])
+if_nil true = refl
+if_nil false = refl
+
+-- what a function gives for the inputs of a tool that reads them together, if it gives `none` for no inputs
+of_together : {X : Type 0} (of : ReceivedInputs → X) (none : X) (b : Bool) (r : ReceivedInputs) → of [] ≡ none
+    → of (if b then [] else r) ≡ (if b then none else of r)
+of_together of none true r nothing = nothing
+of_together of none false r nothing = refl
+
+of_opened : {X : Type 0} (of : ReceivedInputs → X) (none : X) (b : Bool) (r : ReceivedInputs)
+    → (if b then none else of (if b then [] else r)) ≡ (if b then none else of r)
+of_opened of none true r = refl
+of_opened of none false r = refl
+
 if_same : {X : Type 0} (a b : Bool) (none x y : X) → a ≡ b → x ≡ y → (if a then none else x) ≡ (if b then none else y)
 if_same a b none x y test same = λ i. if test i then none else same i
 
-unless : (b : Bool) (xs last ys : List ℕ) → xs ++ last ≡ ys
-    → (if b then [] else xs) ++ (if b then [] else last) ≡ (if b then [] else ys)
-unless true xs last ys same = refl
-unless false xs last ys same = same
+of_all : {X : Type 0} (of : ReceivedInputs → X) (none x : X) (w : InputBytes) (ps : List ℕ) → of [] ≡ none
+    → of (all_received w) ≡ x → of (inputs_together (all_received w) ps) ≡ (if has_unopened ps w then none else x)
+of_all of none x w ps nothing same =
+    of_together of none (has_unopened ps (all_received w)) (all_received w) nothing
+    ∙ if_same _ _ none (of (all_received w)) x (unopened_all w ps) same
 
-out_together : (w : InputBytes) (ps : List ℕ) (all last text : List ℕ) → all ++ last ≡ text
-    → (if has_unopened ps (all_received w) then [] else all) ++ (if has_unopened ps (all_received w) then [] else last)
-    ≡ (if has_unopened ps w then [] else text)
-out_together w ps all last text same =
-    unless (has_unopened ps (all_received w)) all last text same
-    ∙ ap (λ b. if b then [] else text) (unopened_all w ps)
+slots_of_opened : (of : ReceivedInputs → ℕ) (x : ℕ) (w : InputBytes) (ps : List ℕ) → of (all_received w) ≡ x
+    → (if has_unopened ps (all_received w) then 0 else of (inputs_together (all_received w) ps))
+    ≡ (if has_unopened ps w then 0 else x)
+slots_of_opened of x w ps same =
+    of_opened of 0 (has_unopened ps (all_received w)) (all_received w)
+    ∙ if_same _ _ 0 (of (all_received w)) x (unopened_all w ps) same
 
--- the output of a tool that has nothing to add at the end
-out_at_once : (w : InputBytes) (ps : List ℕ) (all text : List ℕ) → all ≡ text
-    → (if has_unopened ps (all_received w) then [] else all) ++ [] ≡ (if has_unopened ps w then [] else text)
-out_at_once w ps all text same = append-nil _ ∙ if_same _ _ [] all text (unopened_all w ps) same
+no_rows : (test : ℕ × ℕ → ℕ → Bool) (xs : List (ℕ × ℕ))
+    → fold max 0 (map length (map (λ c. select_from {X = List ℕ} (test c) 0 []) xs)) ≡ 0
+no_rows test [] = refl
+no_rows test (c ∷ xs) = no_rows test xs
 
-number_together : (w : InputBytes) (ps : List ℕ) (all size : ℕ) → all ≡ size
-    → (if has_unopened ps (all_received w) then 0 else all) ≡ (if has_unopened ps w then 0 else size)
-number_together w ps all size same = if_same _ _ 0 all size (unopened_all w ps) same
+sum_nothing : (t : ℕ) (ps : List ℕ) → sum_by (λ p. longest t (received_in [] p)) ps ≡ 0
+sum_nothing t [] = refl
+sum_nothing t (p ∷ ps) = sum_nothing t ps
+
+if_zero : (b : Bool) → ◌≡◌ {A = ℕ} (0 + (if b then 0 else 0)) 0
+if_zero true = refl
+if_zero false = refl
+
+paste_nothing : (job : Paste) (ps : List ℕ) → paste_decided job ps (received_in []) ≡ []
+paste_nothing job ps =
+    let uses : List ℕ → ℕ → ℕ = λ ps p. count_by (λ q. q == p) ps in
+    let cols = columns ps (λ p. known_lines job.terminator (received_in [] p)) in
+    ap (λ n. unlines job.terminator (map (λ r. join_with_cycle job.delimiters 0 (row_at cols r))
+    (filter (is_row_known cols (map (λ p. (received_in [] p).eof) ps)) (range_with_len 0 n))))
+    (no_rows (λ c i. i % uses ps c.1 == uses (take c.0 ps) c.1) (enumerate_from 0 ps))
 
 -- ---- lines out of order
 
@@ -215,23 +252,33 @@ place_same ps None = refl
 place_same ps (Some d) = refl
 
 status_same : (ps : List ℕ) (unopened : Bool) (found : Option Disorder)
-    → (if unopened || is_some found then 1 else 0)
+    → (if unopened || is_some (if unopened then None else found) then 1 else 0)
     ≡ (if unopened then 1 else disorder_status (option_map (place ps) found))
 status_same ps true found = refl
 status_same ps false None = refl
 status_same ps false (Some d) = refl
 
-text_same : (word : List ℕ) (names : List (List ℕ)) (ps : List ℕ) (found : Option Disorder)
-    → text_of_disorder word names ps found ≡ disorder_text word names (option_map (place ps) found)
+text_same : (word : List ℕ) (names : List (List ℕ)) (ps : List ℕ) (unopened : Bool) (found : Option Disorder)
+    → text_of_disorder word names ps (if unopened then None else found)
+    ≡ (if unopened then [] else disorder_text word names (option_map (place ps) found))
 unfolding place
-text_same word names ps None = refl
-text_same word names ps (Some d) = refl
+text_same word names ps true found = refl
+text_same word names ps false None = refl
+text_same word names ps false (Some d) = refl
 
-both_whole : (w : InputBytes) (ps : List ℕ) → input_of (all_received w) ps ≡ (λ side. whole (bytes_of w (operand ps side)))
+-- the disorder that is found in inputs that are read together
+abbrev found : Merge → ReceivedInputs → List ℕ → Option Disorder
+found m r ps = disorder_of m (side_of r ps)
+
+found_all : (m : Merge) (w : InputBytes) (ps : List ℕ)
+    → found m (inputs_together (all_received w) ps) ps ≡ (if has_unopened ps w then None else found m (all_received w) ps)
+found_all m w ps = of_all (λ r. found m r ps) None (found m (all_received w) ps) w ps refl refl
+
+both_whole : (w : InputBytes) (ps : List ℕ) → side_of (all_received w) ps ≡ (λ side. whole (bytes_of w (operand ps side)))
 both_whole w ps = fun_ext (input_whole w ps)
 
 comm_place : (job : Comm) (w : InputBytes) (ps : List ℕ)
-    → option_map (place ps) (disorder_of (comm job) (input_of (all_received w) ps))
+    → option_map (place ps) (found (comm job) (all_received w) ps)
     ≡ option_map (line_at (operand ps)) (option_map disordered_line
     (old_comm.comm_disorder job (bytes_of w (operand ps First)) (bytes_of w (operand ps Second))))
 comm_place job w ps =
@@ -240,7 +287,7 @@ comm_place job w ps =
     ∙ place_same ps _)
 
 join_place : (job : Join) (w : InputBytes) (ps : List ℕ)
-    → option_map (place ps) (disorder_of (join job) (input_of (all_received w) ps))
+    → option_map (place ps) (found (join job) (all_received w) ps)
     ≡ option_map (line_at (operand ps)) (option_map disordered_line
     (old_join.join_disorder job (bytes_of w (operand ps First)) (bytes_of w (operand ps Second))))
 join_place job w ps =
@@ -253,7 +300,7 @@ join_place job w ps =
 -- ---- bounds
 
 longest_input : (t : ℕ) (w : InputBytes) (ps : List ℕ) (side : Side)
-    → longest t (input_of (all_received w) ps side) ≡ max_line_length t (bytes_of w (operand ps side))
+    → longest t (side_of (all_received w) ps side) ≡ max_line_length t (bytes_of w (operand ps side))
 longest_input t w ps side = ap (longest t) (input_whole w ps side) ∙ longest_whole t (bytes_of w (operand ps side))
 
 longest_columns : (t : ℕ) (w : InputBytes) (ps : List ℕ)
@@ -262,7 +309,7 @@ longest_columns t w ps = ap (λ (size : ℕ → ℕ). sum_by size ps)
     (fun_ext (λ p. ap (λ (f : ℕ → Received). longest t (f p)) (received_all w) ∙ longest_whole t (bytes_of w p)))
 
 group_whole : (measure : Lines → ℕ) (job : Join) (w : InputBytes) (ps : List ℕ)
-    → max_group measure (join_key job Second) (known_lines job.terminator (input_of (all_received w) ps Second))
+    → max_group measure (join_key job Second) (known_lines job.terminator (side_of (all_received w) ps Second))
     ≡ max_over_keys measure (join_key2 job) (lines job.terminator (bytes_of w (operand ps Second)))
     (lines job.terminator (bytes_of w (operand ps Second)))
 group_whole measure job w ps =
@@ -281,19 +328,27 @@ spec_of_paste word job true c = let ps = positions c.order in
       status = λ w. unopened_status (has_unopened ps w) i;
       memory_bound = λ w. bound_in_turn (longest job.terminator) (max_line_length job.terminator)
           (longest_whole job.terminator) w ps i;
-      slot_bound = λ w. bound_in_turn (λ given. 0) (λ bytes. 0) (λ bytes. refl) w ps i;
       decided = λ r. decided_in_turn (paste_serial_decided job) (old_paste.paste_serial_decided job) (serial_same job) r ps i;
-      sequential = Some (λ given. serial_same job given i);
-      final_message = λ w. if_nil (has_unopened ps w) i;
+      beyond = record (spec_beyond (RunPaste (record job { serial = true })) ps) {
+        slot_bound = λ w. no_lines (opened_inputs [] w ps) i;
+        sequential = Some (λ given. serial_same job given i);
+      };
     }
 spec_of_paste word job false c = let ps = positions c.order in
     λ i. record (command_spec word (record c { job = RunPaste (record job { serial = false }) })) {
-      out = λ w. out_at_once w ps _ _ (paste_same job ps (received_in (all_received w))
-          ∙ (ap (old_paste.paste_decided job ps) (received_all w) ∙ paste_whole job ps (bytes_of w))) i;
-      status = λ w. status_same ps (has_unopened ps w) None i;
-      memory_bound = λ w. number_together w ps _ _ (longest_columns job.terminator w ps) i;
-      slot_bound = λ w. number_together w ps (length ps) (length ps) refl i;
-      decided = λ r. if has_unopened ps r then [] else paste_same job ps (received_in r) i;
+      out = λ w. of_all (λ r. paste_decided job ps (received_in r) ++ []) [] _ w ps
+          (append-nil _ ∙ paste_nothing job ps)
+          (append-nil _ ∙ (paste_same job ps (received_in (all_received w))
+          ∙ (ap (old_paste.paste_decided job ps) (received_all w) ∙ paste_whole job ps (bytes_of w)))) i;
+      status = λ w. unopened_status (has_unopened ps w) i;
+      memory_bound = λ w. of_all (λ r. sum_by (λ p. longest job.terminator (received_in r p)) ps) 0 _ w ps
+          (sum_nothing job.terminator ps) (longest_columns job.terminator w ps) i;
+      decided = λ r. (of_together (λ r. paste_decided job ps (received_in r)) [] (has_unopened ps r) r (paste_nothing job ps)
+          ∙ ap (λ all. if has_unopened ps r then [] else all) (paste_same job ps (received_in r))) i;
+      final_message = λ w. if_nil (has_unopened ps w) i;
+      beyond = record (spec_beyond (RunPaste (record job { serial = false })) ps) {
+        slot_bound = λ w. if_same _ _ 0 (length ps) (length ps) (unopened_all w ps) refl i;
+      };
     }
 
 same_job : (word : List ℕ) (job : Job) (c : Command) → command_spec word (record c { job = job })
@@ -304,75 +359,91 @@ same_job word (RunCut job) c = let ps = positions c.order in
       status = λ w. unopened_status (has_unopened ps w) i;
       memory_bound = λ w. bound_in_turn (longest job.terminator) (max_line_length job.terminator)
           (longest_whole job.terminator) w ps i;
-      slot_bound = λ w. bound_in_turn (λ given. if job.fields then 1 else 0) (λ bytes. if job.fields then 1 else 0)
-          (λ bytes. refl) w ps i;
       decided = λ r. decided_in_turn (cut_decided job) (old_cut.cut_decided job) (cut_same job) r ps i;
-      sequential = Some (λ given. cut_same job given i);
-      final_message = λ w. if_nil (has_unopened ps w) i;
+      beyond = record (spec_beyond (RunCut job) ps) {
+        slot_bound = λ w. bound_in_turn (λ given. if job.fields then 1 else 0) (λ bytes. if job.fields then 1 else 0)
+            (λ bytes. refl) w ps i;
+        sequential = Some (λ given. cut_same job given i);
+      };
     }
 same_job word (RunTr m) c = let ps = positions c.order in
     λ i. record (command_spec word (record c { job = RunTr m })) {
-      out = λ w. out_in_turn (tr_decided m) (tr m) (λ bytes. refl) w ps i;
+      out = λ w. out_in_turn (λ given. tr m given.bytes) (old_tr.tr m) (tr_same m) w ps i;
       status = λ w. unopened_status (has_unopened ps w) i;
-      memory_bound = λ w. bound_in_turn (λ given. 0) (λ bytes. 0) (λ bytes. refl) w ps i;
-      slot_bound = λ w. bound_in_turn (λ given. 0) (λ bytes. 0) (λ bytes. refl) w ps i;
-      decided = λ r. decided_in_turn (tr_decided m) (tr_decided m) (λ given. refl) r ps i;
-      final_message = λ w. if_nil (has_unopened ps w) i;
+      memory_bound = λ w. no_lines (opened_inputs [] w ps) i;
+      decided = λ r. decided_in_turn (λ given. tr m given.bytes) (old_tr.tr_decided m) (λ given. tr_same m given.bytes) r ps i;
+      beyond = record (spec_beyond (RunTr m) ps) {
+        slot_bound = λ w. no_lines (opened_inputs [] w ps) i;
+        sequential = Some (λ given. tr_same m given.bytes i);
+      };
     }
 same_job word (RunPaste job) c = spec_of_paste word job job.serial c
 same_job word (RunUniq job) c = let ps = positions c.order in
+    let last : Received → List ℕ =
+    λ g. output_of job (option_to_list (last_or None (runs job (known_lines job.terminator g)))) in
     λ i. record (command_spec word (record c { job = RunUniq job })) {
-      out = λ w. out_together w ps (uniq_decided job (input_of (all_received w) ps First))
-          (output_of job (option_to_list (last_or None (runs job
-          (known_lines job.terminator (input_of (all_received w) ps First))))))
-          (uniq job (bytes_of w (operand ps First)))
-          (ap (λ g. uniq_decided job g ++ output_of job (option_to_list (last_or None (runs job (known_lines job.terminator g)))))
-          (input_whole w ps First)
-          ∙ (ap (λ l. l ++ output_of job (option_to_list (last_or None (runs job (lines job.terminator
-          (bytes_of w (operand ps First)))))))
+      out = λ w. of_all (λ r. uniq_decided job (side_of r ps First) ++ last (side_of r ps First)) [] _ w ps refl
+          (ap (λ g. uniq_decided job g ++ last g) (input_whole w ps First)
+          ∙ (ap (λ l. l ++ last (whole (bytes_of w (operand ps First))))
           (uniq_same job (whole (bytes_of w (operand ps First))))
           ∙ uniq_whole job (bytes_of w (operand ps First)))) i;
-      status = λ w. status_same ps (has_unopened ps w) None i;
-      memory_bound = λ w. number_together w ps _ _ (ap (λ n. 2 * n) (longest_input job.terminator w ps First)) i;
-      slot_bound = λ w. number_together w ps 2 2 refl i;
-      decided = λ r. if has_unopened ps r then [] else uniq_same job (input_of r ps First) i;
+      status = λ w. unopened_status (has_unopened ps w) i;
+      memory_bound = λ w. of_all (λ r. 2 * longest job.terminator (side_of r ps First)) 0 _ w ps refl
+          (ap (λ n. 2 * n) (longest_input job.terminator w ps First)) i;
+      decided = λ r. (of_together (λ r. uniq_decided job (side_of r ps First)) [] (has_unopened ps r) r refl
+          ∙ ap (λ all. if has_unopened ps r then [] else all) (uniq_same job (side_of r ps First))) i;
+      final_message = λ w. if_nil (has_unopened ps w) i;
+      beyond = record (spec_beyond (RunUniq job) ps) {
+        slot_bound = λ w. if_same _ _ 0 2 2 (unopened_all w ps) refl i;
+      };
     }
 same_job word (RunComm job) c = let ps = positions c.order in
     λ i. record (command_spec word (record c { job = RunComm job })) {
-      out = λ w. out_at_once w ps _ _
-          (comm_same job (input_of (all_received w) ps)
+      out = λ w. of_all (λ r. merged (comm job) (side_of r ps) ++ []) [] _ w ps refl
+          (append-nil _ ∙ (comm_same job (side_of (all_received w) ps)
           ∙ (ap (λ (given : Side → Received). old_comm.comm_decided job (given First) (given Second)) (both_whole w ps)
           ∙ ap (unlines job.terminator) (merged_whole (line_cmp job.descending) itself itself (comm_entries job)
-          (lines job.terminator (bytes_of w (operand ps First))) (lines job.terminator (bytes_of w (operand ps Second)))))) i;
-      status = λ w. (status_same ps (has_unopened ps w) (disorder_of (comm job) (input_of (all_received w) ps))
-          ∙ ap (λ found. if has_unopened ps w then 1 else disorder_status found) (comm_place job w ps)) i;
-      memory_bound = λ w. number_together w ps _ _
+          (lines job.terminator (bytes_of w (operand ps First))) (lines job.terminator (bytes_of w (operand ps Second))))))) i;
+      status = λ w. (ap (λ found. if has_unopened ps w || is_some found then 1 else 0) (found_all (comm job) w ps)
+          ∙ (status_same ps (has_unopened ps w) (found (comm job) (all_received w) ps)
+          ∙ ap (λ found. if has_unopened ps w then 1 else disorder_status found) (comm_place job w ps))) i;
+      memory_bound = λ w. of_all (λ r. two_of_each job.terminator (side_of r ps)) 0 _ w ps refl
           (λ i. 2 * longest_input job.terminator w ps First i + 2 * longest_input job.terminator w ps Second i) i;
-      slot_bound = λ w. number_together w ps 4 4 refl i;
-      decided = λ r. if has_unopened ps r then [] else comm_same job (input_of r ps) i;
-      final_message = λ w. if has_unopened ps w then [] else
-          (text_same word c.names ps (disorder_of (comm job) (input_of (all_received w) ps))
-          ∙ ap (disorder_text word c.names) (comm_place job w ps)) i;
+      decided = λ r. (of_together (λ r. merged (comm job) (side_of r ps)) [] (has_unopened ps r) r refl
+          ∙ ap (λ all. if has_unopened ps r then [] else all) (comm_same job (side_of r ps))) i;
+      final_message = λ w. (ap (text_of_disorder word c.names ps) (found_all (comm job) w ps)
+          ∙ (text_same word c.names ps (has_unopened ps w) (found (comm job) (all_received w) ps)
+          ∙ ap (λ found. if has_unopened ps w then [] else disorder_text word c.names found) (comm_place job w ps))) i;
+      beyond = record (spec_beyond (RunComm job) ps) {
+        slot_bound = λ w. if_same _ _ 0 4 4 (unopened_all w ps) refl i;
+      };
     }
 same_job word (RunJoin job) c = let ps = positions c.order in
+    let group : (Lines → ℕ) → ReceivedInputs → ℕ = λ measure r. if job.pairs
+    then max_group measure (join_key job Second) (known_lines job.terminator (side_of r ps Second)) else 0 in
     λ i. record (command_spec word (record c { job = RunJoin job })) {
-      out = λ w. out_at_once w ps _ _
-          (join_same job (input_of (all_received w) ps)
+      out = λ w. of_all (λ r. merged (join job) (side_of r ps) ++ []) [] _ w ps refl
+          (append-nil _ ∙ (join_same job (side_of (all_received w) ps)
           ∙ (ap (λ (given : Side → Received). old_join.join_decided job (given First) (given Second)) (both_whole w ps)
           ∙ ap (unlines job.terminator) (merged_whole (line_cmp job.descending) (join_key1 job) (join_key2 job)
           (join_entries job)
-          (lines job.terminator (bytes_of w (operand ps First))) (lines job.terminator (bytes_of w (operand ps Second)))))) i;
-      status = λ w. (status_same ps (has_unopened ps w) (disorder_of (join job) (input_of (all_received w) ps))
-          ∙ ap (λ found. if has_unopened ps w then 1 else disorder_status found) (join_place job w ps)) i;
-      memory_bound = λ w. number_together w ps _ _
+          (lines job.terminator (bytes_of w (operand ps First))) (lines job.terminator (bytes_of w (operand ps Second))))))) i;
+      status = λ w. (ap (λ found. if has_unopened ps w || is_some found then 1 else 0) (found_all (join job) w ps)
+          ∙ (status_same ps (has_unopened ps w) (found (join job) (all_received w) ps)
+          ∙ ap (λ found. if has_unopened ps w then 1 else disorder_status found) (join_place job w ps))) i;
+      memory_bound = λ w. of_all (λ r. two_of_each job.terminator (side_of r ps) + group (sum_by length) r) 0 _ w ps
+          (if_zero job.pairs)
           (λ i. (2 * longest_input job.terminator w ps First i + 2 * longest_input job.terminator w ps Second i)
           + (if job.pairs then group_whole total_bytes job w ps i else 0)) i;
-      slot_bound = λ w. number_together w ps _ _
-          (λ i. 4 + (if job.pairs then group_whole length job w ps i else 0)) i;
-      decided = λ r. if has_unopened ps r then [] else join_same job (input_of r ps) i;
-      final_message = λ w. if has_unopened ps w then [] else
-          (text_same word c.names ps (disorder_of (join job) (input_of (all_received w) ps))
-          ∙ ap (disorder_text word c.names) (join_place job w ps)) i;
+      decided = λ r. (of_together (λ r. merged (join job) (side_of r ps)) [] (has_unopened ps r) r refl
+          ∙ ap (λ all. if has_unopened ps r then [] else all) (join_same job (side_of r ps))) i;
+      final_message = λ w. (ap (text_of_disorder word c.names ps) (found_all (join job) w ps)
+          ∙ (text_same word c.names ps (has_unopened ps w) (found (join job) (all_received w) ps)
+          ∙ ap (λ found. if has_unopened ps w then [] else disorder_text word c.names found) (join_place job w ps))) i;
+      beyond = record (spec_beyond (RunJoin job) ps) {
+        slot_bound = λ w. slots_of_opened (λ r. 4 + group length r) _ w ps
+            (λ i. 4 + (if job.pairs then group_whole length job w ps i else 0)) i;
+      };
     }
 
 pub spec_same : (word : List ℕ) (c : Command)

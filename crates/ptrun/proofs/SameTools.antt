@@ -1,18 +1,21 @@
 -- The output of each tool, as the page of the promise has it, is that of its engine.
 use Rattle.ptrun.proofs
 use Rattle.ptrun.specs
-use proofs.Common.{List, None, Option, Paste, Received, Some, [], ap, map, refl, sym, ℕ, ◌∙◌, ◌∷◌, ◌≡◌}
+use proofs.Common.{List, None, Option, Paste, Received, Some, [], ap, arith, map, refl, sym, ℕ, ◌∙◌, ◌∷◌, ◌≡◌}
 use proofs.SameLines.{init_same, known_same}
 use mathlib.Core.Path.{fun_ext}
 use Rattle.std.specs.List.{flat_map, join_with_byte, range_with_len, slice_split}
-use Rattle.std.specs.Prelude.{filter, if◌then◌else◌, not, unwrap_or, max, ◌++◌}
+use Rattle.std.specs.Prelude.{Bool, filter, if◌then◌else◌, not, true, false, unwrap_or, max, zip, ◌&&◌, ◌++◌, ◌==◌}
 use Rattle.ptflow.specs.Cuts as old_cut
 use Rattle.ptflow.specs.PasteText as old_paste
 use Rattle.ptflow.specs.PasteText.{is_row_known, join_with_cycle, known_rows, row_at, row_count, rows_text}
+use Rattle.ptflow.specs.TrOutput as old_tr
+use Rattle.ptflow.specs.TrOutput.{translation}
 use Rattle.ptflow.specs.Uniqs as old_uniq
 use Rattle.ptflow.specs.Uniqs.{output_of, runs}
 use Rattle.ptlangs.specs.Jobs.{Cut, Join, Uniq}
 use Rattle.ptlangs.specs.Numbers.{is_empty}
+use Rattle.ptlangs.specs.TrPlan.{ByteMap}
 use Rattle.ptlangs.specs.declared.outlist.OutField.{OutField}
 use Rattle.ptlines.specs.Text.{is_blank, unlines}
 use Rattle.ptmerge.specs.Join as old_join
@@ -25,6 +28,7 @@ use specs.Cut.{cut_decided}
 use specs.Join.{entry, join_entries, join_fields, join_key, max_group, output_fields}
 use specs.Lines.{known_lines, maximum}
 use specs.Paste.{columns, paste_decided, paste_serial_decided}
+use specs.Tr.{squeeze, tr}
 use specs.Uniq.{uniq_decided}
 
 pub map_twice : {A B C : Type 0} (f : B → C) (g : A → B) (xs : List A) → map f (map g xs) ≡ map (λ x. f (g x)) xs
@@ -53,6 +57,25 @@ paste_same job cells given =
     (filter (is_row_known cols ended) (range_with_len 0 (row_count cols)))))
     ∙ ap (λ (f : ℕ → List (List ℕ)). rows_text job (known_rows (columns cells f) (map (λ input. (given input).eof) cells)))
     (fun_ext (λ p. known_same job.terminator (given p)))
+
+-- ---- tr
+
+-- a byte that is kept before others, or is not
+squeezed_step : (test : Bool) (a b : ℕ) (kept : List (ℕ × ℕ)) → (test ≡ true → a ≡ b)
+    → (if test then b ∷ map (λ (p : ℕ × ℕ). p.1) kept else a ∷ b ∷ map (λ (p : ℕ × ℕ). p.1) kept)
+    ≡ a ∷ map (λ (p : ℕ × ℕ). p.1) (if not test then (a, b) ∷ kept else kept)
+squeezed_step true a b kept same = ap (λ c. c ∷ map (λ (p : ℕ × ℕ). p.1) kept) (sym (same refl))
+squeezed_step false a b kept same = refl
+
+squeeze_same : (test : ℕ → Bool) (bytes : List ℕ) → squeeze test bytes ≡ old_tr.squeeze test bytes
+squeeze_same test [] = refl
+squeeze_same test (a ∷ []) = refl
+squeeze_same test (a ∷ b ∷ more) =
+    ap (λ kept. if (a == b) && test b then kept else a ∷ kept) (squeeze_same test (b ∷ more))
+    ∙ squeezed_step ((a == b) && test b) a b (filter (old_tr.is_not_repeat test) (zip (b ∷ more) more)) (grind arith)
+
+pub tr_same : (m : ByteMap) (bytes : List ℕ) → tr m bytes ≡ old_tr.tr m bytes
+tr_same m bytes = squeeze_same m.squeezes (translation m bytes)
 
 -- ---- join
 

@@ -1,12 +1,10 @@
 -- The output of a command: what is decided by what was received of its inputs. The whole output is what is decided by
 -- inputs that are known whole; of `uniq` also the last run, which goes on until the input ends.
-use Rattle.std.specs.Prelude.{ℕ, Bool, true, List, [], ◌∷◌, ◌++◌, Option, Some, None, map, take, unwrap_or}
-use Rattle.std.specs.Prelude.{filter_map, is_some, option_map, option_to_list, slice_index_or, if◌then◌else◌}
-use Rattle.std.specs.Option.{option_map_or}
+use Rattle.std.specs.Prelude.{ℕ, Bool, true, List, [], ◌++◌, Option, None, map, take, unwrap_or}
+use Rattle.std.specs.Prelude.{◌∷◌, filter_map, option_map, option_to_list, slice_index_or, if◌then◌else◌}
 use Rattle.std.specs.List.{enumerate_from, flat_map, last_or, list_any}
 use Rattle.ptlines.specs.Engines.{is_in}
-use Rattle.ptlines.specs.Received.{Received, empty_input}
-use Rattle.ptflow.specs.TrOutput.{tr_decided}
+use Rattle.ptlines.specs.Received.{Received}
 use Rattle.ptflow.specs.Uniqs.{output_of, runs}
 use Rattle.ptmerge.specs.declared.key_order.Side.{Side}
 use Rattle.ptmerge.specs.declared.key_order.Side.TheVariants.{First, Second}
@@ -18,14 +16,19 @@ use Rattle.ptrun.specs.Join.{join}
 use Rattle.ptrun.specs.Lines.{known_lines}
 use Rattle.ptrun.specs.Merges.{merged}
 use Rattle.ptrun.specs.Paste.{paste_decided, paste_serial_decided}
+use Rattle.ptrun.specs.Tr.{tr}
 use Rattle.ptrun.specs.Uniq.{uniq_decided}
 
 -- ---- inputs
 
+-- An input that was received to its end.
+abbrev pub whole : List ℕ → Received
+whole bytes = record { bytes = bytes; eof = true }
+
 -- The operands' inputs that were opened. One read before is empty.
 abbrev pub inputs_in_turn : ReceivedInputs → List ℕ → List Received
 inputs_in_turn r positions =
-    filter_map (λ (c : ℕ × ℕ). option_map (λ g. if is_in (take c.0 positions) c.1 then empty_input else g) (at r c.1))
+    filter_map (λ (c : ℕ × ℕ). option_map (λ g. if is_in (take c.0 positions) c.1 then whole [] else g) (at r c.1))
     (enumerate_from 0 positions)
 
 -- The inputs up to and including the first whose end was not reached.
@@ -40,19 +43,19 @@ operand positions Second = slice_index_or positions 1 0
 
 -- The received part of the input at a position.
 abbrev pub received_in : ReceivedInputs → ℕ → Received
-received_in r position = unwrap_or (at r position) empty_input
-
--- That of the first or of the second operand.
-abbrev pub input_of : ReceivedInputs → List ℕ → Side → Received
-input_of r positions side = received_in r (operand positions side)
+received_in r position = unwrap_or (at r position) (whole [])
 
 -- An operand could not be opened.
 abbrev pub has_unopened : {X : Type 0} → List ℕ → List (Option X) → Bool
 has_unopened positions xs = list_any (is_unopened xs) positions
 
--- An input that was received to its end.
-abbrev pub whole : List ℕ → Received
-whole bytes = record { bytes = bytes; eof = true }
+-- What a tool has of the inputs that reads its operands together: nothing, if one could not be opened.
+abbrev pub inputs_together : ReceivedInputs → List ℕ → ReceivedInputs
+inputs_together r positions = if has_unopened positions r then [] else r
+
+-- That of the first or of the second operand, which are read together.
+abbrev pub input_of : ReceivedInputs → List ℕ → Side → Received
+input_of r positions side = received_in (inputs_together r positions) (operand positions side)
 
 -- All inputs, received to their ends.
 abbrev pub all_received : InputBytes → ReceivedInputs
@@ -60,37 +63,22 @@ all_received w = map (λ input. option_map whole input) w
 
 -- ---- output
 
--- The output that is decided by what was received of one operand, for a tool that reads them one after another, and
--- skips those that could not be opened. Other tools read them together, and write nothing if one could not be opened.
-abbrev pub decided_of_one : Job → Option (Received → List ℕ)
-decided_of_one (RunCut job) = Some (cut_decided job)
-decided_of_one (RunTr m) = Some (tr_decided m)
-decided_of_one (RunPaste job) = if job.serial then Some (paste_serial_decided job) else None
-decided_of_one _ = None
-
--- The tool reads its operands one after another.
-abbrev pub reads_in_turn : Job → Bool
-reads_in_turn job = is_some (decided_of_one job)
-
--- The output that is decided, for a tool that reads them together.
-abbrev pub decided_of_all : Job → List ℕ → ReceivedInputs → List ℕ
-decided_of_all (RunPaste job) positions r = paste_decided job positions (received_in r)
-decided_of_all (RunUniq job) positions r = uniq_decided job (input_of r positions First)
-decided_of_all (RunComm job) positions r = merged (comm job) (input_of r positions)
-decided_of_all (RunJoin job) positions r = merged (join job) (input_of r positions)
-decided_of_all _ positions r = []
-
 -- The output that is decided by what was received. If operands are read in turn, nothing is decided after the first
 -- input whose end was not reached.
 abbrev pub decided : Job → List ℕ → ReceivedInputs → List ℕ
-decided job positions r = let inputs = up_to_unended (inputs_in_turn r positions) in
-    option_map_or (λ (one : Received → List ℕ). flat_map one inputs) (decided_of_one job)
-    (if has_unopened positions r then [] else decided_of_all job positions r)
+decided (RunCut job) positions r = flat_map (cut_decided job) (up_to_unended (inputs_in_turn r positions))
+decided (RunTr m) positions r = flat_map (λ given. tr m given.bytes) (up_to_unended (inputs_in_turn r positions))
+decided (RunPaste job) positions r =
+    if job.serial then flat_map (paste_serial_decided job) (up_to_unended (inputs_in_turn r positions))
+    else paste_decided job positions (received_in (inputs_together r positions))
+decided (RunUniq job) positions r = uniq_decided job (input_of r positions First)
+decided (RunComm job) positions r = merged (comm job) (input_of r positions)
+decided (RunJoin job) positions r = merged (join job) (input_of r positions)
 
 -- What only the end of the input decides: the last run of `uniq`.
 abbrev pub at_end : Job → List ℕ → ReceivedInputs → List ℕ
 at_end (RunUniq job) positions r = let ls = known_lines job.terminator (input_of r positions First) in
-    if has_unopened positions r then [] else output_of job (option_to_list (last_or None (runs job ls)))
+    output_of job (option_to_list (last_or None (runs job ls)))
 at_end _ positions r = []
 
 -- The output.

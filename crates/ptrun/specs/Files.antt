@@ -25,10 +25,9 @@ is_unopened xs position = is_none (at xs position)
 
 -- The bytes of one input are consistent with what was received from it; a file that could not be opened has neither.
 abbrev pub IsConsistentAt : Option Received → Option (List ℕ) → Type 0
-IsConsistentAt None None = ⊤
-IsConsistentAt None (Some bytes) = ⊥
-IsConsistentAt (Some g) None = ⊥
 IsConsistentAt (Some g) (Some bytes) = one.IsConsistent g bytes
+IsConsistentAt None None = ⊤
+IsConsistentAt _ _ = ⊥
 
 -- The bytes of all inputs are consistent with what was received: the same files could not be opened, and what was
 -- received from each other input is a prefix of its bytes, and all of them if its end was reached.
@@ -48,8 +47,7 @@ HasReceivedAt old new (Some g) = (old.refused ≡ false) × HasReceived old new 
 
 -- These parts were received from all readers, by position.
 abbrev pub HaveReceived : List Reader → List Reader → ReceivedInputs → Type 0
-HaveReceived old new r = (position : ℕ)
-    → HasReceivedAt (reader_at old position) (reader_at new position) (at r position)
+HaveReceived old new r = (position : ℕ) → HasReceivedAt (reader_at old position) (reader_at new position) (at r position)
 
 -- Nothing was read from it yet, and it has no fault.
 pub record IsNew (r : Reader) : Type 0 where
@@ -80,9 +78,8 @@ IsOneUnended readers positions =
 
 -- A read of the input at a position failed.
 abbrev pub HasReadFailed : List Reader → List Reader → ℕ → Type 0
-HasReadFailed old new position =
-    ((reader_at old position).refused ≡ false) × ((reader_at old position).failed ≡ false)
-    × ((reader_at new position).failed ≡ true)
+HasReadFailed old new position = let was = reader_at old position in
+    (was.refused ≡ false) × (was.failed ≡ false) × ((reader_at new position).failed ≡ true)
 
 -- 2^63 bytes or more were received from it.
 abbrev pub IsTooLong : Option Received → Type 0

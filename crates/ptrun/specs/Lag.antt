@@ -19,10 +19,6 @@ pub record IsWrittenUpToBlock (bytes written : List ℕ) (failed : Bool) : Type 
   pub few : length lost ≤ BLOCK
   pub none : failed ≡ false → lost ≡ []
 
--- The received parts of the first `n` operands and of the next one, in order.
-abbrev pub received_so_far : ReceivedInputs → List ℕ → ℕ → List Received
-received_so_far r positions n = inputs_in_turn r (take (n + 1) positions)
-
 -- `P` holds of the output that was decided when at most two blocks fewer of the last input were received. The inputs
 -- before it count whole.
 abbrev pub LagOfLast : (Received → List ℕ) → List Received → (List ℕ → Type 0) → Type 0
@@ -36,13 +32,12 @@ LagOfAny positions decided r P = (position : ℕ) (came : Received) → is_in po
     → at r position ≡ Some came
     → (before : LaggedInput came) × P (decided (set r position (Some before.earlier)))
 
--- One of the two: the former for a tool that reads its operands one after another, the latter for one that reads them
--- together.
-abbrev pub BoundedLagAs : CommandSpec → ReceivedInputs → ℕ → (List ℕ → Type 0) → Option (Received → List ℕ)
-    → Type 0
-BoundedLagAs m r n P (Some decided_of_one) = LagOfLast decided_of_one (received_so_far r m.positions n) P
-BoundedLagAs m r n P None = LagOfAny m.positions m.decided r P
+-- One of the two: the former for a tool that reads its operands one after another, over the first `n` of them and the
+-- next one; the latter for one that reads them together.
+abbrev pub LagBy : CommandSpec → ReceivedInputs → ℕ → (List ℕ → Type 0) → Option (Received → List ℕ) → Type 0
+LagBy m r n P (Some decided_of_one) = LagOfLast decided_of_one (inputs_in_turn r (take (n + 1) m.positions)) P
+LagBy m r n P None = LagOfAny m.positions m.decided r P
 
 -- `P` holds of the output that the command had decided at most two blocks of input earlier; `n` operands are done.
 abbrev pub HasBoundedLag : CommandSpec → ReceivedInputs → ℕ → (List ℕ → Type 0) → Type 0
-HasBoundedLag m r n P = BoundedLagAs m r n P m.sequential
+HasBoundedLag m r n P = LagBy m r n P m.beyond.sequential

@@ -29,8 +29,7 @@ pub record Disorder : Type 0 where
 
 -- The disorder of an input with these lines, if they are out of order.
 abbrev pub disorder_in : Merge → Side → Lines → Option Disorder
-disorder_in m file ls =
-    let sorted = sorted_prefix m.cmp (m.key file) ls in
+disorder_in m file ls = let sorted = sorted_prefix m.cmp (m.key file) ls in
     let last = unwrap_or (last_or None (map (m.key file) sorted)) [] in
     if nat_lt (length sorted) (length ls)
     then Some (record { file = file; last_key = last; line = length sorted + 1 }) else None
@@ -46,10 +45,10 @@ abbrev pub disorder_of : Merge → (Side → Received) → Option Disorder
 disorder_of m given = let found : Side → Option Disorder = λ side. disorder_in m side (known_lines m.end (given side)) in
     reported m.cmp (found First) (found Second)
 
--- No line to come has this key: by the end, a disorder, or a later key.
+-- No line to come has this key: the end is reached, or a line has a later key; or there is a disorder, after which no
+-- more lines of that input are used.
 abbrev pub is_final : Merge → Side → Received → List ℕ → Bool
-is_final m file given k = let ls = known_lines m.end given in
-    given.eof || is_some (disorder_in m file ls)
+is_final m file given k = let ls = known_lines m.end given in given.eof || is_some (disorder_in m file ls)
     || option_map_or (λ line. is_lt (m.cmp k (m.key file line))) (last_or None ls) false
 
 -- The output: the entries of each key that is final in both inputs, in the order of the keys; those after the last key

@@ -3,7 +3,6 @@ use Rattle.std.specs.Prelude.{ℕ, ◌-◌, ◌==◌, List, [], ◌∷◌, codes
 use Rattle.std.specs.Prelude.{if◌then◌else◌, slice_index_or}
 use Rattle.ptflow.specs.declared.faults.FlowFault.{FlowFault}
 use Rattle.ptflow.specs.declared.faults.FlowFault.TheVariants.{Memory, Read, Write}
-use Rattle.ptlangs.specs.declared.faults.SetFault.{SetFault}
 use Rattle.ptlangs.specs.declared.faults.SetFaultKind.{SetFaultKind}
 use Rattle.ptlangs.specs.declared.faults.SetString.{SetString}
 use Rattle.ptopts.specs.Faults.{Fault, InString, NeedsList, NeedsValue, NoTool, Operands, StandardTwice, Together}
@@ -31,26 +30,20 @@ kind_word kind.RepeatSize = codes "size"
 kind_word kind.SecondFill = codes "fill"
 kind_word kind.Memory = codes "memory"
 
--- The message about an invalid string operand of `tr`.
-abbrev pub string_fault_text : SetFault → List ℕ
-string_fault_text fault =
-    line_of (codes "tr: wrong " ∷ string_word fault.string ∷ codes ": " ∷ kind_word fault.kind ∷ [])
-
 -- The message about a usage fault in the arguments of `tool`.
 abbrev pub usage_text : List ℕ → Fault → List ℕ
 usage_text tool NoTool = line_of (codes "ptext: first word: " ∷ codes "cut, paste, join, comm, uniq or tr" ∷ [])
 usage_text tool (Unknown word) = line_of (tool ∷ codes ": unknown option in " ∷ word ∷ [])
 usage_text tool (NeedsValue l) = line_of (tool ∷ codes ": option -" ∷ encode_utf8 l ∷ codes " needs a value" ∷ [])
 usage_text tool (Twice l) = line_of (tool ∷ codes ": option -" ∷ encode_utf8 l ∷ codes " is given twice" ∷ [])
-usage_text tool (Together a b) =
-    line_of (tool ∷ codes ": options -" ∷ encode_utf8 a ∷ codes " and -" ∷ encode_utf8 b ∷ codes " do not go together"
-    ∷ [])
+usage_text tool (Together a b) = line_of (tool ∷ codes ": options -" ∷ encode_utf8 a ∷ codes " and -" ∷ encode_utf8 b
+    ∷ codes " do not go together" ∷ [])
 usage_text tool (Value l value) =
     line_of (tool ∷ codes ": wrong value for option -" ∷ encode_utf8 l ∷ codes ": " ∷ value ∷ [])
 usage_text tool Operands = line_of (tool ∷ codes ": wrong number of operands" ∷ [])
 usage_text tool StandardTwice = line_of (tool ∷ codes ": standard input is named twice" ∷ [])
 usage_text tool NeedsList = line_of (codes "cut: one of -b, -c and -f is needed" ∷ [])
-usage_text tool (InString fault) = string_fault_text fault
+usage_text tool (InString f) = line_of (codes "tr: wrong " ∷ string_word f.string ∷ codes ": " ∷ kind_word f.kind ∷ [])
 
 -- The message about a lack of memory.
 abbrev pub memory_message : List ℕ → List ℕ
@@ -66,9 +59,8 @@ unopened_message tool name = line_of (tool ∷ codes ": " ∷ name ∷ codes ": 
 
 -- The message about a line out of order. Lines count from 1.
 abbrev pub disorder_message : List ℕ → List (List ℕ) → ℕ → ℕ → List ℕ
-disorder_message tool names position line =
-    line_of (tool ∷ codes ": " ∷ name_of names position ∷ codes ": line " ∷ decimal line ∷ codes " is out of order"
-    ∷ [])
+disorder_message tool names position line = line_of (tool ∷ codes ": " ∷ name_of names position ∷ codes ": line "
+    ∷ decimal line ∷ codes " is out of order" ∷ [])
 
 -- The message about a failed call. A failed read names its input.
 abbrev pub fault_message : List ℕ → List (List ℕ) → FlowFault → List ℕ

@@ -72,7 +72,7 @@ pub record IsRunBeyond (m : CommandSpec) (received : ReceivedInputs) (old new : 
   -- all output was flushed unless a write failed
   pub flushed : before.out.unflushed ≡ false → o.out.failed ≡ false → o.out.unflushed ≡ false
   -- unless nothing was to be read, the output was flushed exactly once, or never if a write or the flush failed
-  pub flushes : m.reads_nothing (is_reader_unopened old) ≡ false
+  pub flushes : m.beyond.reads_nothing (is_reader_unopened old) ≡ false
       → o.out.flushes ≡ (if o.out.failed then before.out.flushes else flushes_after before.out.flushes)
   -- the inputs that were not begun are unchanged
   pub untouched : (position : ℕ) → is_in (may_touch m operands_done) position ≡ false
@@ -114,7 +114,7 @@ pub record IsRunInStore (m : CommandSpec) (old new : List Reader) (before : Sink
     (lent left : Slots) : Type 0 where
   pub run : IsRun m old new before o
   pub slots : (w : InputBytes) → AreInputsConsistent run.received w
-      → length left.lines ≤ max (length lent.lines) (m.slot_bound w)
+      → length left.lines ≤ max (length lent.lines) (m.beyond.slot_bound w)
 
 -- The run did what the command requires over inputs of these bytes.
 pub record IsExact (m : CommandSpec) (w : InputBytes) (before : Sinks) (o : Outcome) : Type 0 where
@@ -137,8 +137,8 @@ HasWrittenNothing out o = (o.out ≡ out) × (o.peak ≡ 0) × (o.denied ≡ fal
 -- If the command is to read nothing, the inputs are unchanged, and nothing was written.
 abbrev pub IsUnchangedIfUnread : CommandSpec → List Reader → List Reader → SinkState → Outcome → Type 0
 IsUnchangedIfUnread m old new out o =
-    m.reads_nothing (is_reader_unopened old) ≡ true → (new ≡ old) × HasWrittenNothing out o
+    m.beyond.reads_nothing (is_reader_unopened old) ≡ true → (new ≡ old) × HasWrittenNothing out o
 
 -- If the command is to read nothing, the store is unchanged.
 abbrev pub IsStoreUnchangedIfUnread : CommandSpec → List Reader → Slots → Slots → Type 0
-IsStoreUnchangedIfUnread m old lent left = m.reads_nothing (is_reader_unopened old) ≡ true → left ≡ lent
+IsStoreUnchangedIfUnread m old lent left = m.beyond.reads_nothing (is_reader_unopened old) ≡ true → left ≡ lent

@@ -1,35 +1,38 @@
--- Beyond output, messages, status and memory: the slots of the store, the operands that a tool takes, and when it
--- reads nothing.
-use Rattle.std.specs.Prelude.{ℕ, ◌+◌, ◌==◌, ◌&&◌, Bool, true, false, not, List, length, map, nat_le}
-use Rattle.std.specs.Prelude.{if◌then◌else◌}
+-- Beyond output, messages, status and memory: what one operand decides, the slots of the store, the operands that a
+-- tool takes, and when it reads nothing.
+use Rattle.std.specs.Prelude.{ℕ, ◌+◌, ◌==◌, ◌&&◌, ◌||◌, Bool, true, false, not, List, Option, None, Some, is_none}
+use Rattle.std.specs.Prelude.{if◌then◌else◌, length, map, nat_le}
 use Rattle.std.specs.List.{list_any}
+use Rattle.ptlines.specs.Received.{Received}
 use Rattle.ptmerge.specs.declared.key_order.Side.TheVariants.{First, Second}
-use Rattle.ptopts.specs.Commands.{Job, RunComm, RunCut, RunJoin, RunPaste, RunUniq}
-use Rattle.ptrun.specs.Decided.{has_unopened, input_of, inputs_in_turn, operand, reads_in_turn}
+use Rattle.ptopts.specs.Commands.{Job, RunComm, RunCut, RunJoin, RunPaste, RunTr, RunUniq}
+use Rattle.ptrun.specs.Cut.{cut_decided}
+use Rattle.ptrun.specs.CommandSpec.{SpecBeyond}
+use Rattle.ptrun.specs.Decided.{all_received, has_unopened, input_of, inputs_in_turn, operand}
 use Rattle.ptrun.specs.Files.{ReceivedInputs}
 use Rattle.ptrun.specs.Join.{join_key, max_group}
 use Rattle.ptrun.specs.Lines.{known_lines, maximum}
+use Rattle.ptrun.specs.Paste.{paste_serial_decided}
+use Rattle.ptrun.specs.Tr.{tr}
 
--- The slots for one operand: one for `cut` by fields.
-abbrev pub slots_of_one : Job → ℕ
-slots_of_one (RunCut job) = if job.fields then 1 else 0
-slots_of_one _ = 0
+-- The output that one operand decides, for a tool that reads its operands one after another.
+abbrev pub decided_of_one : Job → Option (Received → List ℕ)
+decided_of_one (RunCut job) = Some (cut_decided job)
+decided_of_one (RunTr m) = Some (λ given. tr m given.bytes)
+decided_of_one (RunPaste job) = if job.serial then Some (paste_serial_decided job) else None
+decided_of_one _ = None
 
--- The slots for all operands: one for each column of `paste`, two for each input of the others, and for `join`, if it
--- writes pairs, one for each of the second input's lines with one key.
-abbrev pub slots_of_all : Job → List ℕ → ReceivedInputs → ℕ
-slots_of_all (RunPaste job) positions r = length positions
-slots_of_all (RunUniq job) positions r = 2
-slots_of_all (RunComm job) positions r = 4
-slots_of_all (RunJoin job) positions r = let ls = known_lines job.terminator (input_of r positions Second) in
-    4 + (if job.pairs then max_group length (join_key job Second) ls else 0)
-slots_of_all _ positions r = 0
-
--- The most slots that the store needs for the lines of these inputs.
+-- The most slots that the store needs for the lines of these inputs: one for `cut` by fields, if an operand was opened;
+-- one for each column of `paste`, two for each input of the others, and for `join`, if it writes pairs, one for each of
+-- the second input's lines with one key.
 abbrev pub slot_bound : Job → List ℕ → ReceivedInputs → ℕ
-slot_bound job positions r =
-    if reads_in_turn job then maximum (map (λ input. slots_of_one job) (inputs_in_turn r positions))
-    else (if has_unopened positions r then 0 else slots_of_all job positions r)
+slot_bound (RunCut job) positions r = maximum (map (λ input. if job.fields then 1 else 0) (inputs_in_turn r positions))
+slot_bound (RunTr m) positions r = 0
+slot_bound (RunPaste job) positions r = if job.serial || has_unopened positions r then 0 else length positions
+slot_bound (RunUniq job) positions r = if has_unopened positions r then 0 else 2
+slot_bound (RunComm job) positions r = if has_unopened positions r then 0 else 4
+slot_bound (RunJoin job) positions r = let ls = known_lines job.terminator (input_of r positions Second) in
+    if has_unopened positions r then 0 else 4 + (if job.pairs then max_group length (join_key job Second) ls else 0)
 
 -- Whether the tool may request memory once its inputs have ended, as `join` does for the lines with one key.
 abbrev pub keeps_groups : Job → Bool
@@ -50,4 +53,18 @@ accepts _ positions = true
 
 -- Whether nothing is read or written, given which inputs could not be opened.
 abbrev pub reads_nothing : Job → List ℕ → (ℕ → Bool) → Bool
-reads_nothing job positions is_unopened_at = if reads_in_turn job then false else list_any is_unopened_at positions
+reads_nothing job positions is_unopened_at = is_none (decided_of_one job) && list_any is_unopened_at positions
+
+-- What is specified of a command with this job over operands at these positions.
+abbrev pub spec_beyond : Job → List ℕ → SpecBeyond
+spec_beyond job positions = record {
+  slot_bound = λ w. slot_bound job positions (all_received w);
+  keeps_groups = keeps_groups job;
+  sequential = decided_of_one job;
+  reads_nothing = reads_nothing job positions;
+  accepts = accepts job positions;
+}
+
+-- And of words for which nothing is read.
+abbrev pub unread : SpecBeyond
+unread = record { slot_bound = λ w. 0; keeps_groups = false; sequential = None; reads_nothing = λ r. true; accepts = true }

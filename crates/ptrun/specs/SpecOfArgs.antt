@@ -1,5 +1,5 @@
 -- From the arguments of a command to its specification.
-use Rattle.std.specs.Prelude.{ℕ, List, [], Bool, true, false, ◌||◌, Option, Some, None, Result, Ok, Err, length}
+use Rattle.std.specs.Prelude.{ℕ, List, [], Bool, false, ◌||◌, Option, Some, None, Result, Ok, Err, length}
 use Rattle.std.specs.Prelude.{slice_index_or, is_none, is_some, if◌then◌else◌}
 use Rattle.ptopts.specs.Commands.{Command, command_of_args, command_view}
 use Rattle.ptopts.specs.Faults.{Fault}
@@ -7,11 +7,11 @@ use Rattle.ptopts.specs.View.{fault_view}
 use Rattle.ptopts.specs.declared.fault.UseFault.{UseFault}
 use Rattle.ptrun.specs.CommandSpec.{CommandSpec}
 use Rattle.ptrun.specs.Bounds.{bound, disorder}
-use Rattle.ptrun.specs.Decided.{all_received, decided, decided_of_one, has_unopened, operand, output}
+use Rattle.ptrun.specs.Decided.{all_received, decided, has_unopened, operand, output}
 use Rattle.ptrun.specs.Merges.{Disorder}
 use Rattle.ptrun.specs.Messages.{disorder_message, memory_message, usage_text}
 use Rattle.ptrun.specs.Operands.{positions}
-use Rattle.ptrun.specs.Slots.{accepts, keeps_groups, reads_nothing, slot_bound}
+use Rattle.ptrun.specs.Slots.{spec_beyond, unread}
 use Rattle.ptopts.specs.declared.command.Command as code
 
 -- Nothing is read, nothing is written to the output, and `text` is the only message.
@@ -20,16 +20,12 @@ message_only text status = record {
   out = λ w. [];
   status = λ w. status;
   memory_bound = λ w. 0;
-  slot_bound = λ w. 0;
-  keeps_groups = false;
   decided = λ r. [];
-  sequential = None;
   final_message = λ w. text;
-  reads_nothing = λ is_unopened_at. true;
-  accepts = true;
   positions = [];
   tool = [];
   names = [];
+  beyond = unread;
 }
 
 -- The message about a disorder, if there is one.
@@ -43,17 +39,12 @@ command_spec tool c = let operands = positions c.order in record {
   out = λ w. output c.job operands (all_received w);
   status = λ w. if has_unopened operands w || is_some (disorder c.job operands (all_received w)) then 1 else 0;
   memory_bound = λ w. bound c.job operands (all_received w);
-  slot_bound = λ w. slot_bound c.job operands (all_received w);
-  keeps_groups = keeps_groups c.job;
   decided = decided c.job operands;
-  sequential = decided_of_one c.job;
-  final_message = λ w. if has_unopened operands w then [] else
-      text_of_disorder tool c.names operands (disorder c.job operands (all_received w));
-  reads_nothing = reads_nothing c.job operands;
-  accepts = accepts c.job operands;
+  final_message = λ w. text_of_disorder tool c.names operands (disorder c.job operands (all_received w));
   positions = operands;
   tool = tool;
   names = c.names;
+  beyond = spec_beyond c.job operands;
 }
 
 -- The name of the tool: the first argument, or empty if there is none.

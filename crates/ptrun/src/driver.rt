@@ -4,8 +4,8 @@
 ghost use Rattle.std.specs.Prelude.{◌≡◌, ◌<◌, ◌+◌, length, All};
 ghost use Rattle.ptopts.specs.Commands.{words_view};
 ghost use Rattle.ptrun.specs.Private.Driver.{InputsPre, ReportUnopenedPost, RunInputsPre, RunInputsPost};
-ghost use Rattle.ptrun.specs.Private.Driver.{RunWithStorePost, joint_completion};
-ghost use Rattle.ptrun.specs.Private.Driver.{FinishPost, EndRunPost, HasIndexBelow, result_message, result_status};
+ghost use Rattle.ptrun.specs.Private.Driver.{RunWithStorePost, FinishPost, EndRunPost, HasIndexBelow};
+ghost use Rattle.ptrun.specs.Private.Driver.{result_message, result_status};
 ghost use Rattle.ptrun.specs.Private.Driver.{spec_in_turn, spec_together};
 ghost use Rattle.ptrun.specs.Operands.{positions};
 ghost use Rattle.ptrun.specs.Calls.Runs.{RunPre};
@@ -15,30 +15,21 @@ ghost use Rattle.ptrun.specs.MessageWrites.{HasSaid};
 use crate::messages::Messages;
 use crate::operands::{fault_at, name_at, position_of, positions_of, say_unopened};
 use crate::report::{Report, report_of, report_unread};
-use crate::tool::{Disorder, Joint, Sequential};
+use crate::tool::{Completion, Joint, Sequential};
 use itoa::Buffer;
 use ptflow::FlowFault;
 use ptlines::{LineReader, Out, Sink, Source, Store};
 use ptopts::{Input, Inputs};
 use std::alloc::Allocator;
 
-/// How the inputs of a run were processed if no call failed.
-#[derive(Clone, Copy)]
-pub(crate) enum Completion {
-    /// The whole output was written.
-    AllWritten,
-    /// The output was written, except that of inputs that could not be opened; these were reported.
-    Unopened,
-    /// A line is out of order, and the output before it was written.
-    Disordered(Disorder),
-}
-
-/// Runs a tool over one operand after another, and returns the report. Not inlined, so that the code of each tool is a
-/// function of its own: an engine of WebAssembly compiles it while it runs, and needs memory by the largest function.
+/// Runs the tool with this name over one operand after another, and returns the report. Not inlined, so that the code
+/// of each tool is a function of its own: an engine of WebAssembly compiles it while it runs, and needs memory by the
+/// largest function.
 #[inline(never)]
 pub(crate) fn run_in_turn<A, B, T, S, R, W, E>(
-    store: &mut Store<A>,
+    name: &str,
     tool: &T,
+    store: &mut Store<A>,
     operands: &Inputs<'_, B>,
     inputs: &mut [LineReader<S, R>],
     out: W,
@@ -52,19 +43,20 @@ where
     R: Source,
     W: Sink,
     E: Sink,
-    requires given { InputsPre (spec_in_turn (T.word tool.now) (T.tool tool.now) operands.now) inputs.old }
+    requires given { InputsPre (spec_in_turn name.now (T.tool tool.now) operands.now) inputs.old }
     requires unused { RunPre store.old (sinks (W.state out) messages) }
-    ensures { RunWithStorePost (spec_in_turn (T.word tool.now) (T.tool tool.now) operands.now)
+    ensures { RunWithStorePost (spec_in_turn name.now (T.tool tool.now) operands.now)
         inputs.old inputs.new (sinks (W.state out) messages) (outcome W.state E.state result) store.old store.new }
 {
     let names: &[&str] = &operands.names;
     let mut out = Out::new(out);
-    let run_result = run_each(tool, operands, inputs, store, &mut out, &mut messages);
-    end_run(tool.name(), names, run_result, store, out, messages)
+    let run_result = run_each(name, tool, operands, inputs, store, &mut out, &mut messages);
+    end_run(name, names, run_result, store, out, messages)
 }
 
 // Runs the tool over one operand after another, and reports each one that could not be opened when its turn comes.
 fn run_each<A, B, T, S, R, W, E>(
+    name: &str,
     tool: &T,
     operands: &Inputs<'_, B>,
     inputs: &mut [LineReader<S, R>],
@@ -80,9 +72,9 @@ where
     R: Source,
     W: Sink,
     E: Sink,
-    requires { RunInputsPre (spec_in_turn (T.word tool.now) (T.tool tool.now) operands.now)
+    requires { RunInputsPre (spec_in_turn name.now (T.tool tool.now) operands.now)
         inputs.old out.old store.old }
-    ensures { RunInputsPost (spec_in_turn (T.word tool.now) (T.tool tool.now) operands.now)
+    ensures { RunInputsPost (spec_in_turn name.now (T.tool tool.now) operands.now)
         inputs.old inputs.new out.old out.new messages.old messages.new store.old store.new result }
 {
     let order: &[Input] = &operands.order;
@@ -91,7 +83,7 @@ where
     for input in order {
         let position = position_of(*input);
         if inputs[position].is_refused() {
-            say_unopened(tool.name(), name_at(names, position), messages);
+            say_unopened(name, name_at(names, position), messages);
             done = Completion::Unopened;
         } else {
             match tool.run_on_one(&mut inputs[position], store, out) {
@@ -103,11 +95,13 @@ where
     Ok(done)
 }
 
-/// Runs a tool over all its operands together, if each could be opened, and returns the report. Not inlined, as above.
+/// Runs the tool with this name over all its operands together, if each could be opened, and returns the report. Not
+/// inlined, as above.
 #[inline(never)]
 pub(crate) fn run_together<A, B, T, S, R, W, E>(
-    store: &mut Store<A>,
+    name: &str,
     tool: &T,
+    store: &mut Store<A>,
     operands: &Inputs<'_, B>,
     inputs: &mut [LineReader<S, R>],
     out: W,
@@ -121,37 +115,19 @@ where
     R: Source,
     W: Sink,
     E: Sink,
-    requires given { InputsPre (spec_together (T.word tool.now) (T.tool tool.now) operands.now) inputs.old }
+    requires given { InputsPre (spec_together name.now (T.tool tool.now) operands.now) inputs.old }
     requires unused { RunPre store.old (sinks (W.state out) messages) }
-    ensures { RunWithStorePost (spec_together (T.word tool.now) (T.tool tool.now) operands.now)
+    ensures { RunWithStorePost (spec_together name.now (T.tool tool.now) operands.now)
         inputs.old inputs.new (sinks (W.state out) messages) (outcome W.state E.state result) store.old store.new }
 {
     let order: &[Input] = &operands.order;
     let names: &[&str] = &operands.names;
-    if report_unopened(tool.name(), order, names, inputs, &mut messages) {
+    if report_unopened(name, order, names, inputs, &mut messages) {
         return report_unread(1, out, messages);
     }
     let mut out = Out::new(out);
     let found = tool.run_on_all(&positions_of(order), inputs, store, &mut out);
-    end_run(
-        tool.name(),
-        names,
-        completion_of(found),
-        store,
-        out,
-        messages,
-    )
-}
-
-// The result of a tool that reads its operands together, as that of a run.
-fn completion_of(found: Result<Option<Disorder>, FlowFault>) -> Result<Completion, FlowFault>
-    ensures { result ≡ joint_completion found }
-{
-    match found {
-        Ok(None) => Ok(Completion::AllWritten),
-        Ok(Some(found)) => Ok(Completion::Disordered(found)),
-        Err(fault) => Err(fault),
-    }
+    end_run(name, names, found, store, out, messages)
 }
 
 // Reports each operand that could not be opened, and returns whether there is one.
@@ -223,15 +199,15 @@ fn say_final_message<E: Sink>(
     match final_result {
         Ok(Completion::AllWritten) => return 0,
         Ok(Completion::Unopened) => {}
-        Ok(Completion::Disordered(found)) => {
-            let name = name_at(names, found.position);
+        Ok(Completion::Disordered(position, line)) => {
+            let name = name_at(names, position);
             let mut digits = Buffer::new();
             messages.say(&[
                 tool,
                 ": ",
                 name,
                 ": line ",
-                digits.format(found.line),
+                digits.format(line),
                 " is out of order",
             ]);
         }

@@ -6,7 +6,7 @@ ghost use Rattle.std.specs.Prelude.{◌≡◌, ◌<◌, length, set, slice_index
 ghost use Rattle.ptmerge.specs.Calls.Sides.{both};
 ghost use Rattle.ptrun.specs.Private.Driver.{merge_found};
 
-use crate::tool::{Disorder, Joint};
+use crate::tool::{Completion, Joint};
 use ptflow::FlowFault;
 use ptlangs::jobs::{CommJob, JoinJob};
 use ptlines::{LineReader, Out, Sink, Source, Store};
@@ -14,18 +14,11 @@ use ptmerge::{MergeFault, Side, comm, join};
 use std::alloc::Allocator;
 
 impl<A: Allocator + Copy> Joint<A> for CommJob {
-    ghost use Rattle.std.specs.Prelude.{codes};
     ghost use Rattle.ptlangs.specs.Jobs.{comm_job};
     ghost use Rattle.ptmerge.specs.Comm.{comm_engine};
     ghost use Rattle.ptrun.specs.Private.Joint.{two_input_tool};
 
     ghost tool = { λ job. two_input_tool (comm_engine (comm_job job)) };
-
-    ghost word = { λ job. codes "comm" };
-
-    fn name(&self) -> &str {
-        "comm"
-    }
 
     #[tactic(auto, using(crate::proofs::JointRuns::any_of_two))]
     fn run_on_all<S: Source, R: Source, W: Sink>(
@@ -34,7 +27,7 @@ impl<A: Allocator + Copy> Joint<A> for CommJob {
         inputs: &mut [LineReader<S, R>],
         store: &mut Store<A>,
         out: &mut Out<W>,
-    ) -> Result<Option<Disorder>, FlowFault> {
+    ) -> Result<Completion, FlowFault> {
         let (first, second) = (operands[0], operands[1]);
         let (one, two) = two_mut(inputs, first, second);
         found_at(comm(self, one, two, store, out), first, second)
@@ -42,18 +35,11 @@ impl<A: Allocator + Copy> Joint<A> for CommJob {
 }
 
 impl<A: Allocator + Copy, B: Allocator + Copy> Joint<A> for JoinJob<B> {
-    ghost use Rattle.std.specs.Prelude.{codes};
     ghost use Rattle.ptlangs.specs.Jobs.{join_job};
     ghost use Rattle.ptmerge.specs.Join.{join_engine};
     ghost use Rattle.ptrun.specs.Private.Joint.{two_input_tool};
 
     ghost tool = { λ job. two_input_tool (join_engine (join_job job)) };
-
-    ghost word = { λ job. codes "join" };
-
-    fn name(&self) -> &str {
-        "join"
-    }
 
     #[tactic(auto, using(crate::proofs::JointRuns::any_of_two))]
     fn run_on_all<S: Source, R: Source, W: Sink>(
@@ -62,7 +48,7 @@ impl<A: Allocator + Copy, B: Allocator + Copy> Joint<A> for JoinJob<B> {
         inputs: &mut [LineReader<S, R>],
         store: &mut Store<A>,
         out: &mut Out<W>,
-    ) -> Result<Option<Disorder>, FlowFault> {
+    ) -> Result<Completion, FlowFault> {
         let (first, second) = (operands[0], operands[1]);
         let (one, two) = two_mut(inputs, first, second);
         found_at(join(self, one, two, store, out), first, second)
@@ -93,18 +79,18 @@ fn found_at(
     merge_result: Result<(), MergeFault>,
     first: usize,
     second: usize,
-) -> Result<Option<Disorder>, FlowFault>
+) -> Result<Completion, FlowFault>
     ensures { result ≡ merge_found (both first second) merge_result }
 {
     match merge_result {
-        Ok(()) => Ok(None),
+        Ok(()) => Ok(Completion::AllWritten),
         Err(MergeFault::Read(side)) => Err(FlowFault::Read(position_at(side, first, second))),
         Err(MergeFault::Write) => Err(FlowFault::Write),
         Err(MergeFault::Memory) => Err(FlowFault::Memory),
-        Err(MergeFault::Disorder(side, line)) => Ok(Some(Disorder {
-            position: position_at(side, first, second),
+        Err(MergeFault::Disorder(side, line)) => Ok(Completion::Disordered(
+            position_at(side, first, second),
             line,
-        })),
+        )),
     }
 }
 

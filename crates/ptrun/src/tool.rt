@@ -1,8 +1,7 @@
 //! The two traits of tools, by which `driver` runs them: `Sequential` for a tool that reads one operand after another,
-//! and `Joint` for one that reads its operands together, and may report a line that is out of order (`Disorder`). The
-//! modules `tools` and `merge` implement them.
+//! and `Joint` for one that reads its operands together; and how either has processed them (`Completion`). The modules
+//! `tools` and `merge` implement them.
 
-ghost use Rattle.std.specs.Prelude.{◌≡◌, ℕ, List};
 ghost use Rattle.ptflow.specs.Calls.Passes.{PassPre, PassPost};
 ghost use Rattle.ptflow.specs.ToolSpec.{ToolSpec};
 ghost use Rattle.ptrun.specs.Private.Joint.{JointTool};
@@ -17,12 +16,6 @@ pub(crate) trait Sequential<A: Allocator + Copy>: Drop {
     /// The specification of the tool.
     ghost tool: { Self → ToolSpec };
 
-    /// The name of the tool.
-    ghost word: { Self → List ℕ };
-
-    fn name(&self) -> &str
-        ensures { result.now ≡ word self.now };
-
     /// Runs the tool over the input of one operand.
     fn run_on_one<S: Source, R: Source, W: Sink>(
         &self,
@@ -36,11 +29,16 @@ pub(crate) trait Sequential<A: Allocator + Copy>: Drop {
     ghost decides_all: { (job : Self) → DecidesAll (tool job) };
 }
 
-/// A line that is out of order: the position of its input, and the line's number, counted from 1.
+/// How the inputs of a run were processed if no call failed.
 #[derive(Clone, Copy)]
-pub(crate) struct Disorder {
-    pub(crate) position: usize,
-    pub(crate) line: u64,
+pub(crate) enum Completion {
+    /// The whole output was written.
+    AllWritten,
+    /// The output was written, except that of inputs that could not be opened; these were reported.
+    Unopened,
+    /// A line is out of order, and the output before it was written: the position of its input, and the line's number,
+    /// counted from 1.
+    Disordered(usize, u64),
 }
 
 /// A tool that reads all its operands together, with its options.
@@ -48,21 +46,14 @@ pub(crate) trait Joint<A: Allocator + Copy>: Drop {
     /// The specification of the tool.
     ghost tool: { Self → JointTool };
 
-    /// The name of the tool.
-    ghost word: { Self → List ℕ };
-
-    fn name(&self) -> &str
-        ensures { result.now ≡ word self.now };
-
-    /// Runs the tool over the inputs of its operands, at these positions; each of them was opened. Returns the line
-    /// that is out of order, if there is one; the output before it was written.
+    /// Runs the tool over the inputs of its operands, at these positions; each of them was opened.
     fn run_on_all<S: Source, R: Source, W: Sink>(
         &self,
         operands: &[usize],
         inputs: &mut [LineReader<S, R>],
         store: &mut Store<A>,
         out: &mut Out<W>,
-    ) -> Result<Option<Disorder>, FlowFault>
+    ) -> Result<Completion, FlowFault>
         requires { JointPre (tool self.now) operands.now inputs.old out.old store.old }
         ensures { JointPost (tool self.now) operands.now inputs.old inputs.new out.old out.new
             store.old store.new result };

@@ -11,7 +11,7 @@ use crate::driver::{run_in_turn, run_together};
 use crate::messages::Messages;
 use crate::operands::fault_at;
 use crate::report::Report;
-use crate::tool::{Disorder, Joint, Sequential};
+use crate::tool::{Completion, Joint, Sequential};
 use ptflow::{FlowFault, cut, paste, paste_serial, tr, uniq};
 use ptlangs::CharPlan;
 use ptlangs::jobs::{CutJob, PasteJob, UniqJob};
@@ -40,33 +40,37 @@ pub(crate) fn run_command<
         (sinks (W.state out) messages) (outcome W.state E.state result) store.old store.new }
 {
     match command {
-        Command::Cut(job, operands) => run_in_turn(store, job, operands, inputs, out, messages),
+        Command::Cut(job, operands) => run_in_turn(
+            "cut", job, store, operands, inputs, out, messages,
+        ),
         Command::Paste(job, operands) => {
             if job.serial {
-                run_in_turn(store, job, operands, inputs, out, messages)
+                run_in_turn("paste", job, store, operands, inputs, out, messages)
             } else {
-                run_together(store, job, operands, inputs, out, messages)
+                run_together("paste", job, store, operands, inputs, out, messages)
             }
         }
-        Command::Tr(plan, operands) => run_in_turn(store, plan, operands, inputs, out, messages),
-        Command::Uniq(job, operands) => run_together(store, job, operands, inputs, out, messages),
-        Command::Comm(job, operands) => run_together(store, job, operands, inputs, out, messages),
-        Command::Join(job, operands) => run_together(store, job, operands, inputs, out, messages),
+        Command::Tr(plan, operands) => run_in_turn(
+            "tr", plan, store, operands, inputs, out, messages,
+        ),
+        Command::Uniq(job, operands) => run_together(
+            "uniq", job, store, operands, inputs, out, messages,
+        ),
+        Command::Comm(job, operands) => run_together(
+            "comm", job, store, operands, inputs, out, messages,
+        ),
+        Command::Join(job, operands) => run_together(
+            "join", job, store, operands, inputs, out, messages,
+        ),
     }
 }
 
 impl<A: Allocator + Copy, B: Allocator + Copy> Sequential<A> for CutJob<B> {
-    ghost use Rattle.std.specs.Prelude.{codes, refl};
+    ghost use Rattle.std.specs.Prelude.{refl};
     ghost use Rattle.ptlangs.specs.Jobs.{cut_job};
     ghost use Rattle.ptflow.specs.Cuts.{cut_tool};
 
     ghost tool = { λ job. cut_tool (cut_job job) };
-
-    ghost word = { λ job. codes "cut" };
-
-    fn name(&self) -> &str {
-        "cut"
-    }
 
     fn run_on_one<S: Source, R: Source, W: Sink>(
         &self,
@@ -81,17 +85,11 @@ impl<A: Allocator + Copy, B: Allocator + Copy> Sequential<A> for CutJob<B> {
 }
 
 impl<A: Allocator + Copy> Sequential<A> for CharPlan {
-    ghost use Rattle.std.specs.Prelude.{codes, refl};
+    ghost use Rattle.std.specs.Prelude.{refl};
     ghost use Rattle.ptlangs.specs.TrTables.{byte_map_of};
     ghost use Rattle.ptflow.specs.TrOutput.{tr_tool};
 
     ghost tool = { λ plan. tr_tool (byte_map_of plan) };
-
-    ghost word = { λ plan. codes "tr" };
-
-    fn name(&self) -> &str {
-        "tr"
-    }
 
     // `tr` stores no lines, so the store is not used.
     fn run_on_one<S: Source, R: Source, W: Sink>(
@@ -107,17 +105,11 @@ impl<A: Allocator + Copy> Sequential<A> for CharPlan {
 }
 
 impl<A: Allocator + Copy, B: Allocator + Copy> Sequential<A> for PasteJob<B> {
-    ghost use Rattle.std.specs.Prelude.{codes, refl};
+    ghost use Rattle.std.specs.Prelude.{refl};
     ghost use Rattle.ptlangs.specs.Jobs.{paste_job};
     ghost use Rattle.ptflow.specs.PasteText.{paste_serial_tool};
 
     ghost tool = { λ job. paste_serial_tool (paste_job job) };
-
-    ghost word = { λ job. codes "paste" };
-
-    fn name(&self) -> &str {
-        "paste"
-    }
 
     fn run_on_one<S: Source, R: Source, W: Sink>(
         &self,
@@ -132,17 +124,10 @@ impl<A: Allocator + Copy, B: Allocator + Copy> Sequential<A> for PasteJob<B> {
 }
 
 impl<A: Allocator + Copy, B: Allocator + Copy> Joint<A> for PasteJob<B> {
-    ghost use Rattle.std.specs.Prelude.{codes};
     ghost use Rattle.ptlangs.specs.Jobs.{paste_job};
     ghost use Rattle.ptrun.specs.Private.Joint.{paste_rows_tool};
 
     ghost tool = { λ job. paste_rows_tool (paste_job job) };
-
-    ghost word = { λ job. codes "paste" };
-
-    fn name(&self) -> &str {
-        "paste"
-    }
 
     // Each operand is a column.
     #[tactic(auto, using(crate::proofs::JointRuns::cell_opened))]
@@ -152,25 +137,18 @@ impl<A: Allocator + Copy, B: Allocator + Copy> Joint<A> for PasteJob<B> {
         inputs: &mut [LineReader<S, R>],
         store: &mut Store<A>,
         out: &mut Out<W>,
-    ) -> Result<Option<Disorder>, FlowFault> {
+    ) -> Result<Completion, FlowFault> {
         paste(self, operands, inputs, store, out)?;
-        Ok(None)
+        Ok(Completion::AllWritten)
     }
 }
 
 impl<A: Allocator + Copy> Joint<A> for UniqJob {
-    ghost use Rattle.std.specs.Prelude.{codes};
     ghost use Rattle.ptlangs.specs.Jobs.{uniq_job};
     ghost use Rattle.ptflow.specs.Uniqs.{uniq_tool};
     ghost use Rattle.ptrun.specs.Private.Joint.{one_input_tool};
 
     ghost tool = { λ job. one_input_tool (uniq_tool (uniq_job job)) };
-
-    ghost word = { λ job. codes "uniq" };
-
-    fn name(&self) -> &str {
-        "uniq"
-    }
 
     #[tactic(auto, using(crate::proofs::JointRuns::cell_opened))]
     fn run_on_all<S: Source, R: Source, W: Sink>(
@@ -179,10 +157,10 @@ impl<A: Allocator + Copy> Joint<A> for UniqJob {
         inputs: &mut [LineReader<S, R>],
         store: &mut Store<A>,
         out: &mut Out<W>,
-    ) -> Result<Option<Disorder>, FlowFault> {
+    ) -> Result<Completion, FlowFault> {
         let position = operands[0];
         match uniq(self, &mut inputs[position], store, out) {
-            Ok(()) => Ok(None),
+            Ok(()) => Ok(Completion::AllWritten),
             Err(fault) => Err(fault_at(position, fault)),
         }
     }

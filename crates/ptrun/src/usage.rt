@@ -5,7 +5,7 @@ ghost use Rattle.ptopts.specs.Faults.{Together};
 ghost use Rattle.ptopts.specs.View.{fault_view};
 ghost use Rattle.ptrun.specs.MessageWrites.{HasSaid, line_of};
 ghost use Rattle.ptrun.specs.Messages as texts;
-ghost use Rattle.ptrun.specs.Messages.{string_fault_text};
+ghost use Rattle.ptrun.specs.Private.Messages.{string_fault_text};
 ghost use Rattle.ptrun.specs.Calls.Runs.{usage_message, usage_status};
 
 use crate::messages::Messages;

@@ -76,7 +76,7 @@ module _ (standard : SourceState) (content : ℕ → List ℕ → Option Content
     IsUnread r = AreContents content count (input_names (valid_command r)) inputs
         → has_standard_output (valid_command r) ≡ false
         → output_names (valid_command r) (new_readers standard inputs) ≡ []
-        → (spec_of_result word r).reads_nothing (is_reader_unopened (new_readers standard inputs)) ≡ true
+        → (spec_of_result word r).beyond.reads_nothing (is_reader_unopened (new_readers standard inputs)) ≡ true
 
     -- `uniq` has one input, and an output file if its second operand names one.
     abbrev IsUniq : (List (List ℕ) → Option (List ℕ)) → List (List ℕ) → Type 0
@@ -147,7 +147,7 @@ pub nothing_is_read : (words : List (List ℕ)) (out_of_memory : Bool) (standard
     → AreContents content count (input_names (command_to_run words out_of_memory)) inputs
     → has_standard_output (command_to_run words out_of_memory) ≡ false
     → output_names (command_to_run words out_of_memory) (new_readers standard inputs) ≡ []
-    → (spec_unless_memory words out_of_memory).reads_nothing (is_reader_unopened (new_readers standard inputs)) ≡ true
+    → (spec_unless_memory words out_of_memory).beyond.reads_nothing (is_reader_unopened (new_readers standard inputs)) ≡ true
 nothing_is_read words true standard inputs count content are some none = refl
 nothing_is_read words false standard inputs count content are some none =
     of_args standard content count (tool_name words) inputs words are some none

@@ -48,7 +48,7 @@ written_of_the_first one bytes written failed k =
 nothing_of_a_small_file : HasBoundedLag (spec_of_args (words "cut -c 1 f g")) (first_complete (codes "ab\n")) 1
     (λ decided. IsWrittenUpToBlock decided [] false) → ⊥
 nothing_of_a_small_file k =
-    let cut = unwrap_or (spec_of_args (words "cut -c 1 f g")).sequential (λ given. []) in
+    let cut = unwrap_or (spec_of_args (words "cut -c 1 f g")).beyond.sequential (λ given. []) in
     let two : length (cut (complete (codes "ab\n"))) ≡ 2 = refl in
     omega (arith, two, (written_of_the_first cut (codes "ab\n") [] false k).1 refl)
 

@@ -102,7 +102,7 @@ module _ {old new : List Reader} {before : Sinks} {o : Outcome} where
       (λ (keeps, unwritten). unwritten w agrees written) (k.beyond.left memory)
 
 -- The slots that commands need: none for `tr`, for `cut` by bytes, and if no operand was opened.
-slot_bounds : map (λ (example : List (List ℕ) × InputBytes). (spec_of_args example.0).slot_bound example.1)
+slot_bounds : map (λ (example : List (List ℕ) × InputBytes). (spec_of_args example.0).beyond.slot_bound example.1)
     ((words "tr a b", Some (codes "a\n") ∷ [])
     ∷ (words "cut -b 1", Some (codes "a\n") ∷ [])
     ∷ (words "cut -f 1 f g", Some [] ∷ None ∷ Some (codes "a\n") ∷ [])

@@ -1,5 +1,5 @@
-//! Arguments that are no command: the message about each fault of each tool, and status 2. And the limit of 512
-//! operands: a command may have as many, and not one more.
+//! Arguments that are no command: the message about each fault of each tool, and status 2. And the limit of
+//! operands: 512 are accepted, and 513 are not.
 
 use crate::harness::Input::Text;
 use crate::harness::{case_over, expect, expect_usage_error};

@@ -1,4 +1,4 @@
-//! What is expected of a command line of any tool (`Expected`), and its test: one function parses the words,
+//! Tests a command line of any tool against what is expected of it (`Expected`): one function parses the words,
 //! and others compare the command. A function that owns values drops them at each of its exits, and each exit
 //! costs a proof.
 

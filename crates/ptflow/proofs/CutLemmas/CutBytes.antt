@@ -114,6 +114,12 @@ module _ {all : List Interval} {before count : ℕ} (bytes : List ℕ) {was : Li
         ≡ was ++ select_from (is_selected all) (before + 1) piece
     next = grind (usual, select_first)
 
+    -- the interval ends before the piece
+    pub copied_none : r.last ≤ before → CopyInvariant all (i + 1) before piece was is start at
+    copied_none passed =
+        let none = select_none (is_within r) (before + 1) piece (λ n from to. above r n (omega arith)) in
+        grind (arith, next, apart, append-nil)
+
     module _ (is' : List ℕ) where
       pub copied_ends : {from : ℕ} → from ≡ min (r.first - (before + 1)) count → before + count ≤ r.last
           → is' ≡ is ++ take (count - from) (drop from bytes)
@@ -272,10 +278,10 @@ module _ (selected : ℕ → Bool) where
   shuffle_next {index} {count} {row} {counts} {after} {one} low begun told after_is =
       grind (usual, length-set, stored_more, cases_eq, picked_parts)
 
-  pub none_later : {X : Type 0} {max_len start count : ℕ} (xs : List X)
-      → ((index : ℕ) → start < index → index ≤ max_len → selected index ≡ false) → start ≤ count → count ≤ max_len
-      → count ≤ length xs → select_from selected 1 (take start xs) ≡ select_from selected 1 (take count xs)
-  none_later {start} {count} xs past later upto within =
+  pub none_later : {start count : ℕ} (xs : List ℕ)
+      → ((index : ℕ) → start < index → index ≤ count → selected index ≡ false) → start ≤ count → count ≤ length xs
+      → select_from selected 1 (take start xs) ≡ select_from selected 1 (take count xs)
+  none_later {start} {count} xs past upto within =
       let whole : start + (count - start) ≡ count = omega arith in
       grind (arith, select_none, length-take, append-nil, select_append, take-add)
 
@@ -309,6 +315,17 @@ none_after (one ∷ more) low (suc n) {last} {index} separated few is later =
     grind arith
 
 -- ---- a line, piece by piece
+
+-- the bytes after the first `size` ones were copied after those
+pub rest_copied : (selected : ℕ → Bool) (bytes was : List ℕ) (before size count : ℕ) {is is' : List ℕ} → before ≡ size
+    → size ≤ count → count ≤ length bytes → is ≡ was ++ select_from selected 1 (take before bytes)
+    → is' ≡ is ++ select_from selected (size + 1) (take (count - size) (drop size bytes))
+    → is' ≡ was ++ select_from selected 1 (take count bytes)
+rest_copied selected bytes was before size count same upto within first then =
+    let whole : size + (count - size) ≡ count = omega arith in
+    let front : length (take size bytes) ≡ size = length-take-le size bytes (omega arith) in
+    let parts = take-add size (count - size) bytes in
+    grind (arith, append_assoc, select_append selected 1 (take size bytes) (take (count - size) (drop size bytes)))
 
 -- positions that are counted from a later byte on
 select_later : (selected : ℕ → Bool) (start n : ℕ) (xs : List ℕ)

@@ -1,19 +1,22 @@
-//! Compares two slices, or their first bytes, up to 16 bytes at once. `uniq` uses it.
+//! Compares two slices, or their first bytes, 16 at once. `uniq` uses it.
 
 ghost use Rattle.std.specs.Prelude.{◌≡◌, ◌≢◌, ◌≤◌, ◌+◌, MatchBool, bytes_eq, length, take, true};
 ghost use Rattle.std.specs.Simd.Lanes.{chunk};
 
 use std::simd::prelude::*;
 
-/// Whether the first `len` bytes of two slices are equal. False if `len` is above 16, or one of the slices has fewer
-/// than 16 bytes.
+/// Whether two slices begin with the same `len` bytes. False if `b` has fewer bytes than these, or fewer than 16.
 #[inline(always)]
-pub(crate) fn same_short_start(a: &[u8], b: &[u8], len: usize) -> bool
+pub(crate) fn same_start(a: &[u8], b: &[u8], len: usize) -> bool
+    requires { (len ≤ length a.now) × (length b.now ≤ length a.now) }
     ensures same { result ≡ true → take len a.now ≡ take len b.now }
     ensures within { result ≡ true → len ≤ length b.now }
 {
-    if len > 16 || a.len() < 16 || b.len() < 16 {
+    if b.len() < len.max(16) {
         return false;
+    }
+    if len > 16 {
+        return is_equal_long(&a[..len], &b[..len]);
     }
     let (a, b) = (u8x16::from_slice(a), u8x16::from_slice(b));
     len <= a.simd_eq(b).to_bitmask().trailing_ones() as usize

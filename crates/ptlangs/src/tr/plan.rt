@@ -119,6 +119,8 @@ impl CharPlan {
     ///
     /// The leftmost fault of `s1`, else that of `s2`, else a class of `s2` without its other case at the same offset of
     /// `s1`. `SetFaultKind::Memory` is never returned.
+    // Not inlined: where it is, its tables are copied on each way out of the parsing, which makes the program larger.
+    #[inline(never)]
     pub fn read(
         form: Form,
         complement: bool,

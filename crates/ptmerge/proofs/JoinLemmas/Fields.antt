@@ -1,7 +1,7 @@
 -- Fields of a line of `join`: how they are found by a split, where they are in the line, and how they are written, in
 -- several writes of which one may fail. A line is split by repeatedly taking the bytes before the first separator.
--- Joining undoes splitting, so a canonical line is written unchanged: its fields give the line back, and the fields
--- after a field are the bytes after it.
+-- Joining undoes splitting, so a line can be written unchanged: its fields give the line back, and the fields after a
+-- field are the bytes after it.
 use Rattle.ptmerge.proofs
 use Rattle.ptmerge.specs
 use Rattle.std.proofs.lemmas
@@ -25,7 +25,7 @@ use lemmas.List.Sums.{position_or_len_is}
 use Rattle.ptlangs.proofs.ListElements.{split_around, split_whole}
 use specs.Calls.Join.{join_key}
 use specs.Join.{or_filler, is_nonempty, field_named, nth_field}
-use specs.Private.JoinFields.{IsFieldFound, IsFirstPieceEnd, IsCanonical, IsFieldIn, IsPiece, around, HasOneLine}
+use specs.Private.JoinFields.{IsFieldFound, IsFirstPieceEnd, IsFieldIn, IsPiece, around, HasOneLine}
 use specs.Private.JoinFields.{IsUnchanged, is_evenly_separated}
 use specs.Private.Join.{entry_alone}
 use specs.Calls.KeySpan.{IsKeySpan}
@@ -271,31 +271,29 @@ single_spaced_words false (b ∷ bytes) tidy =
     let more = λ (h : is_single_spaced false bytes ≡ true). word_more c b _ (single_spaced_words false bytes h b) in
     grind (arith, more, single_spaced_words true bytes)
 
--- ---- canonical lines
+-- ---- lines that are written unchanged
 
-module _ (job : Join) (key : List ℕ) (none : job.list ≡ None) where
-  abbrev of : List ℕ → Lines
-  of line = join_fields job.separator line
+pub pair_is : (job : Join) (key : List ℕ) {one two : List ℕ} (end : ℕ) → IsUnchanged job First one
+    → IsUnchanged job Second two → join_key job First one ≡ key → join_key job Second two ≡ key
+    → one ++ take (length two - length key) (drop (length key) two) ++ end ∷ []
+    ≡ entry job key (join_fields job.separator one) (join_fields job.separator two) ++ end ∷ []
+pair_is job key {one} {two} end w1 w2 keyed1 keyed2 =
+    grind (usual, append_assoc, entry_plain job key (Some one) (Some two) w1.list)
 
-  pub pair_is : {one two : List ℕ} (end : ℕ) → IsCanonical job.separator job.field1 one
-      → IsCanonical job.separator job.field2 two → nth_field job.field1 (of one) ≡ key
-      → nth_field job.field2 (of two) ≡ key → one ++ take (length two - length key)
-      (drop (length key) two) ++ end ∷ [] ≡ entry job key (of one) (of two) ++ end ∷ []
-  pair_is {one} {two} end w1 w2 keyed1 keyed2 =
-      grind (usual, append_assoc, entry_plain job key (Some one) (Some two))
+first_is : (job : Join) (key : List ℕ) {line : List ℕ} → IsUnchanged job First line
+    → nth_field job.field1 (join_fields job.separator line) ≡ key
+    → line ≡ entry job key (join_fields job.separator line) []
+first_is job key {line} w keyed = grind (arith, entry_plain job key (Some line) None w.list, append-nil)
 
-  first_is : {line : List ℕ} → IsCanonical job.separator job.field1 line → nth_field job.field1 (of line) ≡ key
-      → line ≡ entry job key (of line) []
-  first_is {line} w keyed = grind (arith, entry_plain job key (Some line) None, append-nil)
-
-  second_is : {line : List ℕ} → IsCanonical job.separator job.field2 line → nth_field job.field2 (of line) ≡ key
-      → line ≡ entry job key [] (of line)
-  second_is {line} w keyed = grind (arith, entry_plain job key None (Some line))
+second_is : (job : Join) (key : List ℕ) {line : List ℕ} → IsUnchanged job Second line
+    → nth_field job.field2 (join_fields job.separator line) ≡ key
+    → line ≡ entry job key [] (join_fields job.separator line)
+second_is job key {line} w keyed = grind (arith, entry_plain job key None (Some line) w.list)
 
 pub alone_is : (job : Join) (key : List ℕ) (side : Side) {line : List ℕ} → IsUnchanged job side line
     → join_key job side line ≡ key → line ≡ entry_alone job side key line
-alone_is job key First w keyed = first_is job key w.list w.canonical keyed
-alone_is job key Second w keyed = second_is job key w.list w.canonical keyed
+alone_is job key First w keyed = first_is job key w keyed
+alone_is job key Second w keyed = second_is job key w keyed
 
 pub one_line_is : {job same : Join} {key k : List ℕ} (side : Side) (line : List ℕ) (one two : Option (List ℕ))
     → same ≡ job → k ≡ key → HasOneLine side line one two

@@ -43,16 +43,13 @@ entry_with_list job list k one two =
     join_with_byte (output_separator job.separator)
     (output_fields job k (remaining_fields job.separator one) (remaining_fields job.separator two) list)
 
--- A line that equals the output of its own fields, with the field of this number first, so that it can be written
--- unchanged.
-pub record IsCanonical (separator : Option ℕ) (number : ℕ) (line : List ℕ) : Type 0 where
-  pub first : number - 1 ≡ 0
-  pub is : with_prefix (output_separator separator) (join_fields separator line) ≡ output_separator separator ∷ line
-
--- The fields of this line of a file are written as they are in it: there is no output list, and the line is canonical.
+-- The fields of this line of a file are written as they are in it: there is no output list, the join field is the
+-- first, and the line equals the output of its own fields.
 pub record IsUnchanged (job : Join) (side : Side) (line : List ℕ) : Type 0 where
   pub list : job.list ≡ None
-  pub canonical : IsCanonical job.separator (both job.field1 job.field2 side) line
+  pub first : both job.field1 job.field2 side - 1 ≡ 0
+  pub is : with_prefix (output_separator job.separator) (join_fields job.separator line)
+      ≡ output_separator job.separator ∷ line
 
 -- This line is the only one, of its file.
 abbrev pub HasOneLine : Side → List ℕ → Option (List ℕ) → Option (List ℕ) → Type 0

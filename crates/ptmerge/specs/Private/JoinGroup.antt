@@ -3,7 +3,6 @@
 -- slot `end` is the one after the copied lines, and is 4 if there are none.
 use Rattle.std.specs.Prelude.{◌≡◌, ◌⊎◌, ℕ, ◌==◌, if◌then◌else◌, ◌+◌, ◌-◌, ◌≤◌, ◌<◌, true, false, Bool, List, length}
 use Rattle.std.specs.Prelude.{take, drop, max, Result, Ok, Err}
-use Rattle.ptlangs.specs.Jobs.{Join}
 use Rattle.ptlines.specs.ByteOrder.{Cmp}
 use Rattle.ptlines.specs.Calls.Outputs.{Output}
 use Rattle.ptlines.specs.Calls.Slots.{line, with_line, with_new_slot}
@@ -12,7 +11,6 @@ use Rattle.ptlines.specs.Slots.{Slots, total_bytes}
 use Rattle.ptmerge.specs.Calls.Cursor.{NextErrPost, NextOkPost}
 use Rattle.ptmerge.specs.MergeSpec.{Lines}
 use Rattle.ptmerge.specs.Orders.{Key}
-use Rattle.ptmerge.specs.Private.JoinFields.{IsUnchanged}
 use Rattle.ptmerge.specs.Private.WriteAndAdvance.{WriteFaultPost}
 use Rattle.ptmerge.specs.declared.faults.MergeFault.{MergeFault}
 use Rattle.ptmerge.specs.declared.faults.MergeFault.TheVariants.{Memory, Write}
@@ -124,8 +122,3 @@ pub record IsGroup (key : Key) (second : Sorted) (store : Slots) (end : ℕ) (k 
   pub within : (4 ≤ end) × (end ≤ length store.lines)
   pub keyed : (slot : ℕ) → group_first_slot second end ≤ slot → slot < group_end_slot second end
       → key (line store slot) ≡ k
-
--- The fields of each line of the group are written as they are in it.
-abbrev pub IsGroupUnchanged : Join → Sorted → Slots → ℕ → Type 0
-IsGroupUnchanged job second store end = (slot : ℕ) → group_first_slot second end ≤ slot
-    → slot < group_end_slot second end → IsUnchanged job Second (line store slot)

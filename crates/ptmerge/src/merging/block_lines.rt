@@ -4,8 +4,7 @@
 
 ghost use Rattle.memchr.specs.Find.{IsFirstByte, is_byte};
 ghost use Rattle.std.specs.Prelude.{◌≡◌, IfSome};
-ghost use Rattle.ptmerge.specs.Calls.Sides.{both};
-ghost use Rattle.ptmerge.specs.Private.BlockLines.{AreReached, HasKey, IsInBlock, IsNextLine, IsReached, IsWholeKey};
+ghost use Rattle.ptmerge.specs.Private.BlockLines.{HasKey, IsInBlock, IsNextLine, IsReached, IsWholeKey};
 ghost use Rattle.ptmerge.specs.Private.BlockLines.{further_lines, lines_if_any};
 
 use crate::key_order::{KeyOrder, Side};
@@ -65,22 +64,6 @@ pub(crate) struct BlockRun {
 }
 
 impl<'a> BlockLine<'a> {
-    // Returns the current line of an input, before others are passed.
-    #[inline(always)]
-    pub(crate) fn new(head: &'a [u8], key: &'a [u8], rest: &'a [u8]) -> BlockLine<'a>
-        ensures bytes { (result.head.now ≡ head.now) × (result.rest.now ≡ rest.now) }
-        ensures key { result.key.now ≡ key.now }
-        ensures passed { result.passed ≡ 0 }
-    {
-        BlockLine {
-            head,
-            key,
-            rest,
-            passed: 0,
-            same: false,
-        }
-    }
-
     // Returns the next line, if it ends in the block and is in order.
     #[inline(always)]
     pub(crate) fn next<K: KeyOrder>(
@@ -167,18 +150,5 @@ impl<'a> KeyLines<'a> {
             rest: &self.rest[end + 1..],
             more: self.more - 1,
         })
-    }
-}
-
-impl BlockRun {
-    // Returns the end of a merge before these lines, which are not passed.
-    #[inline(always)]
-    pub(crate) fn before(first: BlockLine, second: BlockLine) -> BlockRun
-        ensures { AreReached (both first.entry second.entry) result }
-    {
-        BlockRun {
-            first: first.reached(),
-            second: second.reached(),
-        }
     }
 }

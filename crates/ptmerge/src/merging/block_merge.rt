@@ -107,24 +107,24 @@ fn merge_lines<K: KeyOrder, T: MergeWriter, W: Sink>(
         match order.cmp(one.key, two.key) {
             Ordering::Less => {
                 let Some(next) = one.next(order, First, terminator) else {
-                    return Ok(BlockRun::before(one, two));
+                    break;
                 };
                 tool.write_alone(First, one.key, one.head, terminator, out)?;
                 one = next;
             }
             Ordering::Greater => {
                 let Some(next) = two.next(order, Second, terminator) else {
-                    return Ok(BlockRun::before(one, two));
+                    break;
                 };
                 tool.write_alone(Second, two.key, two.head, terminator, out)?;
                 two = next;
             }
             Ordering::Equal => {
                 let Some(next1) = one.next(order, First, terminator) else {
-                    return Ok(BlockRun::before(one, two));
+                    break;
                 };
                 let Some(next2) = two.next(order, Second, terminator) else {
-                    return Ok(BlockRun::before(one, two));
+                    break;
                 };
                 if by_pairs || !(next1.same || next2.same) {
                     tool.write_both(one.key, one.head, two.head, terminator, out)?;
@@ -133,10 +133,10 @@ fn merge_lines<K: KeyOrder, T: MergeWriter, W: Sink>(
                     continue;
                 }
                 let Some(firsts) = one.whole_key(next1, order, First, terminator) else {
-                    return Ok(BlockRun::before(one, two));
+                    break;
                 };
                 let Some(seconds) = two.whole_key(next2, order, Second, terminator) else {
-                    return Ok(BlockRun::before(one, two));
+                    break;
                 };
                 write_rows(tool, one.key, firsts.lines, seconds.lines, terminator, out)?;
                 one = firsts.after;
@@ -144,6 +144,10 @@ fn merge_lines<K: KeyOrder, T: MergeWriter, W: Sink>(
             }
         }
     }
+    Ok(BlockRun {
+        first: one.reached(),
+        second: two.reached(),
+    })
 }
 
 // Merges the lines of both blocks where they are.
@@ -195,13 +199,11 @@ fn pass_lines<K: KeyOrder, T: MergeWriter, W: Sink>(
         OnErr result (HasFailedAlone tool side first.entry out.old out.new) }
 {
     let mut line = first;
-    'lines: loop {
-        let Some(next) = line.next(order, side, terminator) else {
-            return Ok(line.reached());
-        };
+    'lines: while let Some(next) = line.next(order, side, terminator) {
         tool.write_alone(side, line.key, line.head, terminator, out)?;
         line = next;
     }
+    Ok(line.reached())
 }
 
 // Passes the lines of an input's block where they are, while the other input has ended.

@@ -4,12 +4,12 @@
 //! a line into fields, `output` writes an output line, and `separators` and `words` find separators and blanks by
 //! `masks`.
 
-ghost use Rattle.std.specs.Prelude.{◌≡◌, ℕ, List, ◌∷◌, [], Err, IfErr, IfOk, OnOk, true};
+ghost use Rattle.std.specs.Prelude.{◌≡◌, ℕ, List, ◌∷◌, [], Err, IfErr, IfOk, OnOk};
 ghost use Rattle.ptlangs.specs.Jobs.{join_job};
 ghost use Rattle.ptlines.specs.Calls.Outputs.{PushEffect};
 ghost use Rattle.ptlines.specs.Calls.Slots.{line};
 ghost use Rattle.ptlines.specs.Text.{unlines};
-ghost use Rattle.ptmerge.specs.Private.JoinGroup.{IsGroup, IsGroupUnchanged, group_lines};
+ghost use Rattle.ptmerge.specs.Private.JoinGroup.{IsGroup, group_lines};
 ghost use Rattle.ptmerge.specs.Private.MergeCall.{MergeRunPre};
 ghost use Rattle.ptmerge.specs.Calls.MergeCall.{MergePost, MergePre, merge_state};
 ghost use Rattle.ptmerge.specs.Calls.MergeSteps.{AreValidCursors};
@@ -38,8 +38,8 @@ use crate::merging::four_slots::clear_four_slots;
 use crate::merging::writer::pass_line;
 use crate::merging::{Merge, Step};
 use crate::tools::join::field_keys::FieldKeys;
-use crate::tools::join::key_group::{Group, WholeGroup};
-use crate::tools::join::output::{Pair, is_unchanged, write_pair};
+use crate::tools::join::key_group::Group;
+use crate::tools::join::output::write_pair;
 use ptlangs::jobs::JoinJob;
 use ptlines::{LineReader, Out, Sink, Source, Store, WriteFault};
 use std::alloc::Allocator;
@@ -49,7 +49,7 @@ use std::alloc::Allocator;
 fn write_pair_entries<K: KeyOrder, A: Allocator + Copy, B: Allocator, W: Sink>(
     merge: &Merge<K>,
     job: &JoinJob<B>,
-    group: WholeGroup,
+    group: Group,
     store: &Store<A>,
     terminator: u8,
     out: &mut Out<W>,
@@ -59,12 +59,10 @@ fn write_pair_entries<K: KeyOrder, A: Allocator + Copy, B: Allocator, W: Sink>(
     requires keys { (line : List ℕ) → K.key_of merge.now.order sides.First line
         ≡ join_key (join_job job.now) sides.First line }
     requires group { let key = K.key_of merge.now.order sides.First (line store.now merge.now.first.current_slot) in
-        IsGroup (join_key (join_job job.now) sides.Second) merge.now.second store.now group.lines.end key }
-    requires unchanged { group.unchanged ≡ true
-        → IsGroupUnchanged (join_job job.now) merge.now.second store.now group.lines.end }
+        IsGroup (join_key (join_job job.now) sides.Second) merge.now.second store.now group.end key }
     ensures { let current = line store.now merge.now.first.current_slot in
         let key = K.key_of merge.now.order sides.First current in
-        let lines = group_lines merge.now.second store.now group.lines.end in
+        let lines = group_lines merge.now.second store.now group.end in
         let pairs = pair_entries (join_job job.now) key (current ∷ []) lines in
         WriteBytesPost out.old out.new (unlines terminator pairs) result }
 {
@@ -73,18 +71,9 @@ fn write_pair_entries<K: KeyOrder, A: Allocator + Copy, B: Allocator, W: Sink>(
     }
     let key = merge.key(First, store);
     let one = merge.head(First, store);
-    let one_unchanged = is_unchanged(job, First, one);
-    let slots = group.lines.slots(merge);
+    let slots = group.slots(merge);
     for slot in slots.start..slots.end {
-        let two = store.line(slot);
-        let pair = Pair {
-            key,
-            one,
-            two,
-            one_unchanged,
-            two_unchanged: group.unchanged,
-        };
-        write_pair(job, pair, terminator, out)?;
+        write_pair(job, key, one, store.line(slot), terminator, out)?;
     }
     Ok(())
 }
@@ -94,7 +83,7 @@ fn write_pair_entries<K: KeyOrder, A: Allocator + Copy, B: Allocator, W: Sink>(
 fn write_pairs<K: KeyOrder, A: Allocator + Copy, B: Allocator, S: Source, R: Source, W: Sink>(
     merge: &mut Merge<K>,
     job: &JoinJob<B>,
-    group: WholeGroup,
+    group: Group,
     reader: &mut LineReader<S, R>,
     store: &mut Store<A>,
     out: &mut Out<W>,
@@ -103,12 +92,10 @@ fn write_pairs<K: KeyOrder, A: Allocator + Copy, B: Allocator, S: Source, R: Sou
         WriteThenAdvancePre (join_tool (join_job job.now)) key sides.First merge.old.first merge.old.second
         reader.old store.old out.old }
     requires group { let key = K.key_of merge.old.order sides.First (line store.old merge.old.first.current_slot) in
-        IsGroup (join_key (join_job job.now) sides.Second) merge.old.second store.old group.lines.end key }
-    requires unchanged { group.unchanged ≡ true
-        → IsGroupUnchanged (join_job job.now) merge.old.second store.old group.lines.end }
+        IsGroup (join_key (join_job job.now) sides.Second) merge.old.second store.old group.end key }
     ensures wrote { let current = line store.old merge.old.first.current_slot in
         let key = K.key_of merge.old.order sides.First current in
-        let lines = group_lines merge.old.second store.old group.lines.end in
+        let lines = group_lines merge.old.second store.old group.end in
         let pairs = pair_entries (join_job job.now) key (current ∷ []) lines in
         PushEffect out.old out.new (unlines reader.old.terminator pairs) }
     ensures has_more { IfOk result (λ has_more. has_more ≡ merge.new.first.same) }
@@ -151,13 +138,8 @@ fn join_with_order<K: KeyOrder, A: Allocator + Copy, B: Allocator, S: Source, R:
             Step::Both => {
                 let mut group = Group::new();
                 'lines: while group.read_line(&mut merge, job.pairs, second, store, out)? {}
-                let unchanged = group.is_unchanged(&merge, job, store);
-                let whole = WholeGroup {
-                    lines: group,
-                    unchanged,
-                };
-                'pairs: while write_pairs(&mut merge, job, whole, first, store, out)? {}
-                whole.lines.clear(store);
+                'pairs: while write_pairs(&mut merge, job, group, first, store, out)? {}
+                group.clear(store);
             }
             Step::End => {
                 clear_four_slots(store);

@@ -1,7 +1,7 @@
 -- The contracts between a tool and the driver that runs it: the conditions before and after each of the driver's steps,
 -- and the specification of a tool over its operands.
 use Rattle.std.specs.Prelude.{◌≡◌, ◌⊎◌, ℕ, ◌+◌, ◌<◌, ◌≤◌, Bool, true, false, List, [], All}
-use Rattle.std.specs.Prelude.{None, Option, Some, Result, Ok, Err, length, max}
+use Rattle.std.specs.Prelude.{None, Result, Ok, Err, length, max}
 use Rattle.std.specs.List.{list_any}
 use Rattle.ptflow.specs.ToolSpec.{ToolSpec}
 use Rattle.ptflow.specs.declared.faults.FlowFault.{FlowFault}
@@ -34,9 +34,8 @@ use Rattle.ptrun.specs.Private.Messages.{unopened_messages}
 use Rattle.ptrun.specs.Private.Sequential.{sequential_spec}
 use Rattle.ptrun.specs.Runs.{HasCause, IsRunInStore, IsStoreUnchangedIfUnread, IsUnchangedIfUnread}
 use Rattle.ptrun.specs.Runs.{Outcome, Sinks}
-use Rattle.ptrun.specs.declared.driver.Completion.{Completion}
-use Rattle.ptrun.specs.declared.driver.Completion.TheVariants.{AllWritten, Disordered, Unopened}
-use Rattle.ptrun.specs.declared.tool.Disorder.{Disorder}
+use Rattle.ptrun.specs.declared.tool.Completion.{Completion}
+use Rattle.ptrun.specs.declared.tool.Completion.TheVariants.{AllWritten, Disordered, Unopened}
 
 -- ---- the specification of a tool over the operands of the code
 
@@ -56,8 +55,8 @@ pub record InputsPre (m : CommandSpec) (inputs : List Reader) : Type 0 where
   pub fresh : All IsNewOrUnopened inputs
   pub in_range : All (λ p. p < length inputs) m.positions
   pub named : length inputs ≡ length m.names + 1
-  pub accepts_operands : m.accepts ≡ true
-  pub few : m.sequential ≡ None → length m.positions ≤ 512
+  pub accepts_operands : m.beyond.accepts ≡ true
+  pub few : m.beyond.sequential ≡ None → length m.positions ≤ 512
 
 -- The invariants of the readers at these positions hold.
 abbrev pub AreSoundAt : List ℕ → List Reader → Type 0
@@ -85,7 +84,7 @@ pub record RunInputsPre (m : CommandSpec) (inputs : List Reader) (out : Output) 
 abbrev pub result_message : List ℕ → List (List ℕ) → Result Completion FlowFault → List ℕ
 result_message tool names (Ok AllWritten) = []
 result_message tool names (Ok Unopened) = []
-result_message tool names (Ok (Disordered found)) = disorder_message tool names found.position found.line
+result_message tool names (Ok (Disordered position line)) = disorder_message tool names position line
 result_message tool names (Err fault) = fault_message tool names fault
 
 -- The exit status after this result.
@@ -95,7 +94,7 @@ result_status _ = 1
 
 -- The input that the result names, if any, is one of `count` inputs.
 abbrev pub HasIndexBelow : ℕ → Result Completion FlowFault → Type 0
-HasIndexBelow count (Ok (Disordered found)) = found.position < count
+HasIndexBelow count (Ok (Disordered position line)) = position < count
 HasIndexBelow count (Err (Read position)) = position < count
 HasIndexBelow count _ = Unit {0}
 
@@ -134,18 +133,12 @@ abbrev pub run_state : List Reader → Output → Slots → CallState ℕ
 run_state readers out store = call_state (reader_at readers) out store
 
 -- The result of a tool that reads its operands together, by how the call ended.
-abbrev pub result_of_end : CallEnd ℕ → Result (Option Disorder) FlowFault
-result_of_end Complete = Ok None
-result_of_end (OutOfOrder position line) = Ok (Some (record { position = position; line = line }))
+abbrev pub result_of_end : CallEnd ℕ → Result Completion FlowFault
+result_of_end Complete = Ok AllWritten
+result_of_end (OutOfOrder position line) = Ok (Disordered position line)
 result_of_end (ReadFault position) = Err (Read position)
 result_of_end WriteFault = Err Write
 result_of_end MemoryFault = Err Memory
-
--- That result as the result of a run.
-abbrev pub joint_completion : Result (Option Disorder) FlowFault → Result Completion FlowFault
-joint_completion (Ok None) = Ok AllWritten
-joint_completion (Ok (Some found)) = Ok (Disordered found)
-joint_completion (Err fault) = Err fault
 
 -- ---- processing the inputs
 
@@ -156,7 +149,7 @@ fault_at p Write = Write
 fault_at p Memory = Memory
 
 -- The result of a merge, with the position of each side.
-abbrev pub merge_found : (Side → ℕ) → Result (Unit {0}) MergeFault → Result (Option Disorder) FlowFault
+abbrev pub merge_found : (Side → ℕ) → Result (Unit {0}) MergeFault → Result Completion FlowFault
 merge_found position result = result_of_end (end_at position (merge_end result))
 
 -- All operands are done, the whole output was pushed, and no call failed.
@@ -205,7 +198,7 @@ pub record RunInputsPost (m : CommandSpec) (old new : List Reader) (was is : Out
   pub bounded_lag : HasBoundedLag m received operands_done (λ decided. IsPushedUpToBlock decided was is pushed)
   pub peak : (w : InputBytes) → AreInputsConsistent received w → store.peak ≤ max before.peak (m.memory_bound w)
   pub slots : (w : InputBytes) → AreInputsConsistent received w
-      → length store.lines ≤ max (length before.lines) (m.slot_bound w)
+      → length store.lines ≤ max (length before.lines) (m.beyond.slot_bound w)
 
 -- The postcondition of a run with a lent store: the peak that it reports, and whether memory was denied, are the
 -- store's own, and if it reads nothing, then inputs, store and output are unchanged.
@@ -237,7 +230,7 @@ pub record JointPre (t : JointTool) (positions : List ℕ) (inputs : List Reader
 -- The postcondition of such a tool: what its engine has done over the inputs at these positions. Other inputs have no
 -- part in the decided output.
 pub record JointPost (t : JointTool) (positions : List ℕ) (old new : List Reader) (was is : Output)
-    (before store : Slots) (result : Result (Option Disorder) FlowFault) : Type 0 where
+    (before store : Slots) (result : Result Completion FlowFault) : Type 0 where
   pub end : CallEnd ℕ
   pub result_is : result ≡ result_of_end end
   pub call : CallPost (inputs_at positions) (in_run (t.engine positions)) (run_state old was before)

@@ -54,15 +54,17 @@ joint_spec word t names positions = record {
   out = λ w. if has_unopened positions w then [] else (t.engine positions).text (bytes_of w);
   status = λ w. if has_unopened positions w then 1 else disorder_status ((t.engine positions).disorder (bytes_of w));
   memory_bound = λ w. if has_unopened positions w then 0 else (t.engine positions).size (bytes_of w);
-  slot_bound = λ w. if has_unopened positions w then 0 else (t.engine positions).slots (bytes_of w);
-  keeps_groups = (t.engine positions).keeps_groups;
   decided = λ r. if has_unopened positions r then [] else (t.engine positions).decided (received_in r);
-  sequential = None;
   final_message = λ w. if has_unopened positions w then [] else disorder_text word names
       ((t.engine positions).disorder (bytes_of w));
-  reads_nothing = λ is_unopened_at. list_any is_unopened_at positions;
-  accepts = t.accepts positions;
   positions = positions;
   tool = word;
   names = names;
+  beyond = record {
+    slot_bound = λ w. if has_unopened positions w then 0 else (t.engine positions).slots (bytes_of w);
+    keeps_groups = (t.engine positions).keeps_groups;
+    sequential = None;
+    reads_nothing = λ is_unopened_at. list_any is_unopened_at positions;
+    accepts = t.accepts positions;
+  };
 }

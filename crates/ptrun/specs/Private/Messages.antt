@@ -1,6 +1,13 @@
--- The messages about unopened files, and what a line out of order gives.
-use Rattle.std.specs.Prelude.{ℕ, Bool, List, [], Option, Some, None, flat_map, if◌then◌else◌}
-use Rattle.ptrun.specs.Messages.{disorder_message, name_of, unopened_message}
+-- The messages about unopened files and about a string of `tr`, and what a line out of order gives.
+use Rattle.std.specs.Prelude.{ℕ, Bool, List, [], ◌∷◌, Option, Some, None, codes, flat_map, if◌then◌else◌}
+use Rattle.ptlangs.specs.declared.faults.SetFault.{SetFault}
+use Rattle.ptrun.specs.MessageWrites.{line_of}
+use Rattle.ptrun.specs.Messages.{disorder_message, kind_word, name_of, string_word, unopened_message}
+
+-- The message about an invalid string operand of `tr`.
+abbrev pub string_fault_text : SetFault → List ℕ
+string_fault_text fault =
+    line_of (codes "tr: wrong " ∷ string_word fault.string ∷ codes ": " ∷ kind_word fault.kind ∷ [])
 
 -- A message for each position that passes the test, in order: its file could not be opened.
 abbrev pub unopened_messages : List ℕ → List (List ℕ) → (ℕ → Bool) → List ℕ → List ℕ

@@ -37,14 +37,16 @@ sequential_spec word t names positions = record {
   out = λ w. sequential_output t w positions;
   status = λ w. if list_any (is_unopened w) positions then 1 else 0;
   memory_bound = λ w. sequential_bound t w positions;
-  slot_bound = λ w. sequential_slots t w positions;
-  keeps_groups = false;
   decided = λ r. sequential_decided t r positions;
-  sequential = Some t.decided;
   final_message = λ w. [];
-  reads_nothing = λ is_unopened_at. false;
-  accepts = true;
   positions = positions;
   tool = word;
   names = names;
+  beyond = record {
+    slot_bound = λ w. sequential_slots t w positions;
+    keeps_groups = false;
+    sequential = Some t.decided;
+    reads_nothing = λ is_unopened_at. false;
+    accepts = true;
+  };
 }

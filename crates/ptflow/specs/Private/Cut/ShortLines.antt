@@ -31,11 +31,11 @@ piece_at pieces k = slice_index_or pieces k (record { row = []; counts = [] })
 abbrev pub selected_after : (ℕ → Bool) → ℕ → ℕ → Bool
 selected_after selected start index = selected (start + index)
 
--- Each 16 bytes that are cut so have their shuffle. No position after them up to `max_len` is selected.
+-- Each 16 bytes that are cut so have their shuffle. No position after the last one is selected.
 pub record AreLineShuffles (selected : ℕ → Bool) (shuffles : LineShuffles) : Type 0 where
   pub few : shuffles.count ≤ 8
   pub pieces : (k : ℕ) → k < 8 → IsPieceShuffle (selected_after selected (16 * k)) (piece_at shuffles.pieces k)
-  pub max_len : (index : ℕ) → 16 * shuffles.count < index → index ≤ shuffles.max_len → selected index ≡ false
+  pub last : (index : ℕ) → shuffles.last < index → selected index ≡ false
 
 -- two proofs of `AreSeparated` are equal, as a ghost field requires
 pub AreSeparated-prop : (low : ℕ) (list : List Interval) → IsProp (AreSeparated low list)

@@ -12,6 +12,7 @@ use Rattle.ptflow.specs.PasteText.{uses_of, join_with_cycle, columns, rows}
 use Rattle.ptflow.specs.Private.Paste.RowCells.{RowShape, BegunText, CellsFilled, cells_text}
 use Rattle.ptflow.specs.Private.Paste.TakenLines.{LinesTaken}
 use Rattle.ptflow.specs.declared.tools.paste.buffered_rows.CopiedField.{CopiedField}
+use Rattle.ptlines.specs.declared.sizes.TheConstants.{BLOCK}
 
 -- Each column has a reader, which is readable and has the terminator of the rows.
 pub record BufferedRowsPre (row : RowShape) (readers : List Reader) : Type 0 where
@@ -44,6 +45,12 @@ pub record RowsTaken (row : RowShape) (old new : List Reader) (written : List �
   pub first_rows : AreFirstRows row old new ls taken_rows
   pub least : sum_by budget new ≤ sum_by budget old
   pub is : written ≡ unlines row.terminator (map (join_with_cycle row.delims 0) taken_rows)
+
+-- The line at the start of `bytes`, which has `size` bytes, was copied to the index `at`, and fits into the block.
+pub record IsLineCopied (end : ℕ) (bytes : List ℕ) (at : ℕ) (old new : List ℕ) (size : ℕ) : Type 0 where
+  pub found : IsFirstByte (is_byte end) bytes (Some size)
+  pub fits : at + size < BLOCK
+  pub is : take (at + size) new ≡ take at old ++ take size bytes
 
 -- The line at the start of a buffer was appended to the copied bytes, and consumed.
 pub record LineCopied (end : ℕ) (old new : Reader) (before after : List ℕ) : Type 0 where

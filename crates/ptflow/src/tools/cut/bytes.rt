@@ -1,6 +1,6 @@
 //! `cut -b` and `cut -c`: selects bytes of each line, block by block (`ByteCut`, which `run_blocks` runs). Most lines
-//! are cut by byte shuffles; a long line, or one that begins in an earlier block, is cut interval by interval. `cut`
-//! calls it.
+//! are cut by byte shuffles; the rest of a long line, or a line that begins in an earlier block, is cut interval by
+//! interval. `cut` calls it.
 
 ghost use Rattle.std.specs.Prelude.{◌≡◌, ◌<◌, ◌≤◌, ◌+◌, ◌*◌, ◌++◌, ◌∷◌, ℕ, List, [], length, take, drop};
 ghost use Rattle.ptlangs.specs.Calls.CutLists.{AreSeparated};
@@ -60,6 +60,9 @@ impl Selection<'_> {
         let last = line.line_offset + count as u64;
         let mut at = line.at;
         for interval in self.selected {
+            if interval.last <= line.line_offset {
+                continue;
+            }
             let from = interval.first.saturating_sub(line.line_offset + 1) as usize;
             if last <= interval.last {
                 let from = from.min(count);
@@ -101,11 +104,11 @@ impl Selection<'_> {
         at + usize::from(self.shuffles.pieces[index].counts[count])
     }
 
-    // Copies the selected bytes of a line, which is the first `count` bytes, piece by piece. Returns the index after
-    // the copied bytes. Out of line, to keep registers free in the copy of short lines (`cut -c 2-4`).
+    // Copies the selected bytes of a line, which is the first `count` bytes, piece by piece, and then those after the
+    // pieces. Returns the index after the copied bytes. Out of line, to keep registers free in the copy of short lines
+    // (`cut -c 2-4`).
     #[inline(never)]
     fn copy_pieces(&self, line: &[u8], count: usize, into: &mut PaddedBlock, mut at: usize) -> usize
-        requires few { count ≤ self.now.shuffles.max_len }
         requires within { count + 16 ≤ length line.now }
         requires room { HasRoom 0 at (count + 1) }
         ensures copied { take result into.new
@@ -113,18 +116,25 @@ impl Selection<'_> {
         ensures near { result ≤ at + count }
     {
         for index in 0..self.shuffles.count {
-            let rest = (count - 16 * index).min(16);
-            at = self.copy16(index, line, rest, into, at);
-            if rest < 16 {
+            let rest = count - 16 * index;
+            at = self.copy16(index, line, rest.min(16), into, at);
+            if rest <= 16 {
                 return at;
             }
         }
-        at
+        let start = 16 * self.shuffles.count;
+        let line_offset = start as u64;
+        let rest = Line {
+            start,
+            line_offset,
+            at,
+        };
+        self.copy_selected(line, rest, count - start, into)
     }
 
     // Copies the selected bytes of a line of `count` bytes, and the terminator. Returns the index after the copied
-    // bytes. The caller guarantees 16 readable bytes after the line, so no other bound is checked if the line has at
-    // most 16 bytes, which are one piece.
+    // bytes. The caller guarantees 16 readable bytes after the line, so no other bound is checked if all selected bytes
+    // are in its first piece.
     #[inline(always)]
     fn copy_line(&self, block: &[u8], line: Line, count: usize, into: &mut PaddedBlock) -> usize
         requires within { line.start + count + 16 ≤ length block.now }
@@ -141,8 +151,10 @@ impl Selection<'_> {
             self.copy_selected(block, line, count, into)
         } else if is_short {
             self.copy16(0, bytes, count, into, line.at)
+        } else if self.shuffles.last <= 16 {
+            self.copy16(0, bytes, 16, into, line.at)
         } else {
-            self.copy_pieces(bytes, count, into, line.at)
+            self.copy_pieces(bytes, count.min(self.shuffles.last), into, line.at)
         };
         into[end] = self.terminator;
         end + 1

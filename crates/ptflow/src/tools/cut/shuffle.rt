@@ -16,12 +16,13 @@ pub(crate) struct PieceShuffle {
     pub counts: [u8; 17],
 }
 
-// The shuffles for the first bytes of a line, 16 bytes each. `count` is how many of them are used, and `max_len` the
-// maximum length of a line of which nothing after their bytes is selected.
+// The shuffles for the first bytes of a line, 16 bytes each, of which `count` are used. No position after `last` is
+// selected. Lines of up to `max_len` bytes are cut by shuffles.
 #[derive(Clone, Copy)]
 pub(crate) struct LineShuffles {
     pub pieces: [PieceShuffle; 8],
     pub count: usize,
+    pub last: usize,
     pub max_len: usize,
 }
 
@@ -57,8 +58,8 @@ fn last_selected<A: Allocator>(list: &Ranges<A>) -> u64
 }
 
 impl LineShuffles {
-    // The shuffles for a list. `count` of them reach its last position or, if that is later, byte 128 of a line. If there
-    // are at most two ranges, they reach byte 64, since in a longer line copying the ranges is faster.
+    // The shuffles for a list, up to its last position, but at most for 128 bytes of a line. In a line of more than 64
+    // bytes, copying one or two ranges is faster.
     pub(crate) fn of<A: Allocator>(list: &Ranges<A>) -> LineShuffles
         ensures { AreLineShuffles (is_selected list.now) result }
     {
@@ -67,15 +68,12 @@ impl LineShuffles {
             pieces[index] = PieceShuffle::of(list, 16 * index);
         }
         let last = last_selected(list);
-        let limit = if list.intervals().len() > 2 { 128 } else { 64 };
+        let use_all = list.intervals().len() > 2 || last <= 64;
         LineShuffles {
             pieces,
-            count: last.min(limit).div_ceil(16) as usize,
-            max_len: if last <= limit {
-                usize::MAX
-            } else {
-                limit as usize
-            },
+            count: last.min(128).div_ceil(16) as usize,
+            last: last as usize,
+            max_len: if use_all { usize::MAX } else { 64 },
         }
     }
 }

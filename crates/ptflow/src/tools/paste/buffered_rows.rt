@@ -3,13 +3,14 @@
 //! its segments. A row that is only begun is moved to the front, and lines from slots are added to it. Used by
 //! `paste`.
 
-ghost use Rattle.std.specs.Prelude.{◌≡◌, ◌<◌, ◌≤◌, ◌+◌, ◌%◌, ◌++◌, false, length, take, List, IfNone};
+ghost use Rattle.std.specs.Prelude.{◌≡◌, ◌<◌, ◌≤◌, ◌+◌, ◌%◌, ◌++◌, false, length, take, drop, List, IfNone};
 ghost use Rattle.std.specs.Prelude.{IfSome};
+ghost use Rattle.memchr.specs.Find.{IsFirst, Passes, is_byte};
 ghost use Rattle.ptlines.specs.Readers.{Reader};
 ghost use Rattle.ptlines.specs.Calls.Readers.{IsSound};
 ghost use Rattle.ptflow.specs.Private.Paste.RowCells.{after_cell, begun_after, begun_in, shape_of};
 ghost use Rattle.ptflow.specs.Private.Paste.BufferedRows.{BufferedRowsPre, CopyCellPost, CopyColumnsPost, CopyRowsPost};
-ghost use Rattle.ptflow.specs.Private.Paste.BufferedRows.{LineCopied};
+ghost use Rattle.ptflow.specs.Private.Paste.BufferedRows.{IsLineCopied, LineCopied};
 ghost use Rattle.ptflow.specs.Private.Paste.Segments.{AreSegments};
 
 use crate::simd::find_nth::find_by_mask;
@@ -18,39 +19,56 @@ use crate::tools::paste::segments::{Segment, has_ended_column, segments};
 use ptlines::{BLOCK, LineReader, PaddedBlock, Source, copy_short, find_in_chunk};
 use std::simd::prelude::*;
 
-// Copies the next line of a reader to `at` and consumes it, if it ends within the next `N` bytes: the vector that is
-// searched for the terminator is stored as it is. Returns the offset after the copy. The line is consumed before the
-// vector is stored, so that the position of the reader is not loaded again (`paste` of 2 files).
+// Copies the 16 bytes from `from` on to `at`. Returns the index of the first terminator among them.
 #[inline(always)]
-fn copy_line_in<const N: usize, S: Source, R: Source>(
+fn copy_16(
     terminator: u8,
-    reader: &mut LineReader<S, R>,
+    bytes: &[u8],
+    from: usize,
     into: &mut PaddedBlock,
     at: usize,
 ) -> Option<usize>
-    requires { N ≤ 64 }
-    ensures line { IfSome result
-        (λ end. LineCopied terminator reader.old reader.new (take at into.old) (take end into.new)) }
-    ensures size_bound { IfSome result (λ end. (at ≤ end) × (end < BLOCK)) }
-    ensures none { IfNone result ((reader.new ≡ reader.old) × (into.new ≡ into.old)) }
-    ensures prefix_kept { take at into.new ≡ take at into.old }
-    ensures was_sound { IsSound reader.old }
+    requires within { from + 16 ≤ length bytes.now }
+    requires room { at + 16 ≤ BLOCK }
+    ensures found { IsFirst (Passes (is_byte terminator) bytes.now) from (from + 16) result }
+    ensures copied { take (at + 16) into.new ≡ take at into.old ++ take 16 (drop from bytes.now) }
 {
-    let bytes = reader.buffered();
-    if bytes.len() < N || at >= BLOCK - N {
-        return None;
-    }
-    let first = Simd::<u8, N>::from_slice(bytes);
-    let count = find_in_chunk::<N>(terminator, bytes, 0)?;
-    reader.consume(count + 1);
-    first.copy_to_slice(&mut into[at..]);
-    Some(at + count)
+    let found = find_in_chunk::<16>(terminator, bytes, from);
+    let into: &mut [u8] = into;
+    u8x16::from_slice(&bytes[from..]).copy_to_slice(&mut into[at..]);
+    found
 }
 
-// Like `copy_line_in`, for a line of any length, with fast paths for lines of at most 63 bytes; `None` if it is not
-// complete in the buffer or does not fit. Out of line, so that the loop over columns is short (`paste` of 2 files).
+// Copies the line at the start of `bytes` to `at`, as vectors of 16 bytes, each of which is searched for the
+// terminator. Returns its length; `None` if it does not end in a vector that is within `bytes` and the block. The first
+// vector, in which most lines end, is apart from the loop (`paste` of 2 files).
+#[inline(always)]
+fn copy_by_16(terminator: u8, bytes: &[u8], into: &mut PaddedBlock, at: usize) -> Option<usize>
+    ensures line { IfSome result (IsLineCopied terminator bytes.now at into.old into.new) }
+    ensures prefix_kept { take at into.new ≡ take at into.old }
+{
+    if bytes.len() < 16 || at >= BLOCK - 16 {
+        return None;
+    }
+    if let Some(count) = copy_16(terminator, bytes, 0, into, at) {
+        return Some(count);
+    }
+    let last = bytes.len().min(BLOCK - at) - 16;
+    let mut size = 16;
+    'vectors: while size <= last {
+        if let Some(count) = copy_16(terminator, bytes, size, into, at + size) {
+            return Some(count);
+        }
+        size += 16;
+    }
+    None
+}
+
+// Copies the next line of a reader to `at` and consumes it; `None` if it is not complete in the buffer or does not fit.
+// For lines near the end of the buffer or the block. Out of line, so that the loop over columns is short (`paste` of 2
+// files).
 #[inline(never)]
-fn copy_line_long<S: Source, R: Source>(
+fn copy_near_end<S: Source, R: Source>(
     terminator: u8,
     reader: &mut LineReader<S, R>,
     into: &mut PaddedBlock,
@@ -59,16 +77,10 @@ fn copy_line_long<S: Source, R: Source>(
     ensures line { IfSome result
         (λ end. LineCopied terminator reader.old reader.new (take at into.old) (take end into.new)) }
     ensures size_bound { IfSome result (λ end. (at ≤ end) × (end < BLOCK)) }
-    ensures none { IfNone result ((reader.new ≡ reader.old) × (into.new ≡ into.old)) }
+    ensures none { IfNone result (reader.new ≡ reader.old) }
     ensures prefix_kept { take at into.new ≡ take at into.old }
     ensures was_sound { IsSound reader.old }
 {
-    if let Some(end) = copy_line_in::<32, S, R>(terminator, reader, into, at) {
-        return Some(end);
-    }
-    if let Some(end) = copy_line_in::<64, S, R>(terminator, reader, into, at) {
-        return Some(end);
-    }
     let bytes = reader.buffered();
     let count = find_by_mask(terminator, bytes)?;
     if at.saturating_add(count) >= BLOCK {
@@ -101,8 +113,12 @@ fn copy_cell<S: Source, R: Source>(
     ensures prefix_kept { take at into.new ≡ take at into.old }
     ensures was_sound { IsSound reader.old }
 {
-    if let Some(end) = copy_line_in::<16, S, R>(terminator, reader, into, at) {
-        return Some(CopiedField { end, is_line: true });
+    if let Some(count) = copy_by_16(terminator, reader.buffered(), into, at) {
+        reader.consume(count + 1);
+        return Some(CopiedField {
+            end: at + count,
+            is_line: true,
+        });
     }
     if reader.buffered().is_empty() && reader.at_eof() && at < BLOCK {
         return Some(CopiedField {
@@ -110,7 +126,7 @@ fn copy_cell<S: Source, R: Source>(
             is_line: false,
         });
     }
-    let end = copy_line_long(terminator, reader, into, at)?;
+    let end = copy_near_end(terminator, reader, into, at)?;
     Some(CopiedField { end, is_line: true })
 }
 

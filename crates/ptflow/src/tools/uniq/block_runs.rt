@@ -1,5 +1,5 @@
 //! The runs of the lines of a block: counts and writes them. Output that is contiguous in the block is deferred, and
-//! pushed at once. Repeats of a short line are skipped by one comparison each. `uniq` uses it, also for the last run
+//! pushed at once. Repeats of a line are skipped without a search for their ends. `uniq` uses it, also for the last run
 //! of the input.
 
 ghost use Rattle.std.specs.Prelude.{◌≡◌, ◌<◌, ◌≤◌, ◌++◌, length, take, drop, true, IfOk, IfSome, OnErr};
@@ -11,7 +11,7 @@ ghost use Rattle.ptflow.specs.Private.Uniq.RunsFrom.{has_output, count_prefix, r
 ghost use Rattle.ptflow.specs.Private.Uniq.BlockRuns.{RunsWritten, RunsFailed, EndRunPre, IsPending, first_of};
 ghost use Rattle.ptflow.specs.Private.Uniq.BlockRuns.{repeated, bytes_in_range};
 
-use crate::simd::compare::{is_equal, same_short_start};
+use crate::simd::compare::{is_equal, same_start};
 use crate::simd::find_nth::find_line_end;
 use crate::tools::uniq::line_key::key;
 use itoa::Buffer;
@@ -78,16 +78,15 @@ struct Repeats<'a> {
     rest: &'a [u8],
 }
 
-// Skips the lines that repeat the line at the start of `bytes`, which has `len` bytes with its terminator. A line of
-// at most 16 bytes takes one comparison; repeats of a longer line are not found, nor those that start among the last 15
-// bytes.
+// Skips the lines that repeat the line at the start of `bytes`, which has `len` bytes with its terminator. Repeats that
+// start among the last 15 bytes are not found.
 fn skip_repeats(bytes: &[u8], len: usize) -> Repeats
     requires { (0 < len) × (len ≤ length bytes.now) }
     ensures { drop len bytes.now ≡ repeated result.count (take len bytes.now) ++ result.rest.now }
 {
     let mut count = 0;
     let mut rest = &bytes[len..];
-    while same_short_start(bytes, rest, len) {
+    while same_start(bytes, rest, len) {
         count += 1;
         rest = &rest[len..];
     }

@@ -1,22 +1,16 @@
 //! `Group`, the second input's lines of one key, with each of which `join` pairs the first input's lines of that key.
 //! The lines are read and, if there are several, copied to slots of the store, which are emptied at the end.
-//! `WholeGroup` is a group whose lines are all read, with whether they are written unchanged.
 ghost use Rattle.std.specs.Prelude.{◌≡◌, ◌≤◌, ◌<◌, ◌+◌, ◌-◌, [], false, true, length, IfOk, OnOk, OnErr};
 ghost use Rattle.ptlines.specs.Calls.Outputs.{PushEffect};
 ghost use Rattle.ptlines.specs.Calls.Slots.{with_denied};
 ghost use Rattle.ptmerge.specs.declared.key_order.Side.TheVariants as sides;
 ghost use Rattle.ptmerge.specs.Private.JoinGroup.{ReadGroupLinePost, ClearGroupPost, EnsureSlotPost, CopyToGroupPost};
-ghost use Rattle.ptlangs.specs.Jobs.{join_job};
-ghost use Rattle.ptmerge.specs.Calls.MergeSteps.{AreValidCursors};
-ghost use Rattle.ptmerge.specs.Private.JoinGroup.{CopyToGroupErrPost, IsGroupUnchanged, group_end_slot};
-ghost use Rattle.ptmerge.specs.Private.JoinGroup.{group_first_slot};
+ghost use Rattle.ptmerge.specs.Private.JoinGroup.{CopyToGroupErrPost, group_end_slot, group_first_slot};
 ghost use Rattle.ptmerge.specs.Private.WriteAndAdvance.{IsReadyToContinue, AdvancePre};
 
 use crate::faults::MergeFault;
 use crate::key_order::{KeyOrder, Side};
 use crate::merging::Merge;
-use crate::tools::join::output::is_unchanged;
-use ptlangs::jobs::JoinJob;
 use ptlines::{LineFault, LineReader, Out, Sink, Source, Store};
 use std::alloc::Allocator;
 use std::ops::Range;
@@ -60,14 +54,6 @@ const FIRST_SLOT: usize = 4;
 #[derive(Clone, Copy)]
 pub(crate) struct Group {
     end: usize,
-}
-
-// A group whose lines are all read. `unchanged` is true if the fields of each line are known to be written as they are
-// in it.
-#[derive(Clone, Copy)]
-pub(crate) struct WholeGroup {
-    pub lines: Group,
-    pub unchanged: bool,
 }
 
 impl Group {
@@ -124,29 +110,6 @@ impl Group {
             return only..only + 1;
         }
         FIRST_SLOT..self.end
-    }
-
-    // Checks whether the fields of each line are written as they are in it. If so, no line is checked again for a pair.
-    pub(crate) fn is_unchanged<K: KeyOrder, A: Allocator + Copy, B: Allocator>(
-        self,
-        merge: &Merge<K>,
-        job: &JoinJob<B>,
-        store: &Store<A>,
-    ) -> bool
-        requires valid_cursors { AreValidCursors (K.key_of merge.now.order) merge.now.first merge.now.second store.now }
-        requires group { (4 ≤ self.end) × (self.end ≤ length store.now.lines) }
-        ensures { result ≡ true → IsGroupUnchanged (join_job job.now) merge.now.second store.now self.end }
-    {
-        if !job.pairs {
-            return false;
-        }
-        let slots = self.slots(merge);
-        for slot in slots.start..slots.end {
-            if !is_unchanged(job, Side::Second, store.line(slot)) {
-                return false;
-            }
-        }
-        true
     }
 
     // Empties the slots of the copied lines.

@@ -8,7 +8,7 @@ ghost use Rattle.ptlangs.specs.Jobs.{join_job};
 ghost use Rattle.ptmerge.specs.Join.{join_fields, other_fields, output_separator, or_filler, field_named};
 ghost use Rattle.ptmerge.specs.Calls.Join.{join_key, join_tool};
 ghost use Rattle.ptmerge.specs.Join.{entry};
-ghost use Rattle.ptmerge.specs.Private.JoinFields.{HasOneLine, IsCanonical, IsKeyOf, IsSplit, IsUnchanged, around};
+ghost use Rattle.ptmerge.specs.Private.JoinFields.{HasOneLine, IsKeyOf, IsSplit, IsUnchanged, around};
 ghost use Rattle.ptmerge.specs.Private.JoinFields.{entry_with_list, remaining_fields};
 ghost use Rattle.ptmerge.specs.Private.JoinFields.{with_prefix};
 ghost use Rattle.ptmerge.specs.Private.Join.{entry_alone};
@@ -144,35 +144,8 @@ impl<'a, A: Allocator> Entry<'a, A> {
     }
 }
 
-// Returns the field that an item of the output list names: the join field, or a field of one of the lines. If that is
-// the join field too, it is not searched for again.
-#[inline(always)]
-fn item_field<'a, A: Allocator>(
-    entry: &Entry<'a, A>,
-    one: SplitLine<'a>,
-    two: SplitLine<'a>,
-    item: OutField,
-) -> &'a [u8]
-    requires one { IsSplit (join_job entry.now.job.now).separator (option_copied entry.now.one)
-        one.separator one.line.now }
-    requires two { IsSplit (join_job entry.now.job.now).separator (option_copied entry.now.two)
-        two.separator two.line.now }
-    ensures { result.now ≡ field_named item entry.now.key.now
-        (remaining_fields (join_job entry.now.job.now).separator (option_copied entry.now.one))
-        (remaining_fields (join_job entry.now.job.now).separator (option_copied entry.now.two)) }
-{
-    match item {
-        OutField::Join => entry.key,
-        OutField::Field(File::First, n) if entry.one.is_some() && n == entry.job.field[0] =>
-            entry.key,
-        OutField::Field(File::Second, n) if entry.two.is_some() && n == entry.job.field[1] =>
-            entry.key,
-        OutField::Field(File::First, n) => one.nth(n),
-        OutField::Field(File::Second, n) => two.nth(n),
-    }
-}
-
-// Returns the field that an item of the output list names, or the `-e` string if the field is empty or missing.
+// Returns the field that an item of the output list names, or the `-e` string if the field is empty or missing. The
+// join field is not searched for again.
 #[inline(always)]
 fn item_or_filler<'a, A: Allocator>(
     entry: &Entry<'a, A>,
@@ -188,7 +161,14 @@ fn item_or_filler<'a, A: Allocator>(
         (remaining_fields (join_job entry.now.job.now).separator (option_copied entry.now.one))
         (remaining_fields (join_job entry.now.job.now).separator (option_copied entry.now.two))) }
 {
-    let field = item_field(entry, one, two, item);
+    let [first, second] = entry.job.field;
+    let field = match item {
+        OutField::Join => entry.key,
+        OutField::Field(File::First, n) if entry.one.is_some() && n == first => entry.key,
+        OutField::Field(File::Second, n) if entry.two.is_some() && n == second => entry.key,
+        OutField::Field(File::First, n) => one.nth(n),
+        OutField::Field(File::Second, n) => two.nth(n),
+    };
     if field.is_empty() {
         return entry.job.empty.as_slice();
     }
@@ -257,38 +237,18 @@ fn write_entry<A: Allocator, W: Sink>(
     out.push(&[terminator])
 }
 
-// Checks whether a line equals the output of its own fields, with the field of this number first.
+// Checks whether the fields of a line are written as they are in it, the join field first: the output lines of a line
+// of the first input begin with it then, and those of a line of the second one end with the rest of it.
 #[inline(always)]
 #[tactic(auto, using(crate::proofs::JoinLemmas::Fields::even_prefixed))]
-fn is_canonical(separator: Option<u8>, number: u64, line: &[u8]) -> bool
-    ensures { result ≡ true → IsCanonical separator number line.now }
-{
-    number <= 1 && SplitLine::new(separator, line).is_single_spaced()
-}
-
-// Checks whether the fields of a line are written as they are in it, the join field first: the output lines of a line
-// of the first input begin with it then, and those of a line of the second one end with the rest of it. That is the
-// same for all of its pairs.
-#[inline(always)]
-pub(crate) fn is_unchanged<A: Allocator>(job: &JoinJob<A>, side: Side, line: &[u8]) -> bool
+fn is_unchanged<A: Allocator>(job: &JoinJob<A>, side: Side, line: &[u8]) -> bool
     ensures { result ≡ true → IsUnchanged (join_job job.now) side line.now }
 {
     let number = match side {
         Side::First => job.field[0],
         Side::Second => job.field[1],
     };
-    job.list.is_none() && is_canonical(job.sep, number, line)
-}
-
-// A line of each input, and their join field.
-#[derive(Clone, Copy)]
-pub(crate) struct Pair<'a> {
-    pub key: &'a [u8],
-    pub one: &'a [u8],
-    pub two: &'a [u8],
-    // Whether the fields of a line are known to be written as they are in it.
-    pub one_unchanged: bool,
-    pub two_unchanged: bool,
+    job.list.is_none() && number <= 1 && SplitLine::new(job.sep, line).is_single_spaced()
 }
 
 // Writes the output line of a pair, and its terminator. If both lines are written as they are, they are not split: the
@@ -296,26 +256,26 @@ pub(crate) struct Pair<'a> {
 #[inline(always)]
 pub(crate) fn write_pair<'a, A: Allocator, W: Sink>(
     job: &'a JoinJob<A>,
-    pair: Pair<'a>,
+    key: &'a [u8],
+    one: &'a [u8],
+    two: &'a [u8],
     terminator: u8,
     out: &mut Out<W>,
 ) -> Result<(), WriteFault>
-    requires one { join_key (join_job job.now) First pair.one.now ≡ pair.key.now }
-    requires begins { pair.one_unchanged ≡ true → IsUnchanged (join_job job.now) First pair.one.now }
-    requires two { join_key (join_job job.now) Second pair.two.now ≡ pair.key.now }
-    requires ends { pair.two_unchanged ≡ true → IsUnchanged (join_job job.now) Second pair.two.now }
+    requires one { join_key (join_job job.now) First one.now ≡ key.now }
+    requires two { join_key (join_job job.now) Second two.now ≡ key.now }
     ensures { let fields = join_fields (join_job job.now).separator in
-        let bytes = entry (join_job job.now) pair.entry.key.now (fields pair.entry.one.now) (fields pair.entry.two.now) in
+        let bytes = entry (join_job job.now) key.entry.now (fields one.entry.now) (fields two.entry.now) in
         PushPost out.old out.new (bytes ++ terminator ∷ []) result }
 {
-    if pair.one_unchanged && (pair.two_unchanged || is_canonical(job.sep, job.field[1], pair.two)) {
-        return out.push_line(pair.one, &pair.two[pair.key.len()..], &[terminator]);
+    if is_unchanged(job, Side::First, one) && is_unchanged(job, Side::Second, two) {
+        return out.push_line(one, &two[key.len()..], &[terminator]);
     }
     let entry = Entry {
         job,
-        key: pair.key,
-        one: Some(pair.one),
-        two: Some(pair.two),
+        key,
+        one: Some(one),
+        two: Some(two),
     };
     write_entry(&entry, terminator, out)
 }
@@ -361,14 +321,7 @@ impl<'a, A: Allocator> MergeWriter for &'a JoinJob<A> {
         if !self.pairs {
             return Ok(());
         }
-        let pair = Pair {
-            key,
-            one,
-            two,
-            one_unchanged: is_unchanged(self, Side::First, one),
-            two_unchanged: false,
-        };
-        write_pair(self, pair, terminator, out)
+        write_pair(self, key, one, two, terminator, out)
     }
 }
 

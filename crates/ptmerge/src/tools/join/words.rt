@@ -79,20 +79,11 @@ fn find_blank_short(bytes: &[u8]) -> Option<usize>
     Some(mask.trailing_zeros() as usize)
 }
 
-// Returns the index of the first blank, with `memchr2` from index 64 on. Lines of fewer than 16 bytes usually have it
-// among the first 8.
+// Returns the index of the first blank, with `memchr2` from index 64 on.
 fn find_blank_long(bytes: &[u8]) -> Option<usize>
     ensures { IsFirstByte is_blank bytes.now result }
 {
-    let size = bytes.len();
-    if size >= 8 && size < 16 {
-        let near = find_blank_in::<8>(bytes, 0);
-        if near.is_some() {
-            return near;
-        }
-        return find_blank_in::<8>(bytes, size - 8);
-    }
-    if size <= 64 {
+    if bytes.len() <= 64 {
         return find_blank_short(bytes);
     }
     if let Some(at) = find_blank_in::<64>(bytes, 0) {

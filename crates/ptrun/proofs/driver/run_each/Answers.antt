@@ -35,7 +35,7 @@ loop-input-preserved g c =
       | then-is_refused w ↦
           simp (w.inputs-is, w.store-is, w.out-is, w.messages-is, w.done-is, turn.next)
           (done_unopened c.requires.given.fresh k turn.low d (sym c.is_refused.ensures.refused ∙ w.if-is_refused.true)
-          (rw (w.name.ensures, w.name_at.ensures) at w.say_unopened.ensures))
+          (rw w.name_at.ensures at w.say_unopened.ensures))
       | else-is_refused+in-Ok w ↦
           simp (w.inputs-is, w.store-is, w.out-is, w.messages-is, w.done-is, turn.next)
           (done_operand c.requires.given.fresh k turn.low _ _ (sym c.is_refused.ensures.refused ∙ w.if-is_refused.false)
@@ -70,8 +70,7 @@ offset_bounds-inputs-position g c =
 
 pub offset_bounds-inputs-position-else-is_refused : goal.offset_bounds-inputs-position-else-is_refused
 offset_bounds-inputs-position-else-is_refused g c =
-    let at = goal.at.offset_bounds-inputs-position-else-is_refused g c in
-    search (scaled_Fits, (turn g at.After-position_of-position).low)
+    search (scaled_Fits, c.loop-input.long-inputs, (bounds-inputs-position-else-is_refused g c))
 
 pub name_at-requires : goal.name_at-requires
 name_at-requires g c =

@@ -6,6 +6,6 @@ use proofs.driver.run_each.Given as goal
 
 abbrev pub invariant-loop-input : goal.invariant-loop-input
 invariant-loop-input g l =
-    OperandsDone (g.T.Sequential.word l.tool) (g.T.Sequential.tool l.tool) (words_view l.names)
+    OperandsDone l.name (g.T.Sequential.tool l.tool) (words_view l.names)
     l.fn.inputs l.inputs l.fn.out l.out l.fn.messages l.messages l.fn.store l.store
     (take l.input-index (positions l.order)) l.done

@@ -10,5 +10,5 @@ pub returns : goal.returns
 returns g c =
     stored (g.W.Sink.state c.args.out) (outcome g.W.Sink.state g.E.Sink.state c.end_run.result)
     (said_nothing c.args.messages) c.run_each-run_result.ensures
-    (rw (c.name.ensures, c.deref-names.ensures.value) at c.end_run.ensures) c.new-out.ensures
+    (rw c.deref-names.ensures.value at c.end_run.ensures) c.new-out.ensures
     c.requires.unused.store.never (λ nothing. false≢true nothing)

@@ -9,36 +9,35 @@ use proofs.OperandInputs.{position_in_range}
 use proofs.RunEnds.{stored}
 use specs.Private.Driver.{JointPre, ReportUnopenedPost, spec_together}
 use proofs.driver.run_together.Given as given
-use Rattle.ptrun.proofs.driver.run_together.Goals.{After-report_unopened, After-completion_of, After-new-out}
+use Rattle.ptrun.proofs.driver.run_together.Goals.{After-report_unopened, After-run_on_all-found, After-new-out}
 use proofs.driver.run_together.Goals as goal
 
 reported : (g : given.Over) (c : After-report_unopened g)
-    → ReportUnopenedPost (g.T.Joint.word c.args.tool.now) (words_view c.args.operands.now.names.items)
+    → ReportUnopenedPost c.args.name.now (words_view c.args.operands.now.names.items)
     (positions c.args.operands.now.order.items) c.args.inputs.now c.args.messages c.report_unopened.new.messages
     c.report_unopened.result
 reported g c =
-    rw (c.name.ensures, c.deref-order.ensures.value, c.deref-names.ensures.value) at c.report_unopened.ensures
+    rw (c.deref-order.ensures.value, c.deref-names.ensures.value) at c.report_unopened.ensures
 
 ready : (g : given.Over) (c : After-new-out g)
     → JointPre (g.T.Joint.tool c.args.tool.now) (positions c.args.operands.now.order.items) c.args.inputs.now
     c.new-out.result c.args.store.now
 ready g c =
     let unused = c.requires.unused.store in
-    joint_pre (g.T.Joint.word c.args.tool.now) _ (words_view c.args.operands.now.names.items) _
-    (rw (c.name.ensures, c.deref-order.ensures.value, c.deref-names.ensures.value) at c.report_unopened.ensures)
+    joint_pre c.args.name.now _ (words_view c.args.operands.now.names.items) _
+    (rw (c.deref-order.ensures.value, c.deref-names.ensures.value) at c.report_unopened.ensures)
     c.requires.given c.if-report_unopened.false (ap (λ (o : Output). o.write_failed) c.new-out.ensures)
     unused.not_denied unused.empty
 
-processed : (g : given.Over) (c : After-completion_of g)
+processed : (g : given.Over) (c : After-run_on_all-found g)
     → JointPre (g.T.Joint.tool c.args.tool.now) (positions c.args.operands.now.order.items) c.args.inputs.now
     c.new-out.result c.args.store.now
-    → RunInputsPost (spec_together (g.T.Joint.word c.args.tool.now) (g.T.Joint.tool c.args.tool.now)
+    → RunInputsPost (spec_together c.args.name.now (g.T.Joint.tool c.args.tool.now)
     c.args.operands.now) c.args.inputs.now c.run_on_all-found.new.inputs c.new-out.result c.run_on_all-found.new.out
     c.report_unopened.new.messages c.report_unopened.new.messages c.args.store.now c.run_on_all-found.new.store
-    c.completion_of.result
-processed g c ready = rw c.completion_of.ensures
-    (joint_post _ _ c.report_unopened.new.messages ready
-    (rw (c.deref.ensures.0 ∙ c.positions_of.ensures, c.deref-order.ensures.value) at c.run_on_all-found.ensures))
+    c.run_on_all-found.result
+processed g c ready = joint_post _ _ c.report_unopened.new.messages ready
+    (rw (c.deref.ensures.0 ∙ c.positions_of.ensures, c.deref-order.ensures.value) at c.run_on_all-found.ensures)
 
 pub positions_of-requires-clause-in_range : goal.positions_of-requires-clause-in_range
 positions_of-requires-clause-in_range g c = rw c.deref-order.ensures.value (λ k d within. omega (
@@ -57,7 +56,7 @@ run_on_all-found-requires g c =
 pub end_run-requires : goal.end_run-requires
 end_run-requires g c =
     let at = goal.at.end_run-requires g c in
-    let k = processed g at.After-completion_of (ready g at.After-new-out) in
+    let k = processed g at.After-run_on_all-found (ready g at.After-new-out) in
     let named = c.requires.given.named in
     let names = c.deref-names.ensures.value in
     grind (usual, k.position)
@@ -74,8 +73,8 @@ returns g c =
     let k = reported g at.After-report_unopened in
     stored (g.W.Sink.state c.args.out) (outcome g.W.Sink.state g.E.Sink.state c.end_run.result)
     (rw (none_unopened _ _ _ _ (sym k.is ∙ none)) at k.has_said)
-    (processed g at.After-completion_of (ready g at.After-new-out))
-    (rw (c.name-2.ensures, c.deref-names.ensures.value) at c.end_run.ensures) c.new-out.ensures
+    (processed g at.After-run_on_all-found (ready g at.After-new-out))
+    (rw c.deref-names.ensures.value at c.end_run.ensures) c.new-out.ensures
     c.requires.unused.store.never (λ nothing. false≢true (sym (sym k.is ∙ none) ∙ nothing))
 
 pub report_unopened-requires-clause-in_range : goal.report_unopened-requires-clause-in_range

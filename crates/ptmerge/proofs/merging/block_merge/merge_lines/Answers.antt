@@ -188,3 +188,10 @@ returns-in_err-write_both-in-Equal-clause-failed g c =
     run_failed _ i
     (both_pass g (goal.at.returns-in_err-write_both-in-Equal-clause-failed g c).After-write_both)
     c.in_err-write_both-in-Equal.ensures.fault
+
+pub returns-clause-merged : goal.returns-clause-merged
+returns-clause-merged g c = record {
+  now = both c.lines.one c.lines.two;
+  reached = elim [ First ↦ c.reached.ensures | Second ↦ c.reached-2.ensures ];
+  merged = c.lines.invariant;
+}

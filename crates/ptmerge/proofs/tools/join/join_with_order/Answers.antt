@@ -7,7 +7,6 @@ use proofs.Common.{refl, sym, ◌∙◌, arith, ℕ, ◌<◌, ◌≤◌, both, j
 use proofs.JoinLemmas.{BetweenGroups, LoopOfJoin, alone_continues, alone_fails, join_opens, write_pre}
 use proofs.JoinLemmas.{group_opens, read_group_less, write_pairs_less}
 use proofs.JoinLemmas.{read_group_in, read_group_pre, read_group_continues, read_group_fails, write_pairs_next}
-use proofs.JoinLemmas.{stays_unchanged}
 use proofs.JoinLemmas.{write_pairs_pre, write_pairs_group, write_pairs_continues, pair_fails, group_there, group_closed}
 use proofs.MergeLemmas.{fails_by, start_fault, start_ok, ends_well, ends_fallen, kept_order}
 use proofs.MergeLemmas.{fails, ends, reads_less}
@@ -185,12 +184,6 @@ lines-preserved g c =
       );
     }
 
-pub is_unchanged-unchanged-requires-clause-group : goal.is_unchanged-unchanged-requires-clause-group
-is_unchanged-unchanged-requires-clause-group g c =
-    let ok = c.in_ok-read_line-in-Both.ensures in
-    (write_pairs_group (write_pairs_next c.lines.invariant.kept.iteration c.read_line.ensures.written_out
-    ok.reads_line.1 ok.continues (sym ok.reads_line.0 ∙ c.if-branch.false))).within
-
 pub pairs-init : goal.pairs-init
 pairs-init g c =
     let i = c.lines.invariant.kept in
@@ -200,7 +193,6 @@ pairs-init g c =
       kept = kept_order p.order i.order (write_pairs_next i.iteration p.written_out ok.reads_line.1 ok.continues
           (sym ok.reads_line.0 ∙ c.if-branch.false));
       fewer = omega arith;
-      unchanged = c.is_unchanged-unchanged.ensures;
     }
 
 pub write_pairs-requires-clause-writes : goal.write_pairs-requires-clause-writes
@@ -229,7 +221,6 @@ pairs-preserved g c =
       kept = kept_order p.order k.order (write_pairs_continues k.iteration p.wrote h
           (sym ok.has_more ∙ c.if-branch-2.true));
       fewer = omega (arith, c.pairs.invariant.fewer, write_pairs_less k.iteration h);
-      unchanged = λ known. stays_unchanged k.iteration h (c.pairs.invariant.unchanged known);
     }
 
 pub clear-requires : goal.clear-requires

@@ -31,7 +31,7 @@ ends_within {slot} {count} second end is slots four within =
 pub returns-in_err-write_pair : goal.returns-in_err-write_pair
 returns-in_err-write_pair g c =
     let slots = c.slots-slots.ensures in
-    let within = ends_within c.args.merge.now.second c.args.group.lines.end slots.last c.requires.valid_cursors.second
+    let within = ends_within c.args.merge.now.second c.args.group.end slots.last c.requires.valid_cursors.second
     c.requires.valid_cursors.slots c.requires.group.within.1 in
     subst (λ bytes. WriteBytesPost c.args.out.now c.write_pair.new.out bytes c.from_residual.result)
     (λ i. unlines c.args.terminator (pair_entries (join_job c.args.job.now) (c.key-key.ensures i)
@@ -40,19 +40,19 @@ returns-in_err-write_pair g c =
     (ap (map (pair_of (join_job c.args.job.now) c.key-key.result.now c.head-one.result.now))
     (group_from c.args.store.now _ _ within c.loop-slot-test.true))
     c.loop-slot.invariant.amid
-    (rw (sym c.line-two.ensures) c.write_pair.ensures.wrote) c.in_err-write_pair.ensures.fault _
+    (rw (sym c.line.ensures) c.write_pair.ensures.wrote) c.in_err-write_pair.ensures.fault _
     c.from_residual.ensures.1)
 
 pub loop-slot-preserved : goal.loop-slot-preserved
 loop-slot-preserved g c =
-    let within = ends_within c.args.merge.now.second c.args.group.lines.end c.slots-slots.ensures.last
+    let within = ends_within c.args.merge.now.second c.args.group.end c.slots-slots.ensures.last
     c.requires.valid_cursors.second c.requires.valid_cursors.slots c.requires.group.within.1 in
     record {
       amid = each_more (λ (l : List ℕ). l ++ c.args.terminator ∷ [])
           (ap (map (pair_of (join_job c.args.job.now) c.key-key.result.now c.head-one.result.now))
           (group_from c.args.store.now _ _ within c.loop-slot-test.true))
           c.loop-slot.invariant.amid
-          (rw (sym c.line-two.ensures) c.write_pair.ensures.wrote) c.in_ok-write_pair.ensures.clean;
+          (rw (sym c.line.ensures) c.write_pair.ensures.wrote) c.in_ok-write_pair.ensures.clean;
       from = omega arith;
     }
 

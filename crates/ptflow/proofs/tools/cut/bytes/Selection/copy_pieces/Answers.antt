@@ -1,13 +1,10 @@
--- No byte after the last piece is selected.
+-- The bytes after the pieces are copied by `copy_selected`.
 use Rattle.ptflow.proofs
-use proofs.Common.{◌++◌, ◌∙◌, ap, arith, take}
-use proofs.CutLemmas.CutBytes.{none_later}
+use proofs.Common.{◌*◌, arith}
+use proofs.CutLemmas.CutBytes.{rest_copied}
 use proofs.tools.cut.bytes.Selection.copy_pieces.Goals as goal
 
 pub returns-clause-copied : goal.returns-clause-copied
 returns-clause-copied c =
-    let loop = c.loop-index in
-    loop.invariant.copied
-    ∙ ap (◌++◌ (take c.args.at c.args.into.now)) (none_later _ _
-    (λ k later upto. c.args.self.now.are_shuffles.max_len k (omega arith) upto)
-    loop.invariant.within c.requires.few (omega arith))
+    rest_copied _ c.args.line.now _ (16 * c.loop-index.index) (16 * c.args.self.now.shuffles.count) c.args.count
+    (omega arith) (omega arith) (omega arith) c.loop-index.invariant.copied c.copy_selected.ensures.copied

@@ -3,7 +3,7 @@
 use Rattle.ptflow.proofs
 use proofs.Common.{arith, usual, ◌≤◌, drop, length, length-drop, take_rest, ℕ, ◌∙◌, ap, min, append-nil}
 use proofs.Common.{drop_all}
-use proofs.CutLemmas.CutBytes.{copied_ends, copied_more, select_none}
+use proofs.CutLemmas.CutBytes.{copied_ends, copied_more, copied_none, select_none}
 use proofs.tools.cut.bytes.Selection.copy_selected.Goals as goal
 use Rattle.ptflow.proofs.tools.cut.bytes.Selection.copy_selected.Goals.{Start}
 
@@ -15,6 +15,11 @@ returns-then-last-interval-clause-copied c =
     copied_ends _ (fits (goal.at.returns-then-last-interval-clause-copied c).Start) c.loop-interval.invariant
     c.loop-interval-test.true _ (c.min-from.ensures ∙ ap (λ (f : ℕ). min f c.args.count) c.saturating_sub-from.ensures)
     c.if-last-interval.true (rw take_rest at c.copy_short.ensures.copied)
+
+pub loop-interval-preserved-then-interval-line : goal.loop-interval-preserved-then-interval-line
+loop-interval-preserved-then-interval-line c =
+    copied_none _ (fits (goal.at.loop-interval-preserved-then-interval-line c).Start) c.loop-interval.invariant
+    c.loop-interval-test.true c.if-interval-line.true
 
 pub loop-interval-preserved : goal.loop-interval-preserved
 loop-interval-preserved c =

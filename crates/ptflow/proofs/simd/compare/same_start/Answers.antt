@@ -3,10 +3,10 @@ use Rattle.ptflow.proofs
 use Rattle.std.proofs.lemmas
 use proofs.Common.{◌≡◌, ◌<◌, ◌≤◌, ℕ, ◌+◌, ◌^◌, Bool, true, false, cond, zero, suc, List, [], ◌∷◌, length, take, get_or}
 use proofs.Common.{refl, ◌∙◌, arith, eqb, eqb-true, nat_tests, mask_l, mask_l-mod, mask_l-lt, zip2, length-zip2}
-use proofs.Common.{bit_mask_l, tops_compared, w8, take-take, length-take-le}
+use proofs.Common.{bit_mask_l, tops_compared, w8, take-take, length-take-le, bytes_eq-Decides, usual}
 use Rattle.std.specs.Int.{w64, trailing_ones}
 use lemmas.Nat.Bits.{bit_at-trailing_ones}
-use proofs.simd.compare.same_short_start.Goals as goal
+use proofs.simd.compare.same_start.Goals as goal
 
 is_set : (b : Bool) (n : ℕ) → n ≡ cond b 1 0 → n ≡ 1 → b ≡ true
 is_set true n bit one = refl
@@ -25,11 +25,12 @@ same_before (suc n) (x ∷ xs) (y ∷ ys) long few same = cc (
 pub returns-clause-same : goal.returns-clause-same
 returns-clause-same c same =
     let len = c.args.len in
-    let few = c.if-len-gt16.false in
+    let few : len ≤ 16 = omega arith in
+    let enough : 16 ≤ length c.args.b.now = omega arith in
     let xs = take 16 c.args.a.now in
     let ys = take 16 c.args.b.now in
-    let long = length-take-le 16 c.args.a.now c.if-a-lt16.false in
-    let also_long = length-take-le 16 c.args.b.now c.if-b-lt16.false in
+    let long = length-take-le 16 c.args.a.now (omega arith) in
+    let also_long = length-take-le 16 c.args.b.now enough in
     let lanes = zip2 eqb xs ys in
     let sixteen = length-zip2 eqb xs ys (cc) ∙ long in
     let below : mask_l lanes + 1 < 2 ^ 64 = omega (arith, rw sixteen at (mask_l-lt lanes)) in
@@ -43,3 +44,6 @@ returns-clause-same c same =
       take-take len 16 c.args.a.now few,
       take-take len 16 c.args.b.now few,
     )
+
+pub returns-then-len-gt16-clause-same : goal.returns-then-len-gt16-clause-same
+returns-then-len-gt16-clause-same c same = grind (usual, bytes_eq-Decides)

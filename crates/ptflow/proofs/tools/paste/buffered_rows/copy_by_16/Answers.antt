@@ -1,0 +1,84 @@
+-- A line whose terminator is found in a vector was copied with the vectors up to there (`line_found`). Each vector is
+-- copied after those before it (`vector_copied`), and the bytes before the line stay (`kept`).
+use Rattle.ptflow.proofs
+use proofs.Common.{◌≡◌, ◌≤◌, ◌+◌, ◌++◌, ◌∙◌, ℕ, List, length, take, drop, sym, ap, arith, take-add, take-take}
+use proofs.Common.{take-append-le, length-take-le, append_assoc, NoneBefore, Passes, is_byte, nowhere_trans}
+use Rattle.ptlines.proofs.CopyFacts.{copied_prefix}
+use Rattle.ptflow.specs.Private.Paste.BufferedRows.{IsLineCopied}
+use Rattle.ptlines.specs.declared.sizes.TheConstants.{BLOCK}
+use proofs.tools.paste.buffered_rows.copy_by_16.Goals as goal
+
+line_found : (end at size count : ℕ) (was is bytes : List ℕ) → at ≤ length was → at + size ≤ BLOCK
+    → size ≤ length bytes → NoneBefore (Passes (is_byte end) bytes) 0 size count → Passes (is_byte end) bytes count
+    → take (at + size) is ≡ take at was ++ take size bytes → IsLineCopied end bytes at was is count
+line_found end at size count was is bytes within room long first here copied = record {
+  found = (record { low = first.low; high = omega (arith, first.high); before = first.before }, here);
+  fits = omega (arith, first.high);
+  is = copied_prefix at count size was is bytes within (omega (arith, first.high)) copied;
+}
+
+vector_copied : (at from : ℕ) (was before is bytes : List ℕ) → take (at + from) before ≡ take at was ++ take from bytes
+    → take (at + from + 16) is ≡ take (at + from) before ++ take 16 (drop from bytes)
+    → take (at + (from + 16)) is ≡ take at was ++ take (from + 16) bytes
+vector_copied at from was before is bytes first second =
+    let number : at + (from + 16) ≡ at + from + 16 = omega arith in
+    cc (
+      ap (λ n. take n is) number,
+      second,
+      first,
+      append_assoc (take at was) (take from bytes) (take 16 (drop from bytes)),
+      take-add from 16 bytes,
+    )
+
+kept : (at n : ℕ) (was is more : List ℕ) → at ≤ length was → take (at + n) is ≡ take at was ++ more
+    → take at is ≡ take at was
+kept at n was is more within copied =
+    sym (take-take at (at + n) is (omega arith)) ∙ ap (take at) copied
+    ∙ take-append-le at (take at was) more (omega (arith, length-take-le at was within))
+    ∙ take-take at at was (omega arith)
+
+pub returns-in-Some-clause-line : goal.returns-in-Some-clause-line
+returns-in-Some-clause-line c =
+    let (first, here) = c.in-Some.ensures.found in
+    line_found _ _ 16 _ _ _ _ (omega arith) (omega arith) (omega arith) first here c.in-Some.ensures.copied
+
+pub returns-in-Some-clause-prefix_kept : goal.returns-in-Some-clause-prefix_kept
+returns-in-Some-clause-prefix_kept c =
+    kept c.args.at 16 c.args.into.now c.copy_16.new.into _ (omega arith) c.in-Some.ensures.copied
+
+pub returns-in-Some-copy_16-clause-line : goal.returns-in-Some-copy_16-clause-line
+returns-in-Some-copy_16-clause-line c =
+    let (first, here) = c.in-Some-copy_16.ensures.found in
+    let size = c.vectors.size in
+    let bytes = c.args.bytes.now in
+    line_found _ _ (size + 16) _ _ _ _ (omega arith) (omega arith) (omega arith) (record {
+      low = omega arith;
+      high = first.high;
+      before = nowhere_trans (Passes (is_byte c.args.terminator) bytes) 0 size _ c.vectors.invariant.none first.before;
+    }) here (vector_copied c.args.at size c.args.into.now c.vectors.into c.copy_16-in-vectors.new.into bytes
+    c.vectors.invariant.copied c.copy_16-in-vectors.ensures.copied)
+
+pub returns-in-Some-copy_16-clause-prefix_kept : goal.returns-in-Some-copy_16-clause-prefix_kept
+returns-in-Some-copy_16-clause-prefix_kept c =
+    let size = c.vectors.size in
+    let was = c.args.into.now in
+    let is = c.copy_16-in-vectors.new.into in
+    kept c.args.at (size + 16) was is _ (omega arith) (vector_copied c.args.at size was c.vectors.into is
+    c.args.bytes.now c.vectors.invariant.copied c.copy_16-in-vectors.ensures.copied)
+
+pub vectors-preserved : goal.vectors-preserved
+vectors-preserved c =
+    let size = c.vectors.size in
+    let bytes = c.args.bytes.now in
+    record {
+      none = nowhere_trans (Passes (is_byte c.args.terminator) bytes) 0 size (size + 16) c.vectors.invariant.none
+          c.in_default-copy_16.ensures.found;
+      copied = vector_copied c.args.at size c.args.into.now c.vectors.into c.copy_16-in-vectors.new.into bytes
+          c.vectors.invariant.copied c.copy_16-in-vectors.ensures.copied;
+      size_bound = omega arith;
+      buffer_size = c.copy_16-in-vectors.array_long;
+    }
+
+pub returns-clause-prefix_kept : goal.returns-clause-prefix_kept
+returns-clause-prefix_kept c =
+    kept c.args.at c.vectors.size c.args.into.now c.vectors.into _ (omega arith) c.vectors.invariant.copied
