@@ -8,6 +8,8 @@ export { PtextError } from "./checks.mjs";
 
 /** How many modules and threads that have ended their run are kept for the next one. */
 const KEPT = 4;
+/** The size of a stream's pieces. Those that are dropped wait for V8, which collects after so many, not so much. */
+const PART = 2 ** 14;
 
 let compiled = null;
 const modules = [], threads = [];
@@ -198,14 +200,14 @@ class Running {
         this.answer = 0;
     }
 
-    /** The next piece of the output, or null at its end. */
+    /** The next bytes of the output, which are there until the next call, or null at its end. */
     async next() {
         try {
             for (;;) {
                 const step = await this.#step();
                 if (step.ended) return this.#end(step);
                 this.answer = 0;
-                if (!step.reads) return this.thread.piece.slice(0, step.size);
+                if (!step.reads) return this.thread.piece.subarray(0, step.size);
                 this.answer = await this.#give(step.reads);
             }
         } catch (error) {
@@ -267,8 +269,8 @@ export function stream(words, options = {}) {
     const running = new Running([...words], new Inputs(stdin, files, ASYNC), memory);
     const pull = async (controller) => {
         const piece = await running.next();
-        if (piece) controller.enqueue(piece);
-        else controller.close();
+        if (!piece) return controller.close();
+        for (let at = 0; at < piece.length; at += PART) controller.enqueue(piece.slice(at, at + PART));
     };
     const made = new ReadableStream({ pull, cancel: () => running.close() }, { highWaterMark: 0 });
     dropped.register(made, running);

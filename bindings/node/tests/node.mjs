@@ -169,6 +169,10 @@ is("its pieces", [found.length, text(Buffer.concat(found)) === wanted], [46, tru
 is("a stream", await all(stream(["tr", "5", "x"], { stdin: large })) === wanted, true);
 const cut = [large.subarray(0, 1), large.subarray(1, 8193), large.subarray(8193, 10 ** 6), large.subarray(10 ** 6)];
 is("a stream of pieces", await all(stream(["tr", "5", "x"], { stdin: awaited(...cut) })) === wanted, true);
+const many = stream(["tr", "5", "x"], { stdin: large.subarray(0, 10 ** 5) }).getReader();
+const atOnce = (await Promise.all(Array.from({ length: 10 }, () => many.read()))).filter((it) => !it.done);
+is("reads at once", text(Buffer.concat(atOnce.map((it) => it.value))) === wanted.slice(0, 10 ** 5), true);
+is("pieces of their own", new Set(atOnce.map((it) => it.value.buffer)).size, atOnce.length);
 const chain = stream(["uniq", "-c"], { stdin: stream(["tr", "-d", "0-9"], { stdin: large }) });
 is("a chain", await all(chain), "272727 \n");
 let inner = "";
@@ -210,10 +214,12 @@ const reader = never.getReader(), pending = reader.read();
 await new Promise((after) => setTimeout(after, 50));
 await reader.cancel();
 is("a stream that waits is left", (await pending).done, true);
-let isCancelled = false;
-const silent = new ReadableStream({ cancel: () => (isCancelled = true) }, { highWaterMark: 0 });
+let isCancelled = false, silent = null;
+const isRead = new Promise((pull) => {
+    silent = new ReadableStream({ pull, cancel: () => (isCancelled = true) }, { highWaterMark: 0 });
+});
 const outer = stream(["uniq"], { stdin: stream(["uniq"], { stdin: silent }) }).getReader(), waits = outer.read();
-await new Promise((after) => setTimeout(after, 100));
+await isRead;
 await outer.cancel();
 is("its input that waits is cancelled", [(await waits).done, isCancelled], [true, true]);
 const lent = new Blob(["a\n"]).stream();
