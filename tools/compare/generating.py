@@ -174,6 +174,7 @@ def make_case(tool, rng):
     if rng.random() < 0.02 and options:
         options.append(rng.choice(options))
     if rng.random() < 0.01:
+        # (A letter that no tool has.)
         options.append(("q", None))
     rng.shuffle(options)
     late = [options.pop()] if tool != "tr" and options and rng.random() < 0.02 else []
