@@ -20,7 +20,7 @@ HEAD = """.\\" Made from docs/REPLACING.md by tools/manual.py.
 .Os ptext {version}
 .Sh NAME
 .Nm ptext-replacing
-.Nd put ptext in place of GNU's cut, paste, join, comm, uniq and tr
+.Nd use ptext instead of GNU's cut, paste, join, comm, uniq and tr
 .Sh DESCRIPTION
 """
 FOOT = """.Sh SEE ALSO

@@ -1,7 +1,7 @@
 //! The standard descriptors that are closed when the program begins. `main` occupies them before it opens anything: a
 //! file gets the least descriptor that is free, and would be mistaken for a standard stream.
 
-use crate::system::open_file;
+use crate::system::{open_file, reading};
 use std::fs::{File, OpenOptions};
 use std::os::fd::{AsFd, IntoRawFd};
 
@@ -26,17 +26,16 @@ pub fn occupy_closed_descriptors(rt: &HostRuntime) -> bool {
 // Opens a directory, which can be neither read nor written. If none may be opened, it is the null device, and not for
 // what the standard stream with the least free descriptor does: an empty input, or output that is lost, is no failure.
 fn open_unusable(rt: &HostRuntime) -> Option<File> {
-    let mut reading = OpenOptions::new();
-    let reading = reading.read(true);
+    let options = reading();
     let null_device = || {
         let is_input = is_closed(rt.stdin());
         let mut options = OpenOptions::new();
         let options = options.write(is_input).read(!is_input);
         open_file(rt, options, "/dev/null")
     };
-    open_file(rt, reading, "/")
-        .or_else(|| open_file(rt, reading, "."))
-        .or_else(|| null_device())
+    open_file(rt, &options, "/")
+        .or_else(|| open_file(rt, &options, "."))
+        .or_else(null_device)
 }
 
 fn is_any_closed(rt: &HostRuntime) -> bool {

@@ -1,6 +1,8 @@
-//! `SystemFiles`, the files of the system. `perform` runs commands over them.
+//! `SystemFiles`, the files of the system, over which `perform` runs commands, and `open_file`, by which each file is
+//! opened.
 
-ghost use Rattle.std.specs.Prelude.{◌≡◌};
+ghost use Rattle.std.specs.Prelude.{◌≡◌, true};
+ghost use Rattle.std.specs.Fs.{new_options, with_create, with_read, with_truncate, with_write};
 ghost use Rattle.ptext.specs.Perform.{no_calls};
 
 use ptfiles::{Calls, Files};
@@ -36,6 +38,24 @@ pub fn open_file<R: fs::Files>(rt: &R, options: &OpenOptions, name: &str) -> Opt
     options.open(rt, name).ok()
 }
 
+/// The options of a file that is read.
+pub fn reading() -> OpenOptions
+    ensures { result ≡ with_read new_options true }
+{
+    let mut options = OpenOptions::new();
+    options.read(true);
+    options
+}
+
+// The options of an output file: it is created, or its bytes are given up.
+fn writing() -> OpenOptions
+    ensures { result ≡ with_truncate (with_create (with_write new_options true) true) true }
+{
+    let mut options = OpenOptions::new();
+    options.write(true).create(true).truncate(true);
+    options
+}
+
 impl<R: fs::Files> Files for SystemFiles<'_, R> {
     ghost use Rattle.std.specs.Prelude.{None, map, option_map};
     ghost use Rattle.ptlines.specs.Private.Sinks.{hide_accepted};
@@ -54,18 +74,13 @@ impl<R: fs::Files> Files for SystemFiles<'_, R> {
     } };
 
     fn open(&mut self, name: &str) -> Option<FromRead<R::File>> {
-        let file = open_file(self.rt, OpenOptions::new().read(true), name).map(FromRead::new);
+        let file = open_file(self.rt, &reading(), name).map(FromRead::new);
         self.opens = self.opens.with(name, &file);
         file
     }
 
     fn create(&mut self, name: &str) -> Option<FromWrite<R::File>> {
-        let file = open_file(
-            self.rt,
-            OpenOptions::new().write(true).create(true).truncate(true),
-            name,
-        )
-        .map(FromWrite::new);
+        let file = open_file(self.rt, &writing(), name).map(FromWrite::new);
         self.creates = self.creates.with(name, &file);
         file
     }

@@ -171,10 +171,14 @@ last_of_key end rest more none =
     ap (take more) (complete_lines_none end rest (line_if_not_found end rest none)) ∙ grind usual
 
 -- the current line of an input, before others are passed
-pub can_merge : {key : Key} {own : BlockLine} {reader : Reader} → own.passed ≡ 0 → own.rest.now ≡ reader.buffered
-    → IsSound reader → own.key.now ≡ key own.head.now → CanMerge key own
-can_merge none rest sound own_key =
-    record { passed = none; in_block = omega (arith, none, ap length rest, sound.buffered); key_is = own_key }
+pub can_merge : {key : Key} {own : BlockLine} {reader : Reader} → own.passed ≡ 0 → own.same ≡ false
+    → own.rest.now ≡ reader.buffered → IsSound reader → own.key.now ≡ key own.head.now → CanMerge key own
+can_merge none new rest sound own_key = record {
+  passed = none;
+  same = new;
+  in_block = omega (arith, none, ap length rest, sound.buffered);
+  key_is = own_key;
+}
 
 -- ---- a step
 

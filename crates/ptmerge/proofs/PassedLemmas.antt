@@ -149,7 +149,7 @@ exchange cursor = record cursor { current_slot = cursor.previous_slot; previous_
 exchanged : (s : Side) (cursor : Sorted) → HasSlots s cursor → HasSlots s (exchange cursor)
 exchanged = grind arith
 
--- the store holds the current line in place of the line before
+-- the store holds the current line instead of the line before
 pub store_moved : {tool : MergeTool} {before store after : Slots} {ls : Side → Lines} {g : Lines} (s : Side)
     (cursor : Sorted) → HasSlots s cursor → GroupStore tool before store ls g → (now_ls : Lines) → Extends (ls s) now_ls
     → (x : List ℕ) → length x ≤ max_length now_ls → after ≡ with_line store cursor.current_slot x

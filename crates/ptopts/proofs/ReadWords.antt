@@ -1,4 +1,4 @@
--- What `read_words` gives is what the tokens of the words say: their options, unless they have a fault.
+-- `read_words` gives the options that the tokens of the words spell, unless they have a fault.
 use Rattle.ptopts.proofs
 use proofs.Common.{Bool, Err, Fault, List, MissingValue, None, Option, ParsedOption, Result, Some, Token, Tool, Valid}
 use proofs.Common.{Ok, [], ap, append-nil, append_assoc, drop, false, flag, is_end_of_options, is_flag, is_option_arg}

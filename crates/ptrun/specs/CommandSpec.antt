@@ -8,7 +8,7 @@ use Rattle.ptlines.specs.Received.{Received}
 use Rattle.ptrun.specs.Files.{InputBytes, ReceivedInputs, is_unopened, AreInputsConsistent, IsOneUnended}
 use Rattle.ptrun.specs.Messages.{unopened_message, name_of}
 
--- What is specified of a command beyond output, messages, status and memory.
+-- The specification of a command beyond output, messages, status and memory.
 pub record SpecBeyond : Type 0 where
   -- the most slots that the store needs for these lines
   pub slot_bound : InputBytes → ℕ

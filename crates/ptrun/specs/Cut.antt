@@ -1,4 +1,4 @@
--- What `cut` makes of a line, and of what was received of an input.
+-- The output of `cut` for a line, and for what was received of an input.
 use Rattle.std.specs.Prelude.{ℕ, ◌==◌, List, [], ◌∷◌, Bool, if◌then◌else◌}
 use Rattle.std.specs.List.{flat_map, list_any, slice_split, join_with_byte}
 use Rattle.ptlines.specs.Received.{Received}

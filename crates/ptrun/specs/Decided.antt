@@ -76,7 +76,7 @@ decided (RunUniq job) positions r = uniq_decided job (input_of r positions First
 decided (RunComm job) positions r = merged (comm job) (input_of r positions)
 decided (RunJoin job) positions r = merged (join job) (input_of r positions)
 
--- What only the end of the input decides: the last run of `uniq`.
+-- The output that only the end of the input decides: the last run of `uniq`.
 abbrev pub at_end : Job → List ℕ → ReceivedInputs → List ℕ
 at_end (RunUniq job) positions r = let ls = known_lines job.terminator (input_of r positions First) in
     output_of job (option_to_list (last_or None (runs job ls)))

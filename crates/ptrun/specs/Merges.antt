@@ -13,7 +13,7 @@ use Rattle.ptmerge.specs.declared.key_order.Side.{Side}
 use Rattle.ptmerge.specs.declared.key_order.Side.TheVariants.{First, Second}
 use Rattle.ptrun.specs.Lines.{known_lines}
 
--- What a merge is by: the byte that ends a line, the order of keys, the key of a line of each input, and the output
+-- A merge is given by the byte that ends a line, the order of keys, the key of a line of each input, and the output
 -- lines for a key, given the lines with this key in both inputs.
 pub record Merge : Type 0 where
   pub end : ℕ

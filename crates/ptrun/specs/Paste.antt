@@ -1,4 +1,4 @@
--- What `paste` makes of what was received of its inputs.
+-- The output of `paste` for what was received of its inputs.
 use Rattle.std.specs.Prelude.{ℕ, ◌%◌, ◌==◌, ◌||◌, List, [], ◌∷◌, ◌++◌, Bool, length, take, max, map, filter, zip}
 use Rattle.std.specs.Prelude.{fold, count_by, nat_lt, slice_index_or, if◌then◌else◌}
 use Rattle.std.specs.List.{enumerate_from, range_with_len, list_all}

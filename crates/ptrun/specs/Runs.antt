@@ -66,7 +66,7 @@ RunEnd m r old new written message o n (Some fault) =
 
 -- ---- a run
 
--- What a run does beyond output, messages, status and memory.
+-- The effects of a run beyond output, messages, status and memory.
 pub record IsRunBeyond (m : CommandSpec) (received : ReceivedInputs) (old new : List Reader) (before : Sinks)
     (o : Outcome) (written : List ℕ) (operands_done : ℕ) (fault : Option FlowFault) : Type 0 where
   -- all output was flushed unless a write failed
@@ -85,7 +85,7 @@ pub record IsRunBeyond (m : CommandSpec) (received : ReceivedInputs) (old new : 
   -- after a failed write
   pub bounded_lag : HasBoundedLag m received operands_done (λ decided. IsWrittenUpToBlock decided written o.out.failed)
 
--- What holds of a run.
+-- The properties of a run.
 pub record IsRun (m : CommandSpec) (old new : List Reader) (before : Sinks) (o : Outcome) : Type 0 where
   -- what was received from the inputs, the bytes that reached the output, and the messages
   pub received : ReceivedInputs

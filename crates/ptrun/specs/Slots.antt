@@ -56,7 +56,7 @@ accepts _ positions = true
 abbrev pub reads_nothing : Job → List ℕ → (ℕ → Bool) → Bool
 reads_nothing job positions is_unopened_at = is_none (decided_of_one job) && list_any is_unopened_at positions
 
--- What is specified of a command with this job over operands at these positions.
+-- The specification of a command with this job over operands at these positions.
 abbrev pub spec_beyond : Job → List ℕ → SpecBeyond
 spec_beyond job positions = record {
   slot_bound = λ w. slot_bound job positions (all_received w);

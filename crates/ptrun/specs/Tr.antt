@@ -1,4 +1,4 @@
--- What `tr` makes of a text.
+-- The output of `tr` for a text.
 use Rattle.std.specs.Prelude.{ℕ, ◌==◌, ◌&&◌, List, ◌∷◌, Bool, filter, if◌then◌else◌, map, not}
 use Rattle.ptlangs.specs.TrPlan.{ByteMap}
 

@@ -1,4 +1,4 @@
--- What `uniq` makes of what was received of an input.
+-- The output of `uniq` for what was received of an input.
 use Rattle.std.specs.Prelude.{ℕ, List}
 use Rattle.ptlines.specs.Received.{Received}
 use Rattle.ptlangs.specs.Jobs.{Uniq}

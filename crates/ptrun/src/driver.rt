@@ -154,7 +154,7 @@ fn report_unopened<S: Source, R: Source, E: Sink>(
     any
 }
 
-// Sends and flushes the buffered output. A failed write is the result, in place of any other.
+// Sends and flushes the buffered output. A failed write is the result, instead of any other.
 fn finish<W: Sink>(
     out: &mut Out<W>,
     run_result: Result<Completion, FlowFault>,

@@ -1,5 +1,5 @@
 //! The tools that merge two sorted inputs by their keys, as a run drives them: `comm` and `join`. They borrow the
-//! readers of two operands at once, and report positions in place of sides.
+//! readers of two operands at once, and report positions instead of sides.
 
 ghost use Rattle.std.specs.Borrow.{Array, LendsBoth, sem};
 ghost use Rattle.std.specs.Prelude.{◌≡◌, ◌<◌, length, set, slice_index_or};
@@ -74,7 +74,7 @@ fn two_mut<T>(items: &mut [T], first: usize, second: usize) -> (&mut T, &mut T)
     }
 }
 
-// The result of a merge, with positions in place of sides.
+// The result of a merge, with positions instead of sides.
 fn found_at(
     merge_result: Result<(), MergeFault>,
     first: usize,

@@ -25,7 +25,7 @@ pub struct Report<W, E> {
     pub messages: E,
 }
 
-/// Says a message in place of a run, and returns a report with this status and the unused output.
+/// Says a message instead of a run, and returns a report with this status and the unused output.
 pub fn report_not_run<W: Sink, E: Sink>(
     status: u8,
     parts: &[&str],

@@ -1,4 +1,4 @@
-//! Files in memory, which a run opens in place of those of the system. Used by `running`.
+//! Files in memory, which a run opens instead of those of the system. Used by `running`.
 
 ghost use Rattle.std.specs.Prelude.{◌≡◌, All, Some, drop, length, option_map};
 ghost use Rattle.ptfiles.specs.Calls.Bytes.{bytes_state};

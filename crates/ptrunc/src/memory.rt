@@ -25,7 +25,7 @@ impl<'a> Room<'a> {
         Room { bytes, written: 0 }
     }
 
-    /// Writes the first of these bytes, as many as fit, and returns how many they are.
+    /// Writes the first of these bytes, those that fit, and returns their number.
     pub fn append(&mut self, bytes: &[u8]) -> usize
         ensures count { result ≡ min (length bytes.now) (length self.old.bytes.now - self.old.written) }
         ensures written { self.new.written ≡ self.old.written + result }

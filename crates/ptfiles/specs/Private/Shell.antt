@@ -1,4 +1,4 @@
--- The contracts of the private functions of `shell`: the inputs are opened, the place that the command writes to is
+-- The contracts of the private functions of `shell`: the inputs are opened, the output that the command names is
 -- found, and the command is run over its inputs.
 use Rattle.std.specs.Prelude.{◌≡◌, ◌⊎◌, ℕ, true, false, List, [], ◌∷◌, Some}
 use Rattle.std.specs.Prelude.{All, length}

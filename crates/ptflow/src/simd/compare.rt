@@ -1,4 +1,4 @@
-//! Compares two slices, or their first bytes, 16 at once. `uniq` uses it.
+//! Compares two slices, or their first bytes, by vectors of up to 16 bytes. `uniq` uses it.
 
 ghost use Rattle.std.specs.Prelude.{◌≡◌, ◌≢◌, ◌≤◌, ◌+◌, MatchBool, bytes_eq, length, take, true};
 ghost use Rattle.std.specs.Simd.Lanes.{chunk};

@@ -105,6 +105,7 @@ HasKey key line = line.key.now ≡ key line.head.now
 -- No line was passed yet.
 pub record CanMerge (key : Key) (line : BlockLine) : Type 0 where
   pub passed : line.passed ≡ 0
+  pub same : line.same ≡ false
   pub in_block : IsInBlock line
   pub key_is : HasKey key line
 

@@ -1,4 +1,4 @@
-//! What a tool writes for the lines of a merge (`MergeWriter`), and the step that passes a line of one input alone.
+//! The output of a tool for the lines of a merge (`MergeWriter`), and the step that passes a line of one input alone.
 
 ghost use Rattle.std.specs.Prelude.{◌≡◌, ◌∷◌, [], true, false};
 ghost use Rattle.ptlines.specs.Calls.Outputs.{PushEffect};
@@ -17,7 +17,7 @@ use crate::merging::Merge;
 use ptlines::{LineReader, Out, Sink, Source, Store, WriteFault};
 use std::alloc::Allocator;
 
-/// What a tool that merges two inputs writes for their lines.
+/// Writes the output lines of a tool that merges two inputs.
 pub(crate) trait MergeWriter: Copy {
     /// The tool. Its lines may also be in another order of the same keys.
     ghost tool: { Self → MergeTool };

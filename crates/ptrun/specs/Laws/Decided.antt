@@ -10,7 +10,8 @@ use Rattle.ptrun.specs.Files.{InputBytes}
 use Rattle.ptrun.specs.Operands.{positions}
 use Rattle.ptrun.specs.SpecOfArgs.{spec_of_args}
 
--- What only the end of the input decides: of `uniq` the last run, of other tools and of words that are no command nothing.
+-- The output that only the end of the input decides: the last run of `uniq`. Other tools have none, nor have words that
+-- are no command.
 abbrev pub end_of_output : Result Command Fault → InputBytes → List ℕ
 end_of_output (Ok c) w = at_end c.job (positions c.order) (all_received w)
 end_of_output (Err fault) w = []

@@ -99,7 +99,7 @@ HasIndexBelow count (Err (Read position)) = position < count
 HasIndexBelow count _ = Unit {0}
 
 -- The postcondition of finishing the output: what was buffered is sent, and the sink is flushed once. If a write
--- failed, that is the result, in place of any other, and nothing was flushed.
+-- failed, that is the result, instead of any other, and nothing was flushed.
 pub record FinishPost (old new : Output) (run_result final_result : Result Completion FlowFault) : Type 0 where
   pub wrote : PushEffect old (record new { flushes = old.flushes }) []
   pub same_result : new.write_failed ≡ false → final_result ≡ run_result

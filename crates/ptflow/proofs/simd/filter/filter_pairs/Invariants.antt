@@ -1,5 +1,5 @@
 -- The loop over chunks of 64 bytes: what was stored, and then what is kept of the rest, is the whole output
--- (`FilterInvariant`). At most as many bytes were stored as were read, and the rest gets shorter.
+-- (`FilterInvariant`). No more bytes were stored than were read, and the rest gets shorter.
 use Rattle.ptflow.proofs
 use proofs.Common.{◌≤◌, ◌+◌, ◌-◌, ◌++◌, length, take, kept_bytes}
 use proofs.Vectors.Compress.{FilterInvariant}

@@ -7,5 +7,5 @@ use proofs.merging.Merge.block_line.Goals as goal
 
 pub returns-clause-begins : goal.returns-clause-begins
 returns-clause-begins g c =
-    can_merge refl c.buffered.ensures.buffered c.buffered.ensures.sound
+    can_merge refl refl c.buffered.ensures.buffered c.buffered.ensures.sound
     (c.key.ensures ∙ ap (g.K.KeyOrder.key_of c.args.self.now.order c.args.side) (sym c.head.ensures))

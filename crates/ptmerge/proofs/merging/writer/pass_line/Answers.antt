@@ -1,4 +1,4 @@
--- What `pass_line` has pushed is the output for the line, since writing out the buffer pushes nothing more.
+-- `pass_line` has pushed the output for the line, since writing out the buffer pushes nothing more.
 use Rattle.ptmerge.proofs
 use proofs.MergeLemmas.{wrote_and_sent}
 use proofs.merging.writer.pass_line.Goals as goal

@@ -1,4 +1,4 @@
--- What `write_pairs` has pushed is the pairs, since writing out the buffer pushes nothing more, whether the call then
+-- `write_pairs` has pushed the pairs, since writing out the buffer pushes nothing more, whether the call then
 -- succeeds or fails.
 use Rattle.ptmerge.proofs
 use proofs.MergeLemmas.{wrote_and_sent}

@@ -1,4 +1,4 @@
--- What `open` returns is the source of the next file. The files that are left are those after the files that were
+-- `open` returns the source of the next file. The files that are left are those after the files that were
 -- opened.
 use Rattle.ptrunc.proofs.FileLemmas.{opened_next}
 use Rattle.ptrunc.proofs.files.MemoryFilesFiles.open.Goals as goal

@@ -1,4 +1,4 @@
--- What a range adds to each of 16 lanes: its shift if the distance from its first byte is at most its width, and
+-- A range adds to each of 16 lanes: its shift if the distance from its first byte is at most its width, and
 -- otherwise 0.
 use Rattle.ptflow.proofs
 use Rattle.std.proofs.Common.{◌+◌, ◌-◌, ◌%◌, nat_le}
