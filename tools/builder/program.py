@@ -26,7 +26,7 @@ def link_beside(kit, place, processor):
 def build(kit, place, processor, _):
     crates = Crates(PROGRAM, True)
     say(
-        f"proving {len(crates.names)} crates and building the program. From nothing this takes 25 minutes on "
+        f"proving {len(crates.names)} crates and building the program. From nothing this takes 20 minutes on "
         f"four processors, the first crate alone 2 to 4; {describe_kept(crates)}."
     )
     made = f"{prove(crates, place)}/crates/{PROGRAM}/out/{PROGRAM}"
