@@ -8,10 +8,10 @@ export { PtextError } from "./checks.mjs";
 
 /** How many modules and threads that have ended their run are kept for the next one. */
 const KEPT = 4;
-/** The size of a stream's pieces. Those that are dropped wait for V8, which collects after so many, not so much. */
-const PART = 2 ** 14;
+/** After this many bytes of pieces, those that nobody has any more are collected. */
+const COLLECTED = 2 ** 22;
 
-let compiled = null;
+let compiled = null, passed = 0;
 const modules = [], threads = [];
 
 /** The compiled module, which all threads share. */
@@ -89,9 +89,19 @@ async function* eachOf(given) {
     yield* given;
 }
 
+/** The pieces of a file, each of which is there until the next one. */
+async function* readsOf(url) {
+    const file = await fs.promises.open(url), room = Buffer.allocUnsafeSlow(PIECE);
+    try {
+        for (let read; (read = await file.read(room)).bytesRead; ) yield room.subarray(0, read.bytesRead);
+    } finally {
+        await file.close();
+    }
+}
+
 /** The pieces of any input. Its `return` also ends a stream of which `next` waits for a piece. */
 function awaitedPiecesOf(given) {
-    if (given instanceof URL) return awaitedPiecesOf(fs.createReadStream(given, { highWaterMark: PIECE }));
+    if (given instanceof URL) return readsOf(given);
     if (given instanceof Blob) return awaitedPiecesOf(given.stream());
     if (isBytes(given)) return eachOf([given]);
     if (typeof given.getReader === "function") {
@@ -102,6 +112,14 @@ function awaitedPiecesOf(given) {
     if (typeof given.pipe !== "function") return iterator;
     // (It is a Readable.)
     return { next: () => iterator.next(), return: async () => given.destroy() };
+}
+
+/** Counts the bytes of a piece. V8 collects if there are new buffers of 32 MB: it gets one, whose pages are not there. */
+function count(size) {
+    passed += size;
+    if (passed < COLLECTED) return;
+    passed = 0;
+    new ArrayBuffer(2 ** 25);
 }
 
 // ---- in this thread
@@ -236,6 +254,7 @@ class Running {
         const part = rest.subarray(0, PIECE);
         this.thread.piece.set(part);
         this.rests.set(number, rest.subarray(part.length));
+        count(part.length);
         return part.length;
     }
 
@@ -270,7 +289,8 @@ export function stream(words, options = {}) {
     const pull = async (controller) => {
         const piece = await running.next();
         if (!piece) return controller.close();
-        for (let at = 0; at < piece.length; at += PART) controller.enqueue(piece.slice(at, at + PART));
+        controller.enqueue(piece.slice());
+        count(piece.length);
     };
     const made = new ReadableStream({ pull, cancel: () => running.close() }, { highWaterMark: 0 });
     dropped.register(made, running);

@@ -39,6 +39,9 @@ TABLE, EXPORTS, ELEMENTS = 4, 7, 9
 FEATURES = ["bulk-memory", "multivalue", "mutable-globals", "nontrapping-float-to-int", "sign-ext", "simd"]
 # The programs that make a module with vectors.
 NEEDED = ["wasm-opt", "wasm2wat", "wat2wasm"]
+# Options of the compiler for it. It takes a function into its only caller, however large both are, and V8 takes memory
+# by the size of the largest function: with all costs but that gain times four, a quarter of the size is taken.
+FOR_V8 = "-msimd128 -mllvm -inline-instr-cost=20 -mllvm -inline-threshold=1000 -mllvm -inlinehint-threshold=1300"
 # The loads and stores of vectors whose addresses wasm-opt 108 leaves at 64 bits, in the text of a module. The address
 # is the last operand; in those of one lane, the one before the vector.
 OF_VECTOR = re.compile(r"\s*v128\.load(\d+_splat|\d+_zero|8x8_[su]|16x4_[su]|32x2_[su])\b")
@@ -197,7 +200,7 @@ def make_toolchain(kit, place):
         for name in os.listdir(f"{of_kit}/{folder}"):
             os.symlink(f"{of_kit}/{folder}/{name}", f"{made}/{folder}/{name}")
     os.remove(f"{made}/bin/clang")
-    write_text(f"{made}/bin/clang", f'#!/bin/sh\nexec {shlex.quote(of_kit)}/bin/clang "$@" -msimd128\n')
+    write_text(f"{made}/bin/clang", f'#!/bin/sh\nexec {shlex.quote(of_kit)}/bin/clang "$@" {FOR_V8}\n')
     os.chmod(f"{made}/bin/clang", 0o755)
     return made
 
