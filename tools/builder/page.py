@@ -39,8 +39,8 @@ TABLE, EXPORTS, ELEMENTS = 4, 7, 9
 FEATURES = ["bulk-memory", "multivalue", "mutable-globals", "nontrapping-float-to-int", "sign-ext", "simd"]
 # The programs that make a module with vectors.
 NEEDED = ["wasm-opt", "wasm2wat", "wat2wasm"]
-# Options of the compiler for it. It takes a function into its only caller, however large both are, and V8 takes memory
-# by the size of the largest function: with all costs but that gain times four, a quarter of the size is taken.
+# Options of the compiler for it. It inlines a function into its only caller even if both are large, and V8 needs memory
+# by the largest function. All costs and limits are four times the usual ones, except the bonus for an only caller.
 FOR_V8 = "-msimd128 -mllvm -inline-instr-cost=20 -mllvm -inline-threshold=1000 -mllvm -inlinehint-threshold=1300"
 # The loads and stores of vectors whose addresses wasm-opt 108 leaves at 64 bits, in the text of a module. The address
 # is the last operand; in those of one lane, the one before the vector.
