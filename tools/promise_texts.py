@@ -25,7 +25,7 @@ function is one for files and for inputs and sinks whose bytes are known ([PROVE
 | So are the messages | FIELD(ptrun.Runs.IsExact.messages) | which of them were written if a message could not be |
 | So is the status | FIELD(ptrun.Runs.IsExact.status_is) | |
 | Fail or not, at most so many bytes of lines are in the store at any moment | FIELD(ptrun.Runs.IsRun.bounded) | what else takes memory: buffers, spare room, and up to 8,192 bytes of a line that `uniq` keeps beside the store |
-| The reported peak is that of the store | the clause `store` of `run_with_store`, which `run` calls | this of `run`, whose contract names no store: one that reports 0 would meet it |
+| The reported peak is that of the store | the clause `memory` of `report_of`, which `run` calls | this of `run`, whose contract names no store: one that reports 0 would meet it |
 | Whatever fails, what was written is a beginning of the right output, however the inputs may go on | FIELD(ptrun.Runs.IsRun.is_prefix) | how much was written |
 | A run ends with all output, messages and status; or it stopped, with status 1, for a failure that happened | FIELD(ptrun.Runs.IsRun.ends) | which failure is named, if several of a kind happened. A failed write is named before all others; after a failed read no request for memory fails |
 | A run that stopped has the messages about the operands before, and one about the failure | `message ≡ operand_messages m w n ++ fault_message m.tool m.names fault` | how many operands these are, if a write or memory failed |

@@ -1,5 +1,5 @@
-//! Tests of `join` over in-memory sources and sinks: the output, the line that is out of order, how often the inputs
-//! are read and the output is written, and the memory. The module `failures` makes each call fail in turn.
+//! Tests of `join` over in-memory sources and sinks: its output, the line out of order that it names, how often it reads
+//! and writes, and its memory. The module `failures` makes each call fail in turn.
 
 use crate::join_blanks::check_extra_blank;
 use crate::two_inputs::{

@@ -47,7 +47,7 @@ pub fn reading() -> OpenOptions
     options
 }
 
-// The options of an output file: it is created, or its bytes are given up.
+// The options of an output file: it is created, or truncated if it exists.
 fn writing() -> OpenOptions
     ensures { result ≡ with_truncate (with_create (with_write new_options true) true) true }
 {

@@ -8,7 +8,8 @@ use Rattle.ptlines.specs.Slots.{Slots}
 use Rattle.ptrun.specs.CommandSpec.{CommandSpec}
 use Rattle.ptrun.specs.Files.{ReceivedInputs}
 use Rattle.ptflow.specs.declared.faults.FlowFault.{FlowFault}
-use Rattle.ptrun.specs.Runs.{Outcome, IsRun, IsRunInStore, IsExactUnlessFailed, IsUnchangedIfUnread, RunEnd, sinks}
+use Rattle.ptrun.specs.Calls.Runs.{RunWithStorePost}
+use Rattle.ptrun.specs.Runs.{Outcome, IsRun, RunEnd, sinks}
 use Rattle.ptfiles.specs.Outputs.{closed_state}
 use Rattle.ptfiles.specs.Private.Outputs.{IsStandard, known_or, mark, output_state, target_state}
 use Rattle.ptfiles.specs.declared.output.Output.{Output}
@@ -32,7 +33,7 @@ unmark_mark kind written s = λ i. record s { accepted = by_bytes s.accepted i }
     by_bytes None = refl
     by_bytes (Some bytes) = refl
 
-pub marks_are_equal : (kind : ℕ) (written after : List ℕ) (a b : SinkState) → mark kind after a ≡ mark kind written b
+marks_are_equal : (kind : ℕ) (written after : List ℕ) (a b : SinkState) → mark kind after a ≡ mark kind written b
     → a ≡ b
 marks_are_equal kind written after a b same =
     sym (unmark_mark kind after a) ∙ ap unmark same ∙ unmark_mark kind written b
@@ -138,22 +139,18 @@ module _ (kind : ℕ) (written after : List ℕ) (m : CommandSpec) (old new : Li
   }
 
   pub run_behind : (lent left : Slots)
-      → IsRunInStore m old new (sinks (mark kind written s) messages) (record o { out = mark kind after s' }) lent left
-      → IsRunInStore m old new (sinks s messages) (record o { out = s' }) lent left
+      → RunWithStorePost m old new (sinks (mark kind written s) messages) (record o { out = mark kind after s' }) lent left
+      → RunWithStorePost m old new (sinks s messages) (record o { out = s' }) lent left
   unfolding is_run_behind
-  run_behind lent left r = record { run = is_run_behind r.run; slots = r.slots }
-
-  pub exact_behind : IsExactUnlessFailed m old new (sinks (mark kind written s) messages) (record o { out = mark kind after s' })
-      → IsExactUnlessFailed m old new (sinks s messages) (record o { out = s' })
-  exact_behind exact w bytes unfailed writes fits = let e = exact w bytes unfailed writes fits in record {
-    out = added_behind kind written after s.accepted s'.accepted (m.out w) e.out;
-    messages = e.messages;
-    status_is = e.status_is;
-    bounded = e.bounded;
+  run_behind lent left r = record {
+    run = record { run = is_run_behind r.run.run; slots = r.run.slots };
+    is_exact = λ w bytes unfailed writes fits. let e = r.is_exact w bytes unfailed writes fits in record {
+      out = added_behind kind written after s.accepted s'.accepted (m.out w) e.out;
+      messages = e.messages;
+      status_is = e.status_is;
+      bounded = e.bounded;
+    };
+    reads_nothing = λ none. let u = r.reads_nothing none in
+        (u.0, (marks_are_equal kind written after s' s u.1.0, u.1.1, u.1.2));
+    keeps_nothing = r.keeps_nothing;
   }
-
-pub unread_behind : (kind : ℕ) (written after : List ℕ) (m : CommandSpec) (old new : List Reader) (s s' : SinkState)
-    (o : Outcome) → IsUnchangedIfUnread m old new (mark kind written s) (record o { out = mark kind after s' })
-    → IsUnchangedIfUnread m old new s (record o { out = s' })
-unread_behind kind written after m old new s s' o unread none =
-    let u = unread none in (u.0, (marks_are_equal kind written after s' s u.1.0, u.1.1, u.1.2))

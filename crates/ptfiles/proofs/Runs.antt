@@ -1,11 +1,11 @@
 -- From the run over the parsed command to the contract of a run over files. The words and the parsed command agree
 -- on the command, so the run is one that the words mean, over the new inputs that they name, and its sink is where
 -- they say. If the words are no command, nothing is read.
-use Rattle.std.proofs.Common.{◌≡◌, ℕ, Bool, true, false, List, [], ◌∷◌, Option, Some, None, Result, Ok, Err, inl, inr}
-use Rattle.std.proofs.Common.{All, arith, sym, ◌∙◌, ap, refl, subst, ⊎_elim, if◌then◌else◌, is_none, length, option_map}
+use Rattle.std.proofs.Common.{◌≡◌, ℕ, Bool, true, false, List, [], ◌∷◌, Option, Some, None, Ok, inl, inr}
+use Rattle.std.proofs.Common.{All, arith, sym, ◌∙◌, ap, refl, subst, if◌then◌else◌, is_none, length, option_map}
 use Rattle.std.proofs.lemmas.Bool.{false≢true, true≢false}
 use Rattle.std.proofs.lemmas.List.{append-nil}
-use Rattle.std.proofs.lemmas.List.Elements.{All-nil}
+use Rattle.std.specs.Borrow.{Bor}
 use Rattle.std.specs.Io.KnownBytes.{append_known}
 use Rattle.std.specs.List.{list_any}
 use Rattle.ptopts.specs.Commands.{Command, command_of_args}
@@ -18,25 +18,23 @@ use Rattle.ptlines.specs.Sinks.{SinkState}
 use Rattle.ptlines.specs.Slots.{Slots}
 use Rattle.ptlines.specs.Sources.{SourceState, IsFresh}
 use Rattle.ptrun.proofs.RunEnds.{exact_of_run, message_only_run}
-use Rattle.ptrun.specs.Calls.Runs.{usage_message, usage_status}
+use Rattle.ptrun.specs.Calls.Runs.{RunWithStorePost, usage_message, usage_status}
 use Rattle.ptrun.specs.Files.{AreNewInputs, HasReadFailed, HaveReceived, IsNewOrUnopened, ReceivedInputs}
 use Rattle.ptrun.specs.MessageWrites.{HasSaid}
-use Rattle.ptrun.specs.Runs.{Outcome, IsExactUnlessFailed, IsRun, IsRunInStore, IsStoreUnchangedIfUnread, IsUnchangedIfUnread}
-use Rattle.ptrun.specs.Runs.{sinks}
+use Rattle.ptrun.specs.Runs.{Outcome, IsRun, sinks}
 use Rattle.ptrun.specs.SpecOfArgs.{message_only, spec_of_args, spec_of_result, spec_unless_memory}
 use Rattle.ptrun.specs.SpecOfArgs.{tool_name}
 use Rattle.ptfiles.specs.Files.{FilesState, Output, with_created}
 use Rattle.ptfiles.specs.Private.Outputs.{AreParts, mark, target_state}
 use Rattle.ptfiles.specs.Shell.{After, Before, HasRun, HasRunOver, IsDirected, IsNotCreated}
-use Rattle.ptfiles.specs.Private.Shell.{HaveOpened, RunOverInputsPost}
+use Rattle.ptfiles.specs.Private.Shell.{HaveOpened}
 use Rattle.ptfiles.specs.Files.{new_readers}
 use Rattle.ptfiles.specs.Outputs.{closed_state}
 use Rattle.ptfiles.specs.Shell.{RunOverFilesPost, command_to_run, empty_store, input_names}
 use Rattle.ptfiles.specs.Shell.{has_standard_output, name_of_output, output_names, valid_command, before}
 use Rattle.ptfiles.specs.declared.output.Target.{Target}
 use Rattle.ptfiles.proofs.Inputs.{none_opened, opened_are_new, readers_have_bytes}
-use Rattle.ptfiles.proofs.Outputs.{exact_behind, file_returned, nowhere_returned, run_behind, standard_returned}
-use Rattle.ptfiles.proofs.Outputs.{unread_behind}
+use Rattle.ptfiles.proofs.Outputs.{file_returned, nowhere_returned, run_behind, standard_returned}
 
 pub nothing_created : (s : FilesState) → s ≡ with_created s [] []
 nothing_created s = λ i. record {
@@ -58,6 +56,26 @@ no_output_file (Some command) readers standard = by_output command.output (list_
     by_output None false none = refl
     by_output (Some name) false none = absurd (false≢true none)
 
+-- ---- where a command writes, by its output in the code
+
+pub no_name : (command : Command) (readers : List Reader) → true ≡ list_any (λ r. r.refused) readers
+    → output_names (Some command) readers ≡ []
+no_name command readers any = rw (← any) refl
+
+module _ (command : Command) {output : Option (Bor (List ℕ))}
+    (same : option_map (λ (w : Bor (List ℕ)). w.now) output ≡ command.output) where
+  pub to_standard : output ≡ None → has_standard_output (Some command) ≡ true
+  to_standard is = rw (← same, is) refl
+
+  pub not_standard : {name : Bor (List ℕ)} → output ≡ Some name → has_standard_output (Some command) ≡ false
+  not_standard is = rw (← same, is) refl
+
+  pub one_name : {name : Bor (List ℕ)} (readers : List Reader) → output ≡ Some name
+      → false ≡ list_any (λ r. r.refused) readers → output_names (Some command) readers ≡ name.now ∷ []
+  one_name readers is none = rw (← none, ← same, is) refl
+
+-- ---- a run over the inputs
+
 module _ (command : Command) (words : List (List ℕ)) (meant : command_of_args words ≡ Ok command) where
   -- The words mean the command, and memory did not run out.
   pub to_run : (out_of_memory : Bool) → out_of_memory ≡ false → Some command ≡ command_to_run words out_of_memory
@@ -71,45 +89,38 @@ module _ (command : Command) (words : List (List ℕ)) (meant : command_of_args 
 
   module _ (old new : List Reader) (b : Before) (a : After) (Unused : Type 0) (parsed : a.out_of_memory ≡ false)
       (ran : Outcome) (same : record a.outcome { out = ran.out } ≡ ran)
-      (store : (a.outcome.peak ≡ a.store.peak) × (a.outcome.denied ≡ a.store.denied))
-      (keeps : IsStoreUnchangedIfUnread (spec_of_args words) old b.store a.store) where
+      (store : (a.outcome.peak ≡ a.store.peak) × (a.outcome.denied ≡ a.store.denied)) where
     -- The run was given this sink, and returned one with the state of that of `ran`.
     pub ran_over : (sink : SinkState) (outputs : List Output)
         → a.files ≡ with_created b.files (output_names (Some command) old) outputs
         → IsDirected (has_standard_output (Some command)) (output_names (Some command) old) b a outputs sink ran.out Unused
-        → IsRunInStore (spec_of_args words) old new (sinks sink b.messages) ran b.store a.store
-        → IsExactUnlessFailed (spec_of_args words) old new (sinks sink b.messages) ran
-        → IsUnchangedIfUnread (spec_of_args words) old new sink ran → HasRunOver words old new b a Unused
-    ran_over sink outputs created directed run exact unread = record {
-      outputs = outputs;
-      sink = sink;
-      sink_after = ran.out;
-      created = subst (λ c. a.files ≡ with_created b.files (output_names c old) outputs)
-          (to_run a.out_of_memory parsed) created;
-      directed = subst
-          (λ c. IsDirected (has_standard_output c) (output_names c old) b a outputs sink ran.out Unused)
-          (to_run a.out_of_memory parsed) directed;
-      run = subst (λ o. IsRunInStore (spec_unless_memory words a.out_of_memory) old new (sinks sink b.messages) o b.store
-          a.store) (sym same)
-          (subst (λ m. IsRunInStore m old new (sinks sink b.messages) ran b.store a.store)
-          (spec_is a.out_of_memory parsed) run);
-      is_exact = λ parsed. subst (λ o. IsExactUnlessFailed (spec_of_args words) old new (sinks sink b.messages) o)
-          (sym same)
-          (subst (λ m. IsExactUnlessFailed m old new (sinks sink b.messages) ran) (spec_is false refl) exact);
-      reads_nothing = subst (λ o. IsUnchangedIfUnread (spec_unless_memory words a.out_of_memory) old new sink o) (sym same)
-          (subst (λ m. IsUnchangedIfUnread m old new sink ran) (spec_is a.out_of_memory parsed) unread);
-      keeps_nothing = subst (λ m. IsStoreUnchangedIfUnread m old b.store a.store) (spec_is a.out_of_memory parsed) keeps;
-      store = store;
-    }
+        → RunWithStorePost (spec_of_args words) old new (sinks sink b.messages) ran b.store a.store
+        → HasRunOver words old new b a Unused
+    ran_over sink outputs created directed run =
+        let of_args = subst (λ o. RunWithStorePost (spec_of_args words) old new (sinks sink b.messages) o b.store a.store)
+        (sym same) run in
+        let whole = subst (λ m. RunWithStorePost m old new (sinks sink b.messages) (record a.outcome { out = ran.out })
+        b.store a.store) (spec_is a.out_of_memory parsed) of_args in record {
+          outputs = outputs;
+          sink = sink;
+          sink_after = ran.out;
+          created = subst (λ c. a.files ≡ with_created b.files (output_names c old) outputs)
+              (to_run a.out_of_memory parsed) created;
+          directed = subst
+              (λ c. IsDirected (has_standard_output c) (output_names c old) b a outputs sink ran.out Unused)
+              (to_run a.out_of_memory parsed) directed;
+          run = whole.run;
+          is_exact = λ parsed. of_args.is_exact;
+          reads_nothing = whole.reads_nothing;
+          keeps_nothing = whole.keeps_nothing;
+          store = store;
+        }
 
   -- The run was given a target in the state `first`, and `target` is the one that it returned.
   module _ (old new : List Reader) (b : Before) (a : After) (Unused : Type 0)
       (parsed : a.out_of_memory ≡ false) (ran : Outcome) (same : record a.outcome { out = ran.out } ≡ ran)
-      (store : (a.outcome.peak ≡ a.store.peak) × (a.outcome.denied ≡ a.store.denied))
-      (keeps : IsStoreUnchangedIfUnread (spec_of_args words) old b.store a.store) (first : SinkState)
-      (run : IsRunInStore (spec_of_args words) old new (sinks first b.messages) ran b.store a.store)
-      (exact : IsExactUnlessFailed (spec_of_args words) old new (sinks first b.messages) ran)
-      (unread : IsUnchangedIfUnread (spec_of_args words) old new first ran)
+      (store : (a.outcome.peak ≡ a.store.peak) × (a.outcome.denied ≡ a.store.denied)) (first : SinkState)
+      (run : RunWithStorePost (spec_of_args words) old new (sinks first b.messages) ran b.store a.store)
       {W F : Type 0} (of_out : W → SinkState) (of_file : F → SinkState) (target : Target W F) (after : List ℕ)
       (returned : ran.out ≡ target_state of_out of_file target after) (unused : Option W) (out : W) (file : Option F)
       (parts : AreParts target unused out file) (out_is : a.outcome.out ≡ of_out out)
@@ -119,26 +130,18 @@ module _ (command : Command) (words : List (List ℕ)) (meant : command_of_args 
         → IsDirected (has_standard_output (Some command)) (output_names (Some command) old) b a
         outputs s s' Unused → HasRunOver words old new b a Unused
     ran_marked kind s s' given left outputs created directed =
-        let with_out : SinkState → Outcome = λ t. record ran { out = t } in
-        let unmarked : Outcome → Outcome = λ o. record o { out = s' } in
         let m = spec_of_args words in
-        let is : ran ≡ with_out (mark kind after s') = ap with_out left in
-        ran_over old new b a Unused parsed (unmarked ran) (ap unmarked same) store keeps s outputs created directed
+        ran_over old new b a Unused parsed (record ran { out = s' }) (ap (λ (o : Outcome). record o { out = s' }) same)
+        store s outputs created directed
         (run_behind kind [] after m old new b.messages s s' ran b.store a.store
-        (subst (λ o. IsRunInStore m old new (sinks (mark kind [] s) b.messages) o b.store a.store) is
-        (subst (λ f. IsRunInStore m old new (sinks f b.messages) ran b.store a.store) given run)))
-        (exact_behind kind [] after m old new b.messages s s' ran
-        (subst (λ o. IsExactUnlessFailed m old new (sinks (mark kind [] s) b.messages) o) is
-        (subst (λ f. IsExactUnlessFailed m old new (sinks f b.messages) ran) given exact)))
-        (unread_behind kind [] after m old new s s' ran
-        (subst (λ o. IsUnchangedIfUnread m old new (mark kind [] s) o) is
-        (subst (λ f. IsUnchangedIfUnread m old new f ran) given unread)))
+        (subst (λ t. RunWithStorePost m old new (sinks (mark kind [] s) b.messages) (record ran { out = t }) b.store a.store)
+        left (subst (λ f. RunWithStorePost m old new (sinks f b.messages) ran b.store a.store) given run)))
 
     -- what was written, to the target that the run returned
     output_is : (s : SinkState) → first ≡ s
-        → (target_state of_out of_file target after).accepted ≡ append_known s.accepted run.run.written
-    output_is s given = ap (λ t. t.accepted) (sym returned) ∙ run.run.output
-        ∙ ap (λ f. append_known f.accepted run.run.written) given
+        → (target_state of_out of_file target after).accepted ≡ append_known s.accepted run.run.run.written
+    output_is s given = ap (λ t. t.accepted) (sym returned) ∙ run.run.run.output
+        ∙ ap (λ f. append_known f.accepted run.run.run.written) given
 
     still : {t : Target W F} → target ≡ t
         → (ran.out ≡ target_state of_out of_file t after) × AreParts t unused out file
@@ -150,7 +153,7 @@ module _ (command : Command) (words : List (List ℕ)) (meant : command_of_args 
     pub ran_to_standard : (given : W) → first ≡ mark 2 [] (of_out given) → of_out given ≡ b.out
         → has_standard_output (Some command) ≡ true → a.files ≡ b.files → HasRunOver words old new b a Unused
     ran_to_standard given first_is given_is standard files =
-        let found = standard_returned of_out of_file target after run.run.written [] (of_out given)
+        let found = standard_returned of_out of_file target after run.run.run.written [] (of_out given)
         (output_is (mark 2 [] (of_out given)) first_is) in
         let left = still found.1 in
         ran_marked 2 (of_out given) (of_out found.0) first_is left.0 []
@@ -163,7 +166,7 @@ module _ (command : Command) (words : List (List ℕ)) (meant : command_of_args 
         → a.files ≡ with_created b.files (name ∷ []) (Some (of_file given) ∷ []) → (unused ≡ Some out → Unused)
         → HasRunOver words old new b a Unused
     ran_to_file given name first_is not_standard names created is_unused =
-        let found = file_returned of_out of_file target after run.run.written [] (of_file given)
+        let found = file_returned of_out of_file target after run.run.run.written [] (of_file given)
         (output_is (mark 1 [] (of_file given)) first_is) in
         let left = still found.1 in
         ran_marked 1 (of_file given) (of_file found.0) first_is left.0 (Some (of_file given) ∷ []) (rw names created)
@@ -173,24 +176,23 @@ module _ (command : Command) (words : List (List ℕ)) (meant : command_of_args 
         → output_names (Some command) old ≡ [] → a.files ≡ b.files → (unused ≡ Some out → Unused)
         → HasRunOver words old new b a Unused
     ran_nowhere first_is not_standard names files is_unused =
-        let found = nowhere_returned of_out of_file target after run.run.written (output_is (closed_state false) first_is) in
+        let found = nowhere_returned of_out of_file target after run.run.run.written (output_is (closed_state false) first_is) in
         let left = still found.1 in
-        ran_over old new b a Unused parsed ran same store keeps first []
+        ran_over old new b a Unused parsed ran same store first []
         (rw names (files ∙ nothing_created b.files))
         (rw (not_standard, names) (refl, first_is, file_is ∙ ap (option_map of_file) left.1.1, is_unused left.1.0))
-        run exact unread
+        run
 
 -- ---- runs over files
 
--- The files that the words name were opened, and the command was run over them.
+-- The files that the words name were opened.
 module _ (words : List (List ℕ)) (b : Before) (a : After) {Unused Failing : Type 0} {files : FilesState}
-    {old new : List Reader}
-    (failing : (received : ReceivedInputs) → HaveReceived old new received
-    → (position : ℕ) → HasReadFailed old new position → Failing)
-    (opened : HaveOpened b.files files (input_names (command_to_run words a.out_of_memory)) b.standard old)
-    (after_open : RunOverInputsPost words old new (record b { files = files }) a Unused) where
-  has_run : HasRunOver words old new (record b { files = files }) a Unused → RunOverFilesPost words b a Unused Failing
-  has_run ran = let h : HasRun words b a Unused Failing = record {
+    {old : List Reader}
+    (opened : HaveOpened b.files files (input_names (command_to_run words a.out_of_memory)) b.standard old) where
+  has_run : {new : List Reader} → ((received : ReceivedInputs) → HaveReceived old new received
+      → (position : ℕ) → HasReadFailed old new position → Failing)
+      → HasRunOver words old new (record b { files = files }) a Unused → RunOverFilesPost words b a Unused Failing
+  has_run {new} failing ran = let h : HasRun words b a Unused Failing = record {
     inputs = opened.inputs;
     are_new = opened.are_new;
     contents = opened.contents;
@@ -215,9 +217,6 @@ module _ (words : List (List ℕ)) (b : Before) (a : After) {Unused Failing : Ty
     contents = opened.contents;
     not_created = rw (opened.readers_are, opened.opened) at n;
   }))
-
-  over_opened : RunOverFilesPost words b a Unused Failing
-  over_opened = ⊎_elim has_run not_created after_open
 
 -- ---- words that are no command
 
@@ -248,7 +247,7 @@ module _ (words : List (List ℕ)) (b : Before) (a : After) (fault : UseFault)
       → a.outcome.status ≡ usage_status (fault_view fault) → (a.outcome.peak ≡ 0) × (a.outcome.denied ≡ false)
       → RunOverFilesPost words b a Unused Failing
   refused {Unused} {Failing} fresh lent files store file unused said status memory =
-      over_opened words b a no_failure opened (inl ran)
+      has_run words b a opened no_failure ran
     where
       old : List Reader
       old = new_readers b.standard []
@@ -284,22 +283,28 @@ module _ (words : List (List ℕ)) (b : Before) (a : After) (fault : UseFault)
 
 -- ---- parsed commands
 
-module _ (command : Command) {before_open files : FilesState} {standard : SourceState} (fresh : IsFresh standard)
+module _ (command : Command) {before_open files : FilesState} {standard : SourceState}
     {old readers : List Reader} (same : old ≡ readers)
     (opened : HaveOpened before_open files command.names standard readers) where
   -- The files that the command names were opened, so the inputs of the run are new.
-  pub fresh_inputs : AreNewInputs (Some (length command.names)) old
-  fresh_inputs = rw same (opened_are_new before_open files _ standard readers fresh opened)
+  pub fresh_inputs : IsFresh standard → AreNewInputs (Some (length command.names)) old
+  fresh_inputs fresh = rw same (opened_are_new before_open files _ standard readers fresh opened)
 
-  pub run_over_files : (words : List (List ℕ)) → command_of_args words ≡ Ok command → {new : List Reader}
-      (out messages : SinkState) (store : Slots) (a : After) {Unused Failing : Type 0}
-      → ((received : ReceivedInputs) → HaveReceived old new received
-      → (position : ℕ) → HasReadFailed old new position → Failing)
-      → a.out_of_memory ≡ false → RunOverInputsPost words old new (before files standard out messages store) a Unused
-      → RunOverFilesPost words (before before_open standard out messages store) a Unused Failing
-  run_over_files words meant out messages store a failing parsed post =
-      over_opened words (before before_open standard out messages store) a failing
-      (subst (λ l. HaveOpened before_open files (input_names (command_to_run words a.out_of_memory)) standard l) (sym same)
-      (subst (λ names. HaveOpened before_open files names standard readers)
-      (ap input_names (to_run command words meant a.out_of_memory parsed)) opened))
-      post
+  module _ (words : List (List ℕ)) (meant : command_of_args words ≡ Ok command) (out messages : SinkState)
+      (store : Slots) (a : After) (parsed : a.out_of_memory ≡ false) where
+    opened_by_words : HaveOpened before_open files (input_names (command_to_run words a.out_of_memory)) standard old
+    opened_by_words =
+        subst (λ l. HaveOpened before_open files (input_names (command_to_run words a.out_of_memory)) standard l) (sym same)
+        (subst (λ names. HaveOpened before_open files names standard readers)
+        (ap input_names (to_run command words meant a.out_of_memory parsed)) opened)
+
+    pub run_over_files : {new : List Reader} {Unused Failing : Type 0} → ((received : ReceivedInputs)
+        → HaveReceived old new received → (position : ℕ) → HasReadFailed old new position → Failing)
+        → HasRunOver words old new (before files standard out messages store) a Unused
+        → RunOverFilesPost words (before before_open standard out messages store) a Unused Failing
+    run_over_files failing = has_run words (before before_open standard out messages store) a opened_by_words failing
+
+    pub output_unopened : {Unused Failing : Type 0}
+        → IsNotCreated words old (before files standard out messages store) a Unused
+        → RunOverFilesPost words (before before_open standard out messages store) a Unused Failing
+    output_unopened = not_created words (before before_open standard out messages store) a opened_by_words

@@ -1,26 +1,23 @@
 //! `run_over_files`, the entry point of the crate. It parses the words, opens the files that these name, decides where
 //! the command writes, creates its output file, and runs it.
 
-ghost use Rattle.std.specs.Prelude.{◌≡◌, ℕ, false, length, List, Some, Ok, IfOk, OnErr};
+ghost use Rattle.std.specs.Prelude.{◌≡◌, false, IfOk, OnErr};
 ghost use Rattle.std.specs.List.{list_any};
-ghost use Rattle.ptlines.specs.Sources.{IsFresh, SourceState};
-ghost use Rattle.ptlines.specs.Readers.{Reader};
-ghost use Rattle.ptopts.specs.Commands.{command_of_args, command_view, words_view};
-ghost use Rattle.ptrun.specs.Files.{AreNewInputs};
-ghost use Rattle.ptrun.specs.Calls.Runs.{IsMeant, RunPre};
-ghost use Rattle.ptrun.specs.Runs.{outcome, sinks};
+ghost use Rattle.ptlines.specs.Sources.{IsFresh};
+ghost use Rattle.ptopts.specs.Commands.{words_view};
+ghost use Rattle.ptrun.specs.Runs.{outcome};
 ghost use Rattle.ptfiles.specs.Files.{IsNewInput, created_state, reader_of_input};
 ghost use Rattle.ptfiles.specs.Private.Files.{opened_state};
 ghost use Rattle.ptfiles.specs.Shell.{MayFail, RunOverFilesPost, after, before, empty_store};
-ghost use Rattle.ptfiles.specs.Private.Shell.{HaveOpened, IsDestination, RunOverInputsPost};
+ghost use Rattle.ptfiles.specs.Private.Shell.{HaveOpened};
 
 use crate::failures::failures_are_of_sources;
 use crate::files::Files;
 use crate::output::{Output, Target};
 use crate::report::FilesReport;
-use ptlines::{LineReader, Sink, Source, Store};
+use ptlines::{LineReader, Out, Sink, Source, Store};
 use ptopts::Command;
-use ptrun::{Report, run_with_store};
+use ptrun::{Messages, report_of, run_with_store};
 use std::alloc::{AllocError, Allocator};
 
 /// Parses the words and runs the command: opens the files that they name, in order, each once, then runs the command over
@@ -64,30 +61,45 @@ pub fn run_over_files<
         Ok(command) => command,
         Err(fault) => return FilesReport::refused(words, fault, out, messages),
     };
-    match open_inputs(alloc, files, &command, standard) {
-        Ok(mut inputs) => {
-            let inputs = &mut *inputs;
-            let report = run_over_inputs(store, files, &command, inputs, out, messages);
-            failures_are_of_sources(inputs);
-            report
-        }
-        Err(_) => FilesReport::no_memory(out, messages),
+    let operands = command.inputs();
+    let mut readers = match open_inputs(alloc, files, &operands.names, standard) {
+        Ok(readers) => readers,
+        Err(_) => return FilesReport::no_memory(out, messages),
+    };
+    let inputs = &mut *readers;
+    // The output file is created only if all inputs could be opened.
+    let (target, unused) = match operands.output {
+        None => (Target::Standard(out), None),
+        Some(_) if is_any_unopened(inputs) => (Target::Nowhere { failed: false }, Some(out)),
+        Some(name) => match files.create(name) {
+            Some(file) => (Target::File(file), Some(out)),
+            None => return FilesReport::not_created(name, out, messages),
+        },
+    };
+    let mut output = Out::new(Output::new(target));
+    let mut messages = Messages::new(messages);
+    let status = run_with_store(store, &command, inputs, &mut output, &mut messages);
+    failures_are_of_sources(inputs);
+    let (out, file) = output.into_sink().into_parts(unused);
+    FilesReport {
+        report: report_of(store, status, out, messages.into_sink()),
+        file,
+        out_of_memory: false,
     }
 }
 
-// Creates the readers of standard input and of the files that a command names, also of those that cannot be opened.
-fn open_inputs<A: Allocator, B: Allocator, F: Files, S: Source>(
+// Creates the readers of standard input and of the files with these names, also of those that cannot be opened.
+fn open_inputs<A: Allocator, F: Files, S: Source>(
     alloc: A,
     files: &mut F,
-    command: &Command<'_, B>,
+    names: &[&str],
     standard: S,
 ) -> Result<Vec<LineReader<S, F::Input>, A>, AllocError>
     requires { IsFresh (S.state standard) }
     ensures opened { IfOk result (λ readers. HaveOpened (F.state files.old) (F.state files.new)
-        (command_view command.now).names (S.state standard) readers.items) }
+        (words_view names.now) (S.state standard) readers.items) }
     ensures not_opened { OnErr result (F.state files.new ≡ F.state files.old) }
 {
-    let names = command.names();
     let mut readers = Vec::with_capacity(alloc, names.len() + 1)?;
     readers.push_reserved(LineReader::standard(standard));
     for name in names {
@@ -104,70 +116,6 @@ fn reader_of<S: Source, R: Source>(input: Option<R>) -> LineReader<S, R>
     match input {
         Some(source) => LineReader::file(source),
         None => LineReader::refused(),
-    }
-}
-
-// Where a command writes: to standard output, to the file with this name, or nowhere, as its input cannot be opened.
-enum Destination<'a> {
-    Standard,
-    File(&'a str),
-    Nowhere,
-}
-
-// Runs a command over its inputs, as `run_over_files` does.
-fn run_over_inputs<A: Allocator + Copy, B: Allocator + Copy, F: Files, S: Source, W: Sink, E: Sink>(
-    store: &mut Store<A>,
-    files: &mut F,
-    command: &Command<'_, B>,
-    inputs: &mut [LineReader<S, F::Input>],
-    out: W,
-    messages: E,
-) -> FilesReport<W, F::Output, E>
-    requires meant { IsMeant (command_view command.now) }
-    requires fresh { AreNewInputs (Some (length (command_view command.now).names)) inputs.old }
-    requires unused { RunPre store.old (sinks (W.state out) (E.state messages)) }
-    ensures parsed { result.out_of_memory ≡ false }
-    ensures run { (words : List (List ℕ)) (standard : SourceState)
-        → command_of_args words ≡ Ok (command_view command.now) → RunOverInputsPost words inputs.old inputs.new
-        (before (F.state files.old) standard (W.state out) (E.state messages) store.old)
-        (after (F.state files.new) store.new (created_state F.Output.state result.file) result.out_of_memory
-        (outcome W.state E.state result.report)) (result.report.out ≡ out) }
-{
-    let (target, unused) = match destination_of(command, inputs) {
-        Destination::Standard => (Target::Standard(out), None),
-        Destination::File(name) => match files.create(name) {
-            Some(file) => (Target::File(file), Some(out)),
-            None => return FilesReport::not_created(name, out, messages),
-        },
-        Destination::Nowhere => (Target::Nowhere { failed: false }, Some(out)),
-    };
-    let output = Output::new(target);
-    let ran = run_with_store(store, command, inputs, output, messages);
-    let (out, file) = ran.out.into_parts(unused);
-    FilesReport {
-        report: Report {
-            status: ran.status,
-            peak: ran.peak,
-            denied: ran.denied,
-            out,
-            messages: ran.messages,
-        },
-        file,
-        out_of_memory: false,
-    }
-}
-
-// Returns where the command writes. Its output file is to be created only if all its inputs could be opened.
-fn destination_of<'a, A: Allocator, S: Source, R: Source>(
-    command: &Command<'a, A>,
-    inputs: &[LineReader<S, R>],
-) -> Destination<'a>
-    ensures { IsDestination (command_view command.now) inputs.now result }
-{
-    match command.output() {
-        None => Destination::Standard,
-        Some(_) if is_any_unopened(inputs) => Destination::Nowhere,
-        Some(name) => Destination::File(name),
     }
 }
 

@@ -61,6 +61,7 @@ pub use Rattle.ptlines.proofs.TextLaws.{byte_eq, unlines-append, unlines_push, t
 pub use Rattle.ptlines.specs.Calls.ReadLine.{FillPost, FillLine}
 pub use Rattle.ptlines.specs.Received.{IsConsistent, IsPrefix, Received, known_lines}
 pub use Rattle.ptlines.specs.Calls.Outputs.{Output, PushEffect}
+pub use Rattle.ptlines.specs.Calls.Scan.{IsNth}
 pub use Rattle.ptlines.specs.Calls.Readers.{AdvanceOk, HasReadCause, IsSound, ReaderAdvance, budget}
 pub use Rattle.ptlines.specs.Readers.{IsDone, Reader}
 pub use Rattle.ptlines.specs.Readers.{reader_at}
@@ -85,7 +86,6 @@ pub use specs.TrOutput.{squeeze, squeeze_after, is_not_repeat, tr, tr_decided, t
 pub use specs.Uniqs.{after_fields, ends_word, is_same, word_ends}
 pub use specs.Private.Vectors.ByteSets.{FilterPre, IsSetOf, keep_flags, kept_bytes, mask_of, set_has, table_has}
 pub use specs.Private.Vectors.Shift.{IsMappedTo, range_delta, shift_by_ranges, stretch_delta}
-pub use specs.Private.Vectors.FindNth.{IsNth}
 pub use specs.Private.Cut.CutFrom.{CutPost, IsTerminatorMask, IsCutPart, IsSameLine, CopyLinesPost, selected_bytes}
 pub use specs.Private.Cut.CutFrom.{cut_list_from}
 pub use specs.Private.Cut.FieldSlices.{IsFieldCursor, IsNextSlice, output_from_cursor}

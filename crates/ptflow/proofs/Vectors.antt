@@ -2,5 +2,5 @@
 pub mod Compress
 pub mod Equal
 pub mod Lanes
-pub mod FindNth
+pub mod NextTerminator
 pub mod Removal

@@ -1,6 +1,5 @@
 //! Vector code of the tools, on 16 or 64 bytes at a time. Nothing here uses a reader, an output or a tool.
 //!
-//! - `find_nth` finds bytes: match masks of 64 bytes, the n-th index of a byte, the end of a line.
 //! - `byte_set` tests 16 bytes for membership in a set.
 //! - `shift` maps 16 bytes at a time by any `ByteMap`; `table` is the one for a table of 256 images.
 //! - `replace` replaces line terminators by the bytes of a cycle.
@@ -10,7 +9,6 @@ pub(crate) mod byte_set;
 pub(crate) mod compare;
 pub(crate) mod compress;
 pub(crate) mod filter;
-pub(crate) mod find_nth;
 pub(crate) mod replace;
 pub(crate) mod shift;
 pub(crate) mod table;

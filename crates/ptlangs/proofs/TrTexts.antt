@@ -1,5 +1,5 @@
--- `read_string` reads a text as it is read in steps (`read_in_steps`): its characters are those of the steps, with their
--- first bytes in place of what kind they are, and its forms are found at the same positions.
+-- `read_string` reads a text as `read_in_steps` does: its characters are those of the steps, each with its first byte
+-- where a step has its kind, and its forms are found at the same positions.
 use Rattle.ptlangs.proofs
 use Rattle.ptlangs.specs
 use proofs.Common.{Bool, Err, List, None, Ok, Option, Result, Segment, SetChar, SetElement, SetFaultKind, SetRole, Some}

@@ -34,8 +34,8 @@ first_char text =
     else (if is_empty octal then ((b, Ok (byte_of_escape (slice_index text 1))), 2)
     else ((b, if nat_le (digits_value 8 octal) 255 then Ok (digits_value 8 octal) else Err Octal), 1 + length octal)))
 
--- What `first` reads of a list, then of what is left, and so on, at most `n` times. It gives a value, and the number of
--- items that it has read.
+-- The values that `first` reads from a list, then from the rest of it, and so on, at most `n` times. It gives a value,
+-- and the number of items that it has read.
 abbrev pub read_all : {A B : Type 0} → (List A → B × ℕ) → ℕ → List A → List B
 read_all first n [] = []
 read_all first zero (x ∷ xs) = []

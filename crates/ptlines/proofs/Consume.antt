@@ -1,5 +1,5 @@
--- What is left of the buffered bytes once some of them were consumed: the range of the block that begins so many bytes
--- later is what was buffered without its first bytes.
+-- The buffered bytes once some of them were consumed: the range of the block that begins later by their number is what
+-- was buffered without its first bytes.
 use Rattle.ptlines.proofs
 use proofs.Common.{◌≡◌, ℕ, ◌+◌, ◌-◌, ◌≤◌, List, length, drop, sym, arith, slice_range, drop-drop, drop-take, usual}
 

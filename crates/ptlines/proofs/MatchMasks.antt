@@ -7,12 +7,18 @@ use proofs.Common.{◌≡◌, ℕ, ◌+◌, ◌*◌, ◌^◌, ◌%◌, ◌<◌, 
 use proofs.Common.{map, refl, sym, ◌∙◌, ap, subst, arith, bit_or, take-add, drop-drop, length-map, length-chunk}
 use proofs.Common.{None, drop, ◌-◌, prefix_len, mask_l, chunk, Nowhere, Passes, IsFirst, IsFirstByte, usual}
 use Rattle.std.specs.Option.{option_map}
-use Rattle.std.proofs.Common.{pow-suc, div-one, zero, suc, ◌/◌, cond}
-use Rattle.std.proofs.Math.Nat.{pow-succ', div-div-eq-div-mul, zero-div}
+use Rattle.std.proofs.Common.{pow-suc, div-one, zero, suc, ◌/◌, cond, ◌||◌, take, replicate, eqb, true, false}
+use Rattle.std.proofs.Math.Nat.{pow-succ', div-div-eq-div-mul, zero-div, mul-lt-mul_of_pos_right, mul_assoc, one-le-pow}
+use Rattle.std.proofs.Math.Pow.{pow-add, pow_mono}
+use Rattle.memchr.specs.Find.{is_byte, is_byte2}
+use Rattle.std.specs.Simd.Lanes.{top, zip2}
+use proofs.Common.{take_all}
+use lib.Bits.{or_step, or_zero_l}
 use lemmas.Grind.{or_before_shift}
-use lemmas.List.{get_or-drop, length-drop, map-append}
+use lemmas.List.{drop-map, get_or-drop, length-drop, map-append, take-map}
 use lib.Count.{count_trailing_zeros}
-use lemmas.Simd.{mask_l-lt, none_from_empty_mask, run_in_chunk_fails, run_in_chunk_stops, trailing_mask_l}
+use lemmas.Simd.{map-map, mask_l-lt, mask_l-mod, none_from_empty_mask, run_in_chunk_fails, run_in_chunk_stops}
+use lemmas.Simd.{trailing_mask_l, zip2_of_maps, zip2_splat}
 
 prefix_len_lt : (test : ℕ → Bool) (xs : List ℕ) → 0 < mask_l (map test xs)
     → prefix_len (λ x. not (test x)) xs < length xs
@@ -37,24 +43,29 @@ module _ (P : ℕ → Type 0) where
   pub nowhere_trans : (i j k : ℕ) → Nowhere P i j → Nowhere P j k → Nowhere P i k
   nowhere_trans = grind arith
 
--- If there is no match among the first bytes, the first match is that among the bytes after them.
-module _ (test : ℕ → Bool) (hay : List ℕ) (size : ℕ) (none : Nowhere (Passes test hay) 0 size) where
+-- If there is no match from an index up to another one, the first match is that among the bytes after them.
+module _ (test : ℕ → Bool) (hay : List ℕ) (from size : ℕ) (order : from ≤ size)
+    (none : Nowhere (Passes test hay) from size) where
   there : (k : ℕ) → size ≤ k → Passes test hay k → Passes test (drop size hay) (k - size)
   there k low passes = grind usual
 
-  pub first_in_rest : (r : Option ℕ) → IsFirstByte test (drop size hay) r
-      → IsFirstByte test hay (option_map (λ at. size + at) r)
-  first_in_rest None first = nowhere_trans (Passes test hay) 0 size (length hay) none (λ k low high passes.
+  pub first_after : (r : Option ℕ) → IsFirstByte test (drop size hay) r
+      → IsFirst (Passes test hay) from (length hay) (option_map (λ at. size + at) r)
+  first_after None first = nowhere_trans (Passes test hay) from size (length hay) none (λ k low high passes.
       first (k - size) (omega arith) (omega (arith, length-drop size hay)) (there k low passes))
-  first_in_rest (Some at) (first, found) = (
+  first_after (Some at) (first, found) = (
     record {
       low = omega arith;
       high = grind usual;
-      before = nowhere_trans (Passes test hay) 0 size (size + at) none
+      before = nowhere_trans (Passes test hay) from size (size + at) none
           (λ k low high passes. first.before (k - size) (omega arith) (omega arith) (there k low passes));
     },
     cc (get_or-drop size hay at 0),
   )
+
+pub first_in_rest : (test : ℕ → Bool) (hay : List ℕ) (size : ℕ) → Nowhere (Passes test hay) 0 size → (r : Option ℕ)
+    → IsFirstByte test (drop size hay) r → IsFirstByte test hay (option_map (λ at. size + at) r)
+first_in_rest test hay size none = first_after test hay 0 size (omega arith) none
 
 -- ---- masks of adjacent chunks
 
@@ -70,6 +81,13 @@ shifted (suc n) [] = zero-div (2 ^ suc n)
 shifted (suc n) (b ∷ bits) =
     let half : (b : Bool) → (cond b 1 0 + 2 * mask_l bits) / 2 ≡ mask_l bits = grind arith in
     grind (arith, half, pow-suc, div-div-eq-div-mul, shifted n bits)
+
+-- without the first items up to one at an index
+pub mask_after : (test : ℕ → Bool) (v : List ℕ) (n : ℕ) {mask : ℕ} → mask ≡ mask_l (map test v)
+    → mask / 2 ^ n / 2 ≡ mask_l (map test (drop (n + 1) v))
+mask_after test v n {mask} is =
+    let twice : 2 ^ n * 2 ≡ 2 ^ (n + 1) = omega (arith, pow-add 2 n 1) in
+    cc (div-div-eq-div-mul mask (2 ^ n) 2, shifted (n + 1) (map test v), drop-map test (n + 1) v)
 
 chunk_append : {X : Type 0} (i m n : ℕ) (xs : List X) → chunk i (m + n) xs ≡ chunk i m xs ++ chunk (i + m) n xs
 chunk_append {X} i m n xs = grind (arith, take-add, drop-drop)
@@ -134,3 +152,83 @@ module _ (test : ℕ → Bool) (hay : List ℕ) where
       (subst (λ n. mask_l flags < 2 ^ n)
       (length-map (chunk 16 48 hay) test ∙ length-chunk 16 48 hay (omega (arith, room))) (mask_l-lt flags)) in
       omega (arith, all, is, none, rest, few)
+
+-- ---- the lowest bits of two numbers
+
+abbrev pub bit : Bool → ℕ
+bit b = cond b 1 0
+
+pub halves : (b : Bool) (x : ℕ) → ((bit b + 2 * x) / 2 ≡ x) × ((bit b + 2 * x) % 2 ≡ bit b)
+halves = grind arith
+
+pub or_bits : (b c : Bool) (x y : ℕ) → bit_or (bit b + 2 * x) (bit c + 2 * y) ≡ bit (b || c) + 2 * bit_or x y
+or_bits b c x y = grind (arith, or_step (bit b + 2 * x) (bit c + 2 * y), halves b x, halves c y)
+
+-- ---- the mask of few bytes, from those of the first and of the last
+
+or_prefix : (n : ℕ) (bits : List Bool) → bit_or (mask_l (take n bits)) (mask_l bits) ≡ mask_l bits
+or_prefix zero bits = or_zero_l (mask_l bits)
+or_prefix (suc n) [] = or_zero_l 0
+or_prefix (suc n) (b ∷ bits) = grind (arith, or_bits b b (mask_l (take n bits)) (mask_l bits), or_prefix n bits)
+
+or_ends : (last n : ℕ) (bits : List Bool) → last ≤ n
+    → bit_or (mask_l (take n bits)) (2 ^ last * mask_l (drop last bits)) ≡ mask_l bits
+or_ends zero n bits le = let one : 2 ^ 0 * mask_l bits ≡ mask_l bits = omega arith in
+    ap (bit_or _) one ∙ or_prefix n bits
+or_ends (suc last) zero bits le = absurd (omega arith)
+or_ends (suc last) (suc n) [] le = grind arith
+or_ends (suc last) (suc n) (b ∷ bits) le =
+    let twice : 2 ^ suc last * mask_l (drop last bits) ≡ bit false + 2 * (2 ^ last * mask_l _) =
+    search (rules, mul_assoc) in
+    ap (bit_or (mask_l (b ∷ take n bits))) twice ∙ or_bits b false (mask_l (take n bits))
+    (2 ^ last * mask_l (drop last bits)) ∙ grind (arith, or_ends last n bits (omega arith))
+
+-- the mask of n to 2 n bytes, from those of the first n and of the last n
+pub ends_mask : (test : ℕ → Bool) (bytes : List ℕ) (n : ℕ) → n ≤ length bytes → length bytes ≤ n + n → n ≤ 32
+    → bit_or (mask_l (map test (chunk 0 n bytes))) (mask_l (map test (chunk (length bytes - n) n bytes)) * 2 ^
+    (length bytes - n) % 2 ^ 64) ≡ mask_l (map test bytes)
+ends_mask test bytes n first all few =
+    let last = length bytes - n in
+    let bits = map test bytes in
+    let tail : map test (chunk last n bytes) ≡ drop last bits = grind (usual, drop-map) in
+    let size : length (drop last bits) ≡ n = grind usual in
+    let small = fits (mask_l (drop last bits)) n last (rw size at (mask_l-lt (drop last bits))) (omega arith) in
+    let whole : mask_l (drop last bits) * 2 ^ last % 2 ^ 64 ≡ 2 ^ last * mask_l (drop last bits) = omega arith in
+    cc (take-map _ n _, tail, or_ends last n _ (omega arith))
+  where
+    fits : (m n last : ℕ) → m < 2 ^ n → n + last ≤ 64 → m * 2 ^ last < 2 ^ 64
+    fits m n last low le = omega (
+      arith,
+      mul-lt-mul_of_pos_right {k = 2 ^ last} low (one-le-pow last 2 (omega arith)),
+      pow-add 2 n last,
+      pow_mono {j = 64} le,
+    )
+
+-- the mask of the bytes from an index on, of which there are fewer than 64, from that of the last 64
+pub last_of_64 : (test : ℕ → Bool) (bytes : List ℕ) (at start m : ℕ) → start ≤ at → start + 64 ≡ length bytes
+    → m ≡ mask_l (map test (chunk start 64 bytes)) → m / 2 ^ (at - start) ≡ mask_l (map test (drop at bytes))
+last_of_64 test bytes at start m order size is =
+    let all : take 64 (drop start bytes) ≡ drop start bytes = take_all 64 (drop start bytes) (omega (arith, length-drop start bytes)) in
+    let same : start + (at - start) ≡ at = omega arith in
+    rw (is, all, shifted, drop-map, drop-drop, same)
+
+-- ---- the bytes that equal one of two
+
+either_top : (a b : Bool) → top 7 (bit_or (cond a 255 0) (cond b 255 0)) ≡ (a || b)
+either_top true true = refl
+either_top true false = refl
+either_top false true = refl
+either_top false false = refl
+
+pub either_mask : (test : ℕ → Bool) (a b : ℕ) (v : List ℕ) (n : ℕ) → ((x : ℕ) → test x ≡ is_byte2 a b x)
+    → length v ≡ n → n ≤ 64 → mask_l (map (top 7) (zip2 bit_or (zip2 (λ x y. cond (eqb x y) 255 0) v (replicate n a))
+    (zip2 (λ x y. cond (eqb x y) 255 0) v (replicate n b)))) % 2 ^ 64 ≡ mask_l (map test v)
+either_mask test a b v n is long few =
+    let first = zip2_splat (λ x y. cond (eqb x y) 255 0) v n a long in
+    let second = zip2_splat (λ x y. cond (eqb x y) 255 0) v n b long in
+    ap (λ ms. mask_l ms % 2 ^ 64) (ap (map (top 7)) (zip2_of_maps bit_or _ _ v first second) ∙ map-map (top 7) _ v
+    ∙ (λ i. map (λ x. (either_top (eqb x a) (eqb x b) ∙ sym (is x)) i) v))
+    ∙ mask_l-mod (map test v) 64 (omega (arith, length-map v test))
+
+pub byte_twice : (a x : ℕ) → is_byte a x ≡ is_byte2 a a x
+byte_twice a x = grind arith

@@ -9,7 +9,6 @@ use proofs.SlotTotals.{total_bytes_set}
 use proofs.LineSearch.{IsLine-append, line_before_terminator, advance_ok_take}
 use proofs.Consume.{rest_of_range}
 use Rattle.ptlines.specs.Calls.ReadLine.{FillPost, FillLine}
-use Rattle.ptlines.specs.Private.ReadLine.{PieceLine, PiecePartial, IsAppended}
 
 pub advance_trans : (a b c : Reader) (xs ys : List ℕ) → ReaderAdvance a b xs → ReaderAdvance b c ys
     → ReaderAdvance a c (xs ++ ys)
@@ -22,6 +21,26 @@ advance_ok_trans a b c xs ys first second = search (rules, advance_trans)
 pub line_of_with_line : (store : Slots) (slot : ℕ) (xs : List ℕ) → slot < length store.lines
     → line (with_line store slot xs) slot ≡ xs
 line_of_with_line = search rules
+
+-- these bytes were appended to the slot
+abbrev pub IsAppended : Slots → Slots → ℕ → List ℕ → Type 0
+IsAppended before after slot bytes = after ≡ with_line before slot (line before slot ++ bytes)
+
+-- All buffered bytes were moved to the slot: a part of a line, whose terminator is not among them.
+pub record PiecePartial (old new : Reader) (before after : Slots) (slot : ℕ) : Type 0 where
+  pub piece : List ℕ
+  pub advance_ok : AdvanceOk old new piece
+  pub whole : IsLine old.terminator piece
+  pub some : 0 < length piece
+  pub empty : new.buffered ≡ []
+  pub appended : IsAppended before after slot piece
+
+-- The rest of a line was moved to the slot, and its terminator consumed.
+pub record PieceLine (old new : Reader) (before after : Slots) (slot : ℕ) : Type 0 where
+  pub piece : List ℕ
+  pub advance_ok : AdvanceOk old new (piece ++ old.terminator ∷ [])
+  pub whole : IsLine old.terminator piece
+  pub appended : IsAppended before after slot piece
 
 pub appended_twice : (s t u : Slots) (slot : ℕ) (xs ys : List ℕ) → slot < length s.lines → t ≡ with_line s slot xs
     → IsAppended t u slot ys → u ≡ with_line s slot (xs ++ ys)

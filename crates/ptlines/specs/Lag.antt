@@ -1,4 +1,4 @@
--- What had come of an input at most two blocks earlier, for bounds on the lag of the output.
+-- The part of an input that had come at most two blocks earlier, for bounds on the lag of the output.
 use Rattle.std.specs.Prelude.{◌≡◌, ◌≤◌, ◌*◌, ℕ, true, List, ◌++◌, length}
 use Rattle.ptlines.specs.Received.{Received}
 use Rattle.ptlines.specs.declared.sizes.TheConstants.{BLOCK}

@@ -1,7 +1,7 @@
 //! Finds the first occurrence of a byte: faster than `memchr` if it is among the first 16 bytes, or if fewer than 16
 //! bytes are searched. The reader and the tools find terminators and delimiters with `find_byte`. The reader finds
 //! the end of a short line with `find_in_64`, and a store copies that line as a `ShortLine`. Tools that compare a
-//! vector of bytes at once use `find_in_chunk` and `match_mask`.
+//! vector of bytes at once use `find_in_chunk` and `match_mask` (`mask_at` is that of any `Needle`).
 
 ghost use Rattle.std.specs.Prelude.{◌≡◌, ◌≤◌, ◌<◌, ◌≢◌, ◌+◌, Some, length, map};
 ghost use Rattle.std.specs.Int.Count.{count_trailing_zeros};

@@ -11,6 +11,7 @@ mod memory;
 mod out;
 mod parts;
 mod reader;
+mod scan;
 mod sink;
 mod sizes;
 mod slot;
@@ -24,6 +25,10 @@ pub use find::{find_byte, find_in_chunk, match_mask};
 pub use out::{Out, WriteFault, write_out};
 pub use parts::parts_of_lines;
 pub use reader::LineReader;
+pub use scan::{
+    Blank, MatchWindow, Matches, Needle, find_by_mask, find_first, find_line_end, mask_at,
+    masks_of, nth_bit, nth_index,
+};
 pub use sink::{Failed, Sink};
 pub use sizes::{BLOCK, PAD, PADDED, PaddedBlock, size_of_a_block};
 pub use source::Source;

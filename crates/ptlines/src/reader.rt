@@ -12,10 +12,10 @@ ghost use Rattle.ptlines.specs.Private.InputSource.{input_state};
 ghost use Rattle.ptlines.specs.Private.InputSource.{is_unopened_source};
 ghost use Rattle.ptlines.specs.Sources.{IsFresh, unopened_state};
 ghost use Rattle.ptlines.specs.Private.Sources.{PullPost};
-ghost use Rattle.ptlines.specs.Private.Readers.{RefillPre, RefillPost};
+ghost use Rattle.ptlines.specs.Private.Readers.{RefillPost};
 ghost use Rattle.ptlines.specs.Calls.Readers.{IsSound};
 ghost use Rattle.ptlines.specs.Readers.{new_reader};
-ghost use Rattle.ptlines.specs.Private.ReadLine.{FillPre, MoveToSlotPre, MoveToSlotPost, PiecePost};
+ghost use Rattle.ptlines.specs.Private.ReadLine.{FillPre, MoveToSlotPre, MoveToSlotPost};
 ghost use Rattle.ptlines.specs.Calls.ReadLine.{FillLine, FillPost};
 ghost use Rattle.ptlines.specs.Calls.ReadLine.{BlockPost};
 ghost use Rattle.ptlines.specs.contracts.reader.LineReader.{the_row};
@@ -28,13 +28,6 @@ use crate::source::{InputSource, Source};
 use crate::store::{LineFault, Store};
 use std::alloc::Allocator;
 use std::marker::Model;
-
-// The result of one scan of the block: a part of a line, the rest of a line, or the end of input.
-enum Piece {
-    Partial,
-    Line,
-    Eof,
-}
 
 /// Reads an input line by line ([`fill`](LineReader::fill)) or block by block ([`block`](LineReader::block) and
 /// [`consume`](LineReader::consume)), through a block of 8,192 bytes. A line ends with newline, or with byte 0 after
@@ -193,12 +186,19 @@ impl<S: Source, R: Source> LineReader<S, R> {
         self.start += count;
     }
 
-    // Fills the block, which is empty, by one read. Returns false at the end of input.
-    fn refill(&mut self) -> Result<bool, LineFault>
-        requires { RefillPre self.old }
+    // Makes sure that bytes are buffered, by one read if there are none. Returns false at the end of input.
+    fn has_more(&mut self) -> Result<bool, LineFault>
+        requires { self.old.fault ≡ None }
         ensures refills { RefillPost self.old self.new result }
+        ensures buffered { 0 < length self.old.buffered → self.new ≡ self.old }
         ensures sound { IsSound self.new }
     {
+        if !self.buffered().is_empty() {
+            return Ok(true);
+        }
+        if self.at_eof() {
+            return Ok(false);
+        }
         // A source that fails may still have written to the block.
         self.start = 0;
         self.end = 0;
@@ -221,23 +221,6 @@ impl<S: Source, R: Source> LineReader<S, R> {
                 Err(LineFault::Read)
             }
         }
-    }
-
-    // Makes sure that bytes are buffered, by a read if there are none. Returns false at the end of input.
-    #[inline(always)]
-    fn has_more(&mut self) -> Result<bool, LineFault>
-        requires { self.old.fault ≡ None }
-        ensures refills { RefillPost self.old self.new result }
-        ensures buffered { 0 < length self.old.buffered → self.new ≡ self.old }
-        ensures sound { IsSound self.new }
-    {
-        if !self.buffered().is_empty() {
-            return Ok(true);
-        }
-        if self.at_eof() {
-            return Ok(false);
-        }
-        self.refill()
     }
 
     // Moves the first `count` bytes of the block to a slot.
@@ -263,35 +246,6 @@ impl<S: Source, R: Source> LineReader<S, R> {
             Err(fault) => {
                 self.fault = Some(fault);
                 Err(fault)
-            }
-        }
-    }
-
-    // Appends the next piece of a line to a slot: the buffered bytes up to the first terminator, which is consumed.
-    #[inline(always)]
-    fn fill_piece<A: Allocator + Copy>(
-        &mut self,
-        store: &mut Store<A>,
-        slot: usize,
-    ) -> Result<Piece, LineFault>
-        requires { FillPre self.old store.old slot }
-        ensures piece_post { PiecePost self.old self.new store.old store.new slot result }
-        ensures slots { length store.new.lines ≡ length store.old.lines }
-        ensures sound { IsSound self.new }
-    {
-        if !self.has_more()? {
-            return Ok(Piece::Eof);
-        }
-        match find_byte(self.terminator(), self.buffered()) {
-            Some(at) => {
-                self.move_to_slot(store, slot, at)?;
-                self.consume(1);
-                Ok(Piece::Line)
-            }
-            None => {
-                let count = self.buffered().len();
-                self.move_to_slot(store, slot, count)?;
-                Ok(Piece::Partial)
             }
         }
     }
@@ -336,10 +290,19 @@ impl<S: Source, R: Source> LineReader<S, R> {
     {
         store.clear(slot);
         'pieces: loop {
-            match self.fill_piece(store, slot)? {
-                Piece::Partial => {}
-                Piece::Line => return Ok(true),
-                Piece::Eof => return Ok(!store.line(slot).is_empty()),
+            if !self.has_more()? {
+                return Ok(!store.line(slot).is_empty());
+            }
+            match find_byte(self.terminator(), self.buffered()) {
+                Some(at) => {
+                    self.move_to_slot(store, slot, at)?;
+                    self.consume(1);
+                    return Ok(true);
+                }
+                None => {
+                    let count = self.buffered().len();
+                    self.move_to_slot(store, slot, count)?;
+                }
             }
         }
     }

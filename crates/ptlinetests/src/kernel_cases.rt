@@ -2,7 +2,10 @@
 
 use crate::asserts::{holds_of, same, same_of};
 use ptfakes::texts::text_of;
-use ptlines::{compare, copy_short, find_byte, find_in_chunk, match_mask};
+use ptlines::{
+    Blank, MatchWindow, Matches, Needle, compare, copy_short, find_by_mask, find_byte, find_first,
+    find_in_chunk, find_line_end, mask_at, masks_of, match_mask, nth_bit, nth_index,
+};
 use std::alloc::{AllocError, Global};
 use std::cmp::Ordering;
 use std::process::Abort;
@@ -58,6 +61,43 @@ fn few_and_many_bytes_are_copied_and_found(rt: HostRuntime) -> Result<(), Fail> 
         finds(&rt, rt.alloc(), *at)?;
     }
     Ok(())
+}
+
+// Commas are found by their numbers, also at the edges of the windows of 64 bytes.
+#[test]
+fn matches_are_counted(rt: HostRuntime) -> Result<(), Fail> {
+    let text = text_of(rt.alloc(), &[62, 0, 64, 3, 150], b',', false)?;
+    let bytes = text.as_slice();
+    for (count, at) in [(0, 62), (1, 63), (2, 128), (3, 132)] {
+        same(&rt, &nth_index(b',', bytes, bytes.len(), count), &Some(at));
+    }
+    same(&rt, &nth_index(b',', bytes, bytes.len(), 4), &None);
+    let matches = Matches::new(b',', bytes);
+    same(&rt, &matches.first(), &Some(62));
+    let third = matches.after_nth(matches.window(), bytes.len(), 1);
+    same(&rt, &third.at, &64);
+    if third.at <= bytes.len() {
+        same(&rt, &third.first(b',', bytes), &Some(128));
+    }
+    same(&rt, &MatchWindow::start().at, &0);
+    same(
+        &rt,
+        &MatchWindow::new(b',', bytes, 0).first(b',', bytes),
+        &Some(62),
+    );
+    same(&rt, &find_by_mask(b',', bytes), &Some(62));
+    same(&rt, &find_line_end(b',', bytes), &Some(62));
+    Ok(())
+}
+
+#[test]
+fn blanks_are_found(rt: HostRuntime) {
+    let bytes = b"a b\tc\nd ";
+    same(&rt, &mask_at::<8, Blank>(Blank, bytes, 0), &0b1000_1010);
+    same(&rt, &nth_bit(0b1000_1010, 1), &3);
+    same(&rt, &Blank.find(bytes), &Some(1));
+    same(&rt, &masks_of(Blank, b'\t', bytes), &(0b1000_1010, 0b1000));
+    same(&rt, &find_first(Blank, bytes), &Some(1));
 }
 
 const LENGTHS: [usize; 18] = [

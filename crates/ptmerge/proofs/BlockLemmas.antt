@@ -7,7 +7,7 @@ use proofs.Common.{◌≡◌, ◌⊎◌, inl, inr, ⊎_elim, ℕ, suc, ◌+◌, 
 use proofs.Common.{ap, arith, subst}
 use proofs.Common.{Output, length, PushEffect, Some, None, Option, true, false, drop, length-append, append_assoc}
 use proofs.Common.{append-nil, unlines, IsLine, Side, First, Second, Lines, MergeTool, other, with_side, Cmp, Key, both}
-use proofs.Common.{length_push, Reader, Sorted, Head, budget, length-drop, usual, push_nothing, is_eq, is_gt, Less}
+use proofs.Common.{Reader, Sorted, Head, budget, length-drop, usual, push_nothing, is_eq, is_gt, Less}
 use proofs.Common.{Err, IsErrAnd, MergeFault, Ok, Result, Write}
 use proofs.Common.{Bool, entries_by_key, entries_of_key, lines_with_key, unlines-append, push_trans}
 use Rattle.std.specs.Prelude.{OnErr, take}

@@ -2,7 +2,7 @@
 -- first input with each of the second one. So it is for `join`.
 use Rattle.ptmerge.proofs
 use Rattle.ptmerge.specs
-use proofs.Common.{◌≡◌, List, ℕ, [], ◌∷◌, ◌++◌, Bool, true, false, refl, arith, usual, append-nil, unlines-append}
+use proofs.Common.{◌≡◌, List, ℕ, [], ◌∷◌, Bool, true, false, refl, arith, append-nil, unlines-append}
 use proofs.Common.{Key, Lines, Ok, Output, PushEffect, flat_map, map, unlines}
 use proofs.JoinLemmas.Fields.{PartialWrite, partial_ends, partial_fails, partial_more, partial_starts}
 use proofs.JoinLemmas.Group.{pair_of}

@@ -17,7 +17,7 @@ use proofs.MessageWrites.{said_nothing}
 use proofs.OperandInputs.{any_same, at_set, each_listed, fresh_all, is_in-same, lagged_output, none_passes}
 use proofs.OperandInputs.{none_received, nothing_read, opened_set, put_here, put_other, received_of, same_here}
 use proofs.OperandInputs.{some_same, unopened_agrees}
-use proofs.RunEnds.{unread as unread_run}
+use proofs.RunEnds.{exact_of_run, unread as unread_run}
 use Rattle.ptflow.proofs.PasteLemmas.BufferedRows.Rows.Grid.{cell_in, decided_same}
 use Rattle.ptflow.specs.Calls.PasteCall.{PastePost, paste_end}
 use Rattle.ptflow.specs.PasteCall.{paste_engine}
@@ -31,6 +31,7 @@ use Rattle.ptmerge.specs.Calls.MergeSpec.{merge_engine}
 use Rattle.ptmerge.specs.Calls.Sides.{both}
 use Rattle.ptmerge.specs.declared.faults.MergeFault.{MergeFault}
 use Rattle.ptmerge.specs.declared.key_order.Side.{Side}
+use specs.Calls.Runs.{RunPre, RunWithStorePost, outcome_of, sink_of}
 use specs.Private.Driver.{JointPost, JointPre, ReportUnopenedPost, fault_at, merge_found}
 use specs.Private.Driver.{result_of_end, result_status, run_state}
 use specs.Private.Engines.{at_positions, line_at}
@@ -332,26 +333,36 @@ none_unopened word names test (p ∷ positions) none = grind (arith, none_unopen
 module _ (word : List ℕ) (t : JointTool) (names : List (List ℕ)) (positions : List ℕ) {inputs : List Reader}
     {messages_old messages_new : SinkState} {any_unopened : Bool}
     (k : ReportUnopenedPost word names positions inputs messages_old messages_new any_unopened) where
-  pub unopened_run : {out : SinkState} → All IsNewOrUnopened inputs → out.failed ≡ false → any_unopened ≡ true
-      → IsRun (joint_spec word t names positions) inputs inputs (sinks out messages_old)
-      (record { out = out; messages = messages_new; status = 1; peak = 0; denied = false })
-  unopened_run fresh fine some =
-      unread_run _ 1 refl any (λ r same. rw (any_of (is_unopened r) same) refl) fresh fine k.has_said
-      (λ w agrees.
-      let same = unopened_agrees _ _ _ w (nothing_read _ (fresh_all _ fresh)) agrees in
-      rw (any_of (is_unopened w) same) (
-        refl,
-        rw (take-length positions, append-nil (unopened_messages word names (is_unopened w) positions))
-            (grind arith),
-        refl,
-      ))
-      (λ q named. absurd (false≢true named))
+  pub unopened_run : {out : Output} {store : Slots} → All IsNewOrUnopened inputs → RunPre store out
+      → any_unopened ≡ true
+      → RunWithStorePost (joint_spec word t names positions) inputs inputs (sinks (sink_of out) messages_old)
+      (outcome_of out messages_new store 1) store store
+  unopened_run {out} {store} fresh unused some = record {
+    run = record { run = run; slots = λ w agrees. grind arith };
+    is_exact = exact_of_run _ _ _ _ _ fresh run;
+    reads_nothing = λ nothing. (refl, (refl, unused.store.never, unused.store.not_denied));
+    keeps_nothing = λ nothing. refl;
+  }
     where
       any : list_any (is_reader_unopened inputs) positions ≡ true
       any = sym k.is ∙ some
 
       any_of : (test : ℕ → Bool) → ((q : ℕ) → is_reader_unopened inputs q ≡ test q) → list_any test positions ≡ true
       any_of test same = sym (any_same _ _ _ same) ∙ any
+
+      run : IsRun (joint_spec word t names positions) inputs inputs (sinks (sink_of out) messages_old)
+          (outcome_of out messages_new store 1)
+      run = rw (unused.store.never, unused.store.not_denied)
+          (unread_run _ 1 refl any (λ r same. rw (any_of (is_unopened r) same) refl) fresh unused.writable k.has_said
+          (λ w agrees.
+          let same = unopened_agrees _ _ _ w (nothing_read _ (fresh_all _ fresh)) agrees in
+          rw (any_of (is_unopened w) same) (
+            refl,
+            rw (take-length positions, append-nil (unopened_messages word names (is_unopened w) positions))
+                (grind arith),
+            refl,
+          ))
+          (λ q named. absurd (false≢true named)))
 
   pub joint_pre : {was : Output} {before : Slots} → InputsPre (joint_spec word t names positions) inputs
       → any_unopened ≡ false → was.write_failed ≡ false → before.denied ≡ false → total_bytes before.lines ≡ 0

@@ -9,23 +9,25 @@ use proofs.Common.{None, Ok, Option, Output, PushEffect, Read, Reader, Received,
 use proofs.Common.{RunInputsPost, SinkState, Slots, Some, Write, [], ap, append-nil, append_known, arith, cases_Bool}
 use proofs.Common.{usual, tool_spec, cond, ended_operands, false, false≢true, fault_view, is_reader_unopened}
 use proofs.Common.{is_unopened, length, length-append, map, messages, position, positions, push_trans, reader_at, refl}
-use proofs.Common.{rules, sinks, spec_of_parsed, spec_of_tool, subst, sym, true, usage_message, usage_status, ℕ, ⊎_elim, ◌++◌}
+use proofs.Common.{rules, sinks, spec_of_parsed, spec_of_tool, sym, true, usage_message, usage_status, ℕ, ⊎_elim, ◌++◌}
 use proofs.Common.{◌<◌, ◌==◌, ◌∙◌, ◌∷◌, ◌≡◌, ◌≤◌}
 use proofs.MessageWrites.{said_trans}
-use proofs.OperandInputs.{earlier_map, fresh_all, kept_up, least_bytes, least_consistent, nothing_decided, nothing_read}
+use proofs.OperandInputs.{earlier_map, fresh_all, kept_up, nothing_decided, nothing_read}
 use proofs.SameSpecs.{spec_same}
 use proofs.OperandInputs.{positions_within, received_at, received_of, some_same}
 use Rattle.ptlines.proofs.KnownBytes.{append_known-nil}
+use Rattle.ptopts.proofs.CommandGrammar.{meant_as_spelled}
 use Rattle.ptopts.proofs.EachTool.{AreInputsOf, are_inputs}
 use Rattle.ptopts.specs.Laws.Theorems.{Spelled, SpellsCommand}
 use Rattle.ptopts.specs.declared.fault.UseFault.{UseFault}
-use specs.Private.Driver.{RunWithStorePost, EndRunPost, FinishPost, result_message}
+use specs.Private.Driver.{EndRunPost, FinishPost, result_message}
+use specs.Calls.Runs.{IsMeant, RunPre, RunWithStorePost, outcome_of, sink_of}
 use specs.Files.{AreNewInputs, HasBytesAt, HasReceivedAt, IsConsistentAt, IsNewOrUnopened}
-use specs.Runs.{IsExact, IsExactUnlessFailed, IsUnchangedIfUnread, Outcome, RunEnd, Sinks}
+use specs.Runs.{IsExact, IsExactUnlessFailed, Outcome, RunEnd, Sinks}
 use Rattle.std.proofs.lemmas.List.{append_cancel_left, nil_from_length}
 use Rattle.ptopts.specs.declared.command.Command as code
 use specs.Private.Tools.{tool_of_job, word_of_job}
-use specs.SpecOfArgs.{command_spec, is_memory_fault, message_only, spec_of_args, tool_name}
+use specs.SpecOfArgs.{command_spec, is_memory_fault, message_only, spec_of_args, spec_of_result, tool_name}
 use Rattle.ptopts.specs.Commands.{Command, Job, RunComm, RunCut, RunJoin, RunPaste, RunTr, RunUniq, command_of_args, job}
 use Rattle.ptopts.specs.Syntax.{tools}
 use Rattle.std.proofs.lemmas.Slice.Eq.{bytes_eq-Decides}
@@ -168,23 +170,17 @@ abbrev fault_of : Result Completion FlowFault → Option FlowFault
 fault_of (Ok done) = None
 fault_of (Err fault) = Some fault
 
-module _ {m : CommandSpec} {old new : List Reader} {was is : Output}
-    {messages_first messages_old messages_new : SinkState} {before store : Slots}
-    {run_result : Result Completion FlowFault} (out : SinkState) (o : Outcome)
-    (nothing_said : HasSaid messages_first messages_old [])
+module _ {m : CommandSpec} {old new : List Reader} {was is is' : Output}
+    {messages_first messages_old messages_new messages_last : SinkState} {before store : Slots}
+    {run_result : Result Completion FlowFault} {status : ℕ} (nothing_said : HasSaid messages_first messages_old [])
     (k : RunInputsPost m old new was is messages_old messages_new before store run_result)
-    (last : EndRunPost m.tool m.names is messages_new run_result store o) (made : was ≡ record {
-      accepted = out.accepted;
-      buffered = [];
-      write_failed = false;
-      unflushed = out.unflushed;
-      flushes = out.flushes;
-    }) (low : before.peak ≡ 0) where
-  abbrev is' : Output
-  is' = last.last
-
+    (last : EndRunPost m.tool m.names is is' messages_new messages_last run_result status)
+    (fresh : All IsNewOrUnopened old) (unused : RunPre before was) where
   abbrev final_result : Result Completion FlowFault
   final_result = last.final_result
+
+  abbrev o : Outcome
+  o = outcome_of is' messages_last store status
 
   f : FinishPost is is' run_result final_result
   f = last.finished
@@ -199,7 +195,7 @@ module _ {m : CommandSpec} {old new : List Reader} {was is : Output}
       (cases_Bool _)
 
   reached : Reached was sent k.pushed
-  reached = search (rules, reached_of, wrote)
+  reached = reached_of was sent k.pushed unused.nothing_buffered wrote
 
   begins : (w : InputBytes) → AreInputsConsistent k.received w → IsPrefix reached.front (m.out w)
   begins w agrees = grind (usual, reached)
@@ -213,7 +209,7 @@ module _ {m : CommandSpec} {old new : List Reader} {was is : Output}
   ends_as (Ok done) same (complete, says) = grind (arith, rules)
   ends_as (Err fault) same e = grind arith
 
-  run_of : IsRun m old new (sinks out messages_first) o
+  run_of : IsRun m old new (sinks (sink_of was) messages_first) o
   run_of = record {
     received = k.received;
     came = k.came;
@@ -235,20 +231,57 @@ module _ {m : CommandSpec} {old new : List Reader} {was is : Output}
       ended = grind arith;
       left = grind (arith, f, rules);
       bounded_lag = earlier_map m _ _ _ _
-          (λ bytes up. kept_up bytes was is is' k.pushed reached.front reached.rest up (ap (λ o. o.buffered) made)
+          (λ bytes up. kept_up bytes was is is' k.pushed reached.front reached.rest up unused.nothing_buffered
           reached.split reached.accepted f.wrote.kept reached.unknown o.out.failed (grind arith))
           k.bounded_lag;
     };
   }
 
   pub stored : (m.beyond.reads_nothing (is_reader_unopened old) ≡ true → ⊥)
-      → RunWithStorePost m old new (sinks out messages_first) o before store
+      → RunWithStorePost m old new (sinks (sink_of was) messages_first) o before store
   unfolding run_of
   stored reads = record {
     run = record { run = run_of; slots = k.slots };
-    reads_nothing = (λ none. absurd (reads none), λ none. absurd (reads none));
-    store = (last.peak, last.denied);
+    is_exact = exact_of_run m old new _ o fresh run_of;
+    reads_nothing = λ none. absurd (reads none);
+    keeps_nothing = λ none. absurd (reads none);
   }
+
+-- ---- the outcome of a run, by what it left
+
+-- The sink that is taken from an output has this state.
+pub sink_is : (s : SinkState) (out : Output) → s.accepted ≡ out.accepted → s.failed ≡ out.write_failed
+    → s.unflushed ≡ out.unflushed → s.flushes ≡ out.flushes → s ≡ sink_of out
+sink_is s out accepted failed unflushed flushes =
+    λ i. record { accepted = accepted i; failed = failed i; unflushed = unflushed i; flushes = flushes i }
+
+pub new_sink_is : (s : SinkState) (out : Output) → s.failed ≡ false → out ≡ record {
+  accepted = s.accepted;
+  buffered = [];
+  write_failed = false;
+  unflushed = s.unflushed;
+  flushes = s.flushes;
+} → s ≡ sink_of out
+new_sink_is s out fine made = rw made (sink_is s (record {
+  accepted = s.accepted;
+  buffered = [];
+  write_failed = false;
+  unflushed = s.unflushed;
+  flushes = s.flushes;
+}) refl fine refl refl)
+
+pub outcome_is : (o : Outcome) (out : Output) (messages : SinkState) (store : Slots) (status : ℕ) → o.out ≡ sink_of out
+    → o.messages ≡ messages → o.status ≡ status → (o.peak ≡ store.peak) × (o.denied ≡ store.denied)
+    → o ≡ outcome_of out messages store status
+outcome_is o out messages store status out_is said status_is memory =
+    λ i. record { out = out_is i; messages = said i; status = status_is i; peak = memory.0 i; denied = memory.1 i }
+
+pub returned : (made left : Output) {m spec : CommandSpec} {old new : List Reader}
+    {said said_after out messages : SinkState} {before store : Slots} {status : ℕ} {o : Outcome}
+    → spec ≡ m → out ≡ sink_of made → messages ≡ said → o ≡ outcome_of left said_after store status
+    → RunWithStorePost m old new (sinks (sink_of made) said) (outcome_of left said_after store status) before store
+    → RunWithStorePost spec old new (sinks out messages) o before store
+returned made left same out_is said_is o_is run = rw (same, out_is, said_is, o_is) run
 
 -- ---- the specification of arguments
 
@@ -271,7 +304,7 @@ accepts_operands (RunComm u) word names order two = grind arith
 accepts_operands (RunJoin u) word names order two = grind arith
 accepts_operands (RunTr u) word names order any = grind arith
 
-pub inputs_pre_of_spelled : (words : List (List ℕ)) (c : Command) (readers : List Reader) → SpellsCommand words c
+inputs_pre_of_spelled : (words : List (List ℕ)) (c : Command) (readers : List Reader) → SpellsCommand words c
     → AreNewInputs (Some (length c.names)) readers → InputsPre (tool_spec c) readers
 inputs_pre_of_spelled words c readers (Spelled name rest tool os operands named s allowed) fresh =
     let is = accepts_operands c.job (word_of_job c.job) c.names c.order
@@ -308,13 +341,24 @@ named_in {T} word_of name (t ∷ ts) tool all is = by_test (bytes_eq name t.0) r
     by_test false same is later = later is
 
 -- The first word is the name of the tool, by which the specification of the command is that of its tool.
-pub spec_of_spelled : (words : List (List ℕ)) (c : Command) → SpellsCommand words c
+spec_of_spelled : (words : List (List ℕ)) (c : Command) → SpellsCommand words c
     → command_spec (tool_name words) c ≡ tool_spec c
 spec_of_spelled words c (Spelled name rest tool os operands named s allowed) =
     ap (λ word. command_spec word c)
     (named_in (λ tool. word_of_job (job tool os operands)) name tools tool (refl, (refl, (refl, (refl, (refl, (refl, tt))))))
     named)
     ∙ spec_same (word_of_job c.job) c
+
+-- ---- words that mean a command
+
+pub inputs_pre_of_meant : (c : Command) (readers : List Reader) → IsMeant c
+    → AreNewInputs (Some (length c.names)) readers → InputsPre (tool_spec c) readers
+inputs_pre_of_meant c readers (words, is) = inputs_pre_of_spelled words c readers ((meant_as_spelled words c).1 is)
+
+pub spec_of_meant : (words : List (List ℕ)) (c : Command) → command_of_args words ≡ Ok c
+    → spec_of_args words ≡ tool_spec c
+spec_of_meant words c is =
+    ap (spec_of_result (tool_name words)) is ∙ spec_of_spelled words c ((meant_as_spelled words c).1 is)
 
 -- the main theorem for arguments, if parsing did not run out of memory
 pub exact_for_args : {A : Type 0} (command : Result (code.Command A) UseFault) (words : List (List ℕ))

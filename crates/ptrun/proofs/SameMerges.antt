@@ -15,7 +15,6 @@ use Rattle.ptlines.specs.Received as old
 use Rattle.ptlines.specs.Received.{Received}
 use Rattle.ptlines.specs.Text.{unlines}
 use Rattle.ptmerge.specs.Comm.{comm_decided}
-use Rattle.ptmerge.specs.Join as old_join
 use Rattle.ptmerge.specs.Join.{join_decided}
 use Rattle.ptmerge.specs.MergeSpec.{FirstDisorder, Lines, MergeDisorder, distinct_keys, earlier_disorder}
 use Rattle.ptmerge.specs.MergeSpec.{first_disorder, is_below, is_past, is_up_to, lines_with_key, merged_so_far}

@@ -27,6 +27,11 @@ use specs.Private.Operands.{input_of_operand, inputs_of_operands, opened_inputs,
 use specs.Private.Sequential.{sequential_bound, sequential_decided, sequential_output, sequential_slots, sequential_spec}
 use Rattle.std.proofs.Math.Seq.{take-append-add, take-append_seam, take-length}
 
+pub fault_below : {count p : ℕ} → p < count → (fault : FlowFault) → HasIndexBelow count (Err (fault_at p fault))
+fault_below below (Read position) = below
+fault_below below Write = tt
+fault_below below Memory = tt
+
 pub record OperandsDone (word : List ℕ) (t : ToolSpec) (names : List (List ℕ)) (old now : List Reader) (was is : Output)
     (messages_old messages_new : SinkState) (before store : Slots)
     (done : List ℕ) (so_far : Completion) : Type 0 where
@@ -400,7 +405,7 @@ module _ {word : List ℕ} {t : ToolSpec} {names : List (List ℕ)} {old : List 
           has_said = k.has_said;
           names = grind (arith, take-append_seam, received');
           ends = cause_of more fault end;
-          position = index_within fault;
+          position = fault_below within fault;
           untouched = grind (arith, not_more, take-append-add, reader_other);
           ended = grind (arith, e.stays_done, take-append_seam, reader_here, old_open, reader_other, was_unopened);
           left = grind (arith, take-append-add, is_in-same, reader_here, came_here.refused, old_open, input_left);
@@ -442,8 +447,3 @@ module _ {word : List ℕ} {t : ToolSpec} {names : List (List ℕ)} {old : List 
 
             fails_here : (q : ℕ) → HasReadFailed old now' q → new.failed ≡ true
             fails_here q failed = grind (arith, position_of, reader_here)
-
-            index_within : (f : FlowFault) → HasIndexBelow (length old) (Err (fault_at p f))
-            index_within (Read position) = within
-            index_within Write = tt
-            index_within Memory = tt

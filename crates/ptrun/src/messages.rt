@@ -54,9 +54,9 @@ pub fn say<E: Sink>(messages: &mut E, parts: &[&str]) -> bool
     }
 }
 
-/// A sink for messages, used up to its first failure.
+/// Says messages to a sink, up to its first failure.
 #[derive(Drop)]
-pub(crate) struct Messages<E: Sink> {
+pub struct Messages<E: Sink> {
     sink: E,
     has_failed: bool,
 }
@@ -73,8 +73,8 @@ impl<E: Sink> Model for Messages<E> {
 }
 
 impl<E: Sink> Messages<E> {
-    // Wraps a sink that has not failed.
-    pub(crate) fn new(sink: E) -> Self
+    /// Wraps a sink, which must not have failed.
+    pub fn new(sink: E) -> Self
         requires { (E.state sink).failed ≡ false }
         ensures { result ≡ E.state sink }
     {
@@ -93,8 +93,8 @@ impl<E: Sink> Messages<E> {
         }
     }
 
-    // Returns the sink.
-    pub(crate) fn into_sink(self) -> E
+    /// Returns the sink.
+    pub fn into_sink(self) -> E
         ensures { E.state result ≡ self }
     {
         self.sink

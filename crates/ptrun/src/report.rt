@@ -1,12 +1,11 @@
-//! The result of a run, and that of words that are not run. Built by `driver` and `running`.
+//! `Report`, the result of a run; and the report if a message is said in place of one.
 
-ghost use Rattle.std.specs.Prelude.{◌≡◌, false, []};
+ghost use Rattle.std.specs.Prelude.{◌≡◌, false};
 ghost use Rattle.ptrun.specs.Calls.MessageWrites.{texts};
 ghost use Rattle.ptrun.specs.MessageWrites.{HasSaid, line_of};
-ghost use Rattle.ptrun.specs.Runs.{outcome};
 
-use crate::messages::{Messages, say};
-use ptlines::{Out, Sink, Store};
+use crate::messages::say;
+use ptlines::{Sink, Store};
 use std::alloc::Allocator;
 
 /// The result of a run, with its two sinks.
@@ -25,7 +24,27 @@ pub struct Report<W, E> {
     pub messages: E,
 }
 
-/// Says a message instead of a run, and returns a report with this status and the unused output.
+/// Returns the report of a run with this exit status, from its store and its sinks.
+pub fn report_of<A: Allocator + Copy, W, E>(
+    store: &Store<A>,
+    status: u8,
+    out: W,
+    messages: E,
+) -> Report<W, E>
+    ensures status { result.status ≡ status }
+    ensures memory { (result.peak ≡ store.now.peak) × (result.denied ≡ store.now.denied) }
+    ensures sinks { (result.out ≡ out) × (result.messages ≡ messages) }
+{
+    Report {
+        status,
+        peak: store.peak(),
+        denied: store.denied(),
+        out,
+        messages,
+    }
+}
+
+/// Says a message in place of a run, and returns a report with this status and the unused output.
 pub fn report_not_run<W: Sink, E: Sink>(
     status: u8,
     parts: &[&str],
@@ -45,48 +64,5 @@ pub fn report_not_run<W: Sink, E: Sink>(
         denied: false,
         out,
         messages,
-    }
-}
-
-// The report of a run with this store. Nothing is buffered any more, unless a write failed; such bytes are lost.
-pub(crate) fn report_of<A: Allocator + Copy, W: Sink, E: Sink>(
-    store: &Store<A>,
-    status: u8,
-    out: Out<W>,
-    messages: Messages<E>,
-) -> Report<W, E>
-    requires written_out { out.write_failed ≡ false → out.buffered ≡ [] }
-    ensures store { (result.peak ≡ store.now.peak) × (result.denied ≡ store.now.denied) }
-    ensures status { result.status ≡ status }
-    ensures out { ((W.state result.out).accepted ≡ out.accepted) × ((W.state result.out).failed ≡ out.write_failed)
-        × ((W.state result.out).unflushed ≡ out.unflushed) }
-    ensures flushes { (W.state result.out).flushes ≡ out.flushes }
-    ensures messages { E.state result.messages ≡ messages }
-{
-    Report {
-        status,
-        peak: store.peak(),
-        denied: store.denied(),
-        out: out.into_sink(),
-        messages: messages.into_sink(),
-    }
-}
-
-// The report of a run that read and wrote nothing.
-pub(crate) fn report_unread<W: Sink, E: Sink>(
-    status: u8,
-    out: W,
-    messages: Messages<E>,
-) -> Report<W, E>
-    ensures outcome { outcome W.state E.state result
-        ≡ record { out = W.state out; messages = messages; status = status; peak = 0; denied = false } }
-    ensures out { result.out ≡ out }
-{
-    Report {
-        status,
-        peak: 0,
-        denied: false,
-        out,
-        messages: messages.into_sink(),
     }
 }

@@ -1,69 +1,12 @@
-//! Runs a command with its tool, and the tools that a run can drive: `cut`, `paste`, `tr` and `uniq`. `merge` has
-//! `comm` and `join`.
+//! The tools that a run can drive: `cut`, `paste`, `tr` and `uniq`. `merge` has `comm` and `join`.
 
-ghost use Rattle.ptopts.specs.Commands.{command_view};
-ghost use Rattle.ptrun.specs.Private.Driver.{InputsPre, RunWithStorePost};
-ghost use Rattle.ptrun.specs.Calls.Runs.{RunPre};
-ghost use Rattle.ptrun.specs.Runs.{sinks, outcome};
-ghost use Rattle.ptrun.specs.Private.Tools.{tool_spec};
-
-use crate::driver::{run_in_turn, run_together};
-use crate::messages::Messages;
 use crate::operands::fault_at;
-use crate::report::Report;
 use crate::tool::{Completion, Joint, Sequential};
 use ptflow::{FlowFault, cut, paste, paste_serial, tr, uniq};
 use ptlangs::CharPlan;
 use ptlangs::jobs::{CutJob, PasteJob, UniqJob};
 use ptlines::{LineReader, Out, Sink, Source, Store};
-use ptopts::Command;
 use std::alloc::Allocator;
-
-// Runs a command that was parsed.
-pub(crate) fn run_command<
-    A: Allocator + Copy,
-    B: Allocator + Copy,
-    S: Source,
-    R: Source,
-    W: Sink,
-    E: Sink,
->(
-    store: &mut Store<A>,
-    command: &Command<'_, B>,
-    inputs: &mut [LineReader<S, R>],
-    out: W,
-    messages: Messages<E>,
-) -> Report<W, E>
-    requires given { InputsPre (tool_spec (command_view command.now)) inputs.old }
-    requires unused { RunPre store.old (sinks (W.state out) messages) }
-    ensures { RunWithStorePost (tool_spec (command_view command.now)) inputs.old inputs.new
-        (sinks (W.state out) messages) (outcome W.state E.state result) store.old store.new }
-{
-    match command {
-        Command::Cut(job, operands) => run_in_turn(
-            "cut", job, store, operands, inputs, out, messages,
-        ),
-        Command::Paste(job, operands) => {
-            if job.serial {
-                run_in_turn("paste", job, store, operands, inputs, out, messages)
-            } else {
-                run_together("paste", job, store, operands, inputs, out, messages)
-            }
-        }
-        Command::Tr(plan, operands) => run_in_turn(
-            "tr", plan, store, operands, inputs, out, messages,
-        ),
-        Command::Uniq(job, operands) => run_together(
-            "uniq", job, store, operands, inputs, out, messages,
-        ),
-        Command::Comm(job, operands) => run_together(
-            "comm", job, store, operands, inputs, out, messages,
-        ),
-        Command::Join(job, operands) => run_together(
-            "join", job, store, operands, inputs, out, messages,
-        ),
-    }
-}
 
 impl<A: Allocator + Copy, B: Allocator + Copy> Sequential<A> for CutJob<B> {
     ghost use Rattle.std.specs.Prelude.{refl};

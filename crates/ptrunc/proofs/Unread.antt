@@ -36,7 +36,7 @@ of_each {T} P test (t ∷ ts) none each = by_test (test t) (of_each P test ts no
     by_test true others = each.0
     by_test false others = others
 
--- A property that each tool has, those that are listed have. They have no names here.
+-- A property that every tool has, the tools of a list have, too. Their names do not matter here.
 abbrev Every : {T : Type 0} → (T → Type 0) → List (List ℕ × T) → Type 0
 Every P [] = ⊤
 Every P (t ∷ ts) = P t.1 × Every P ts

@@ -9,9 +9,9 @@ ghost use Rattle.ptrun.specs.Files.{IsNewOrUnopened};
 
 use crate::asserts::{assert_for, assert_same_for};
 use ptfakes::{ChunkedSource, CountedSource, FailingAlloc, VecSink};
-use ptlines::{LineReader, Store};
+use ptlines::{LineReader, Out, Store};
 use ptopts::{Command, UseFault};
-use ptrun::{Report, report_refused, run, run_with_store};
+use ptrun::{Messages, Report, report_of, report_refused, run, run_with_store};
 use std::alloc::{AllocError, Allocator, Global};
 use std::cell::Cell;
 use std::process::Abort;
@@ -185,10 +185,14 @@ pub fn run_in_store<A: Allocator + Copy>(
     let mut inputs = readers(test_alloc, case, count)?;
     let out = sink_of(test_alloc, case.out);
     let messages = sink_of(test_alloc, case.messages);
-    Ok(match command {
-        Ok(command) => run_with_store(store, &command, &mut inputs, out, messages),
-        Err(fault) => report_refused(case.words, fault, out, messages),
-    })
+    let command = match command {
+        Ok(command) => command,
+        Err(fault) => return Ok(report_refused(case.words, fault, out, messages)),
+    };
+    let mut out = Out::new(out);
+    let mut messages = Messages::new(messages);
+    let status = run_with_store(store, &command, &mut inputs, &mut out, &mut messages);
+    Ok(report_of(store, status, out.into_sink(), messages.into_sink()))
 }
 
 /// Runs a command and compares its output, messages and exit status. No growth may fail.

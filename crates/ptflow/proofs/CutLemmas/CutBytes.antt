@@ -317,15 +317,15 @@ none_after (one ∷ more) low (suc n) {last} {index} separated few is later =
 -- ---- a line, piece by piece
 
 -- the bytes after the first `size` ones were copied after those
-pub rest_copied : (selected : ℕ → Bool) (bytes was : List ℕ) (before size count : ℕ) {is is' : List ℕ} → before ≡ size
-    → size ≤ count → count ≤ length bytes → is ≡ was ++ select_from selected 1 (take before bytes)
-    → is' ≡ is ++ select_from selected (size + 1) (take (count - size) (drop size bytes))
+pub rest_copied : (selected : ℕ → Bool) (bytes was : List ℕ) (before size rest count : ℕ) {is is' : List ℕ}
+    → before ≡ size → size + rest ≡ count → count ≤ length bytes
+    → is ≡ was ++ select_from selected 1 (take before bytes)
+    → is' ≡ is ++ select_from selected (size + 1) (take rest (drop size bytes))
     → is' ≡ was ++ select_from selected 1 (take count bytes)
-rest_copied selected bytes was before size count same upto within first then =
-    let whole : size + (count - size) ≡ count = omega arith in
+rest_copied selected bytes was before size rest count same whole within first then =
     let front : length (take size bytes) ≡ size = length-take-le size bytes (omega arith) in
-    let parts = take-add size (count - size) bytes in
-    grind (arith, append_assoc, select_append selected 1 (take size bytes) (take (count - size) (drop size bytes)))
+    let parts = take-add size rest bytes in
+    grind (arith, append_assoc, select_append selected 1 (take size bytes) (take rest (drop size bytes)))
 
 -- positions that are counted from a later byte on
 select_later : (selected : ℕ → Bool) (start n : ℕ) (xs : List ℕ)

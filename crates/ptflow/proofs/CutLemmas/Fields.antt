@@ -15,9 +15,9 @@ use proofs.Common.{the_complete_lines, CopyLinesPost, the_lines_of_parts, CutOfP
 use proofs.CutLemmas.CutBytes.{rest_of, not_selected, select_first, select_slice, select_skip}
 use proofs.Common.{cases_lt, append_assoc, ◌∙◌}
 use proofs.Passes.Exits.{line_split}
-use proofs.Vectors.FindNth.{nth_later, nth_from, few_from}
-use Rattle.ptflow.specs.Private.Vectors.FindNth.{IsAfterNth}
-use Rattle.ptflow.specs.declared.simd.find_nth.MatchWindow.{MatchWindow}
+use Rattle.ptlines.proofs.MatchWindows.{nth_later, nth_from, few_from}
+use Rattle.ptlines.specs.Calls.Scan.{IsAfterNth}
+use Rattle.ptlines.specs.declared.scan.MatchWindow.{MatchWindow}
 use Rattle.ptflow.specs.declared.tools.cut.fields.FieldCursor.{FieldCursor}
 use Rattle.ptflow.specs.Private.Cut.FieldOffsets.{IsFieldOffset, fields, prefixed_fields}
 

@@ -7,7 +7,7 @@ use Rattle.ptflow.proofs
 pub use proofs.Common.{ne_eqb, append_assoc, nat_tests, mod-mul-add, count_by, is_byte, advance_ok_take, usual}
 pub use proofs.Common.{line_before_terminator, take_with_terminator, lines_are, the_lines, Output, PushEffect}
 pub use proofs.Common.{cycle_byte, with_replacements, IsConsumed, AreConsumed, IsFieldCopied, RowsWritten}
-pub use proofs.Vectors.FindNth.{none_counted}
+pub use proofs.Vectors.NextTerminator.{none_counted}
 pub use proofs.PasteLemmas.Replaced.{counted, replaced-append, replaced_line}
 pub use Rattle.ptflow.specs.declared.simd.replace.Cycle.{Cycle}
 pub use Rows.*
@@ -15,6 +15,14 @@ pub use Rattle.ptflow.specs.Private.Paste.SharedInput.{IsWholeRows, IsSharedCycl
 
 pub sound_after_consume : {b r : Reader} → IsSound b → IsConsumed b r → IsSound r
 sound_after_consume s step = grind usual
+
+-- The bytes before a copy do not change.
+pub kept : (at to : ℕ) (was is more : List ℕ) → at ≤ to → at ≤ length was → take to is ≡ take at was ++ more
+    → take at is ≡ take at was
+kept at to was is more further within copied =
+    sym (take-take at to is further) ∙ ap (take at) copied
+    ∙ take-append-le at (take at was) more (omega (arith, length-take-le at was within))
+    ∙ take-take at at was (omega arith)
 
 -- ---- one column
 

@@ -13,7 +13,8 @@ use proofs.Common.{append-nil, append_cancel_right, lines, complete_lines, IsPre
 use proofs.Common.{paste_serial_decided, row_rest, option_to_list, None, Some, IsFirstByte, line_before_terminator}
 use proofs.Common.{mod-lt, take_with_terminator, length-append}
 use lib.Count.{count_trailing_zeros}
-use proofs.Vectors.FindNth.{after_set, cleared, without, none_counted}
+use proofs.Vectors.NextTerminator.{none_counted}
+use Rattle.ptlines.proofs.MatchWindows.{after_set, cleared, without}
 use specs.declared.simd.replace.Cycle.{Cycle}
 use proofs.Passes.Exits.{line_split, complete_prefix}
 use specs.declared.tools.paste.serial.ColumnPos.{ColumnPos}

@@ -2,11 +2,11 @@
 -- the n-th field end. In a window of bytes these ends are the bits of one mask: a byte that is not a blank, before one
 -- that is. If the n-th one is the last byte of the line or after it, the key is empty.
 use Rattle.ptflow.proofs
-use proofs.Common.{◌≡◌, ℕ, zero, suc, ◌+◌, ◌-◌, ◌/◌, ◌%◌, ◌^◌, ◌<◌, ◌≤◌, Bool, true, false, cond, min, not, List, [], ◌∷◌}
+use proofs.Common.{◌≡◌, ℕ, zero, suc, ◌+◌, ◌-◌, ◌/◌, ◌^◌, ◌<◌, ◌≤◌, Bool, true, false, cond, min, not, List, [], ◌∷◌}
 use proofs.Common.{length, map, take, drop, refl, sym, ◌∙◌, ap, arith, usual, slice_get, option_map_or, drop-drop}
 use proofs.Common.{is_blank, ends_word, word_ends, after_fields, ◌==◌, IsNth, count_by, from_bool, mask_l, chunk, get_or, count_ones, ones-mask_l, sum_by-cons}
-use proofs.Common.{bit_and, bit_or, eqb, mask_l-lt, mask_l-mod, length-map, length-chunk, zip2, zip2_of_maps}
-use proofs.Common.{zip2_splat, map-map, top, replicate, rules, cases_lt, ⊎_elim, drop_all, ◌||◌}
+use proofs.Common.{bit_and, mask_l-lt, length-map, length-chunk}
+use proofs.Common.{rules, cases_lt, ⊎_elim, drop_all}
 use proofs.CutLemmas.CutBytes.{rest_of}
 use Rattle.ptflow.specs.Private.Uniq.FieldEnds.{field_ends}
 use lib.Bits.{and_step, and_zero_r}
@@ -226,20 +226,3 @@ module _ (bytes : List ℕ) (at : ℕ) (room : at + 32 ≤ length bytes) {blanks
         rw (length-chunk at 32 bytes room) at (word_mask v) in
         let words : 4294967295 - blanks ≡ mask_l (map is_word v) = omega arith in
         rw (words, is) (and_ends 31 (drop at bytes) (grind usual))
-
-either : (a b : Bool) → top 7 (bit_or (cond a 255 0) (cond b 255 0)) ≡ (a || b)
-either true true = refl
-either true false = refl
-either false true = refl
-either false false = refl
-
-pub blanks_are : (v : List ℕ) → length v ≡ 32
-    → mask_l (map (top 7) (zip2 bit_or (zip2 (λ a b. cond (eqb a b) 255 0) v (replicate 32 32))
-    (zip2 (λ a b. cond (eqb a b) 255 0) v (replicate 32 9)))) % 2 ^ 64 ≡ mask_l (map is_blank v)
-blanks_are v long =
-    let few : length (map is_blank v) ≤ 64 = omega (arith, length-map v is_blank) in
-    let spaces = zip2_splat (λ a b. cond (eqb a b) 255 0) v 32 32 long in
-    let tabs = zip2_splat (λ a b. cond (eqb a b) 255 0) v 32 9 long in
-    ap (λ ms. mask_l ms % 2 ^ 64) (ap (map (top 7)) (zip2_of_maps bit_or _ _ v spaces tabs) ∙ map-map (top 7) _ v
-    ∙ (λ i. map (λ b. either (eqb b 32) (eqb b 9) i) v))
-    ∙ mask_l-mod (map is_blank v) 64 few

@@ -2,6 +2,5 @@
 -- maps.
 pub mod ByteSets
 pub mod Compress
-pub mod FindNth
 pub mod Shift
 pub mod Tables

@@ -1,4 +1,4 @@
--- What a plan of `tr` does with a byte, and its tables.
+-- The meaning of a plan of `tr` for one byte, and the tables of a plan.
 use Rattle.std.specs.Prelude.{ℕ, Bool, map}
 use Rattle.ptlangs.specs.TrClasses.{all_bytes}
 use Rattle.ptlangs.specs.TrPlan.{Plan, has_byte, image_by}

@@ -1,5 +1,5 @@
--- The invariant of `LineReader`, and the contract of `refill`.
-use Rattle.std.specs.Prelude.{◌≡◌, ℕ, ◌<◌, ◌≤◌, Bool, true, false, [], None}
+-- The invariant of `LineReader`, and the effect of `has_more`.
+use Rattle.std.specs.Prelude.{◌≡◌, ℕ, ◌<◌, ◌≤◌, Bool, true, false, []}
 use Rattle.std.specs.Prelude.{Result, Ok, Err, length}
 use Rattle.ptlines.specs.Calls.Readers.{AdvanceErr, AdvanceOk, HasReadCause, IsSound}
 use Rattle.ptlines.specs.Readers.{IsDone, Reader}
@@ -14,13 +14,7 @@ pub record IsValidReader (start end : ℕ) (at_eof : Bool) (r : Reader) : Type 0
   pub eof : at_eof ≡ r.eof
   pub sound : IsSound r
 
--- The condition of `refill`: nothing is buffered, no fault was reported, and the end of input was not reached.
-pub record RefillPre (r : Reader) : Type 0 where
-  pub empty : r.buffered ≡ []
-  pub clean : r.fault ≡ None
-  pub going : r.eof ≡ false
-
--- the effect of `refill`: `true` if bytes are buffered now, `false` at the end of input
+-- the effect of `has_more`: `true` if bytes are buffered now, `false` at the end of input
 abbrev pub RefillPost : Reader → Reader → Result Bool LineFault → Type 0
 RefillPost old new (Ok true) = AdvanceOk old new [] × (0 < length new.buffered)
 RefillPost old new (Ok false) = AdvanceOk old new [] × IsDone new

@@ -1,97 +1,38 @@
 -- Fields of a line of `join`, found by masks of its blanks or of its separators. A mask is the number of a list of
--- bits, so each fact is by induction on that list: two masks that overlap make one; no blank is misplaced if a mask is
--- zero; and the first run of set bits is the first word, after which the words of the rest of the line follow. The
--- lowest bit of a mask of separators is the end of a field. In a line that is too long for one mask, chunks are passed
--- by their numbers of separators, and then one separator after another.
+-- bits, so each fact is by induction on that list: no blank is misplaced if a mask is zero; and the first run of set
+-- bits is the first word, after which the words of the rest of the line follow. Last, the fields after a number of
+-- separators.
 use Rattle.ptmerge.proofs
 use Rattle.ptmerge.specs
 use Rattle.std.proofs.lemmas
 use proofs.Common.{◌≡◌, ⊎_elim, false, ℕ, List, ◌++◌, true, ◌∷◌, [], refl, arith, length-drop, suc, ◌+◌, ◌-◌, ◌≤◌, Bool}
 use proofs.Common.{None, Some, length, drop, get_or, sym, ap, zero, ◌<◌, ◌==◌, cond, filter, slice_split, is_blank}
 use proofs.Common.{Lines, usual, map, join_fields, is_single_spaced, with_prefix, ◌^◌, eqb, ◌≢◌, ◌*◌, not, ◌&&◌, ◌∙◌}
-use proofs.Common.{drop_more}
+use proofs.Common.{Option, drop_more, option_map, unwrap_or}
 use lemmas.Bool.{cases_Bool, eqb-true}
 use Rattle.std.specs.List.{prefix_len, onto_first, count_by}
-use Rattle.std.proofs.Common.{rules, ◌/◌, bit_and, bit_or, replicate, take, ◌%◌, ◌||◌}
-use lemmas.List.{take_all, drop-map, map-id, take-map, drop-drop, length-map, take-append-drop}
+use Rattle.std.proofs.Common.{rules, ◌/◌, bit_and, bit_or, replicate, take, ◌%◌}
+use lemmas.List.{drop_all, take_all, get_or-drop, map-id, drop-drop, length-map, take-append-drop}
 use lemmas.Simd.{mask_l-lt, trailing_mask_l}
 use Rattle.std.specs.Simd.Lanes.{chunk, mask_l}
-use Rattle.memchr.specs.Find.{is_byte, is_byte2, IsFirstByte}
-use Rattle.std.proofs.Math.Nat.{div-div-eq-div-mul, mul-lt-mul_of_pos_right, mul_assoc, one-le-pow}
-use Rattle.std.proofs.Math.Pow.{pow-add, pow-lt, pow_mono}
-use lib.Bits.{and_step, or_step, or_zero_l, or_zero_r, and_zero_l, or_shifted_r, and_mod, and_le_l, and_self, or_self}
+use Rattle.memchr.specs.Find.{is_byte, IsFirst, IsFirstByte, Passes}
+use Rattle.std.proofs.Math.Nat.{div-div-eq-div-mul}
+use Rattle.std.proofs.Math.Pow.{pow-lt, pow_mono}
+use lib.Bits.{and_step, or_zero_r, and_zero_l, or_shifted_r, and_mod, and_le_l, and_self, or_self}
 use lib.Count.{count_trailing_zeros}
-use Rattle.ptlines.proofs.MatchMasks.{shifted, none_if_zero_mask, first_at_lowest_bit}
+use Rattle.ptlines.proofs.MatchMasks.{bit, halves, or_bits}
+use Rattle.ptlines.proofs.TextLaws.{byte_eq}
+use Rattle.ptlines.specs.Calls.Scan.{IsNth}
 use lemmas.List.Sums.{sum_by-cons}
 use Rattle.ptlangs.proofs.ListElements.{split_around, split_whole}
 use specs.Join.{is_nonempty}
-use specs.Private.JoinFields.{AreSeparatorsPassed, IsFieldAt, has_single_spaces}
-use proofs.JoinLemmas.Fields.{first_is_position, none_past, drop_next, prefixed_fields, space_is, single_spaced_words}
+use specs.Private.JoinFields.{IsFieldAt, has_single_spaces}
+use proofs.JoinLemmas.Fields.{first_is_position, none_past, prefixed_fields, space_is, single_spaced_words}
 
 -- ---- the lowest bits of two numbers
 
-abbrev bit : Bool → ℕ
-bit b = cond b 1 0
-
-halves : (b : Bool) (x : ℕ) → ((bit b + 2 * x) / 2 ≡ x) × ((bit b + 2 * x) % 2 ≡ bit b)
-halves = grind arith
-
-or_bits : (b c : Bool) (x y : ℕ) → bit_or (bit b + 2 * x) (bit c + 2 * y) ≡ bit (b || c) + 2 * bit_or x y
-or_bits b c x y = grind (arith, or_step (bit b + 2 * x) (bit c + 2 * y), halves b x, halves c y)
-
 and_bits : (b c : Bool) (x y : ℕ) → bit_and (bit b + 2 * x) (bit c + 2 * y) ≡ bit (b && c) + 2 * bit_and x y
 and_bits b c x y = grind (arith, and_step (bit b + 2 * x) (bit c + 2 * y), halves b x, halves c y)
-
--- ---- masks of the first and of the last bytes
-
-or_prefix : (n : ℕ) (bits : List Bool) → bit_or (mask_l (take n bits)) (mask_l bits) ≡ mask_l bits
-or_prefix zero bits = or_zero_l (mask_l bits)
-or_prefix (suc n) [] = or_zero_l 0
-or_prefix (suc n) (b ∷ bits) = grind (arith, or_bits b b (mask_l (take n bits)) (mask_l bits), or_prefix n bits)
-
-or_ends : (last n : ℕ) (bits : List Bool) → last ≤ n
-    → bit_or (mask_l (take n bits)) (2 ^ last * mask_l (drop last bits)) ≡ mask_l bits
-or_ends zero n bits le = let one : 2 ^ 0 * mask_l bits ≡ mask_l bits = omega arith in
-    ap (bit_or _) one ∙ or_prefix n bits
-or_ends (suc last) zero bits le = absurd (omega arith)
-or_ends (suc last) (suc n) [] le = grind arith
-or_ends (suc last) (suc n) (b ∷ bits) le =
-    let twice : 2 ^ suc last * mask_l (drop last bits) ≡ bit false + 2 * (2 ^ last * mask_l _) =
-    search (rules, mul_assoc) in
-    ap (bit_or (mask_l (b ∷ take n bits))) twice ∙ or_bits b false (mask_l (take n bits))
-    (2 ^ last * mask_l (drop last bits)) ∙ grind (arith, or_ends last n bits (omega arith))
-
--- the mask of n to 2 n bytes, from those of the first n and of the last n
-pub ends_mask : (test : ℕ → Bool) (bytes : List ℕ) (n : ℕ) → n ≤ length bytes → length bytes ≤ n + n → n ≤ 32
-    → bit_or (mask_l (map test (chunk 0 n bytes))) (mask_l (map test (chunk (length bytes - n) n bytes)) * 2 ^
-    (length bytes - n) % 2 ^ 64) ≡ mask_l (map test bytes)
-ends_mask test bytes n first all few =
-    let last = length bytes - n in
-    let bits = map test bytes in
-    let tail : map test (chunk last n bytes) ≡ drop last bits = grind (usual, drop-map) in
-    let size : length (drop last bits) ≡ n = grind usual in
-    let small = fits (mask_l (drop last bits)) n last (rw size at (mask_l-lt (drop last bits))) (omega arith) in
-    let whole : mask_l (drop last bits) * 2 ^ last % 2 ^ 64 ≡ 2 ^ last * mask_l (drop last bits) = omega arith in
-    cc (take-map _ n _, tail, or_ends last n _ (omega arith))
-  where
-    fits : (m n last : ℕ) → m < 2 ^ n → n + last ≤ 64 → m * 2 ^ last < 2 ^ 64
-    fits m n last low le = omega (
-      arith,
-      mul-lt-mul_of_pos_right {k = 2 ^ last} low (one-le-pow last 2 (omega arith)),
-      pow-add 2 n last,
-      pow_mono {j = 64} le,
-    )
-
--- ---- blanks as the bytes that are a space or a tab
-
-either_mask : (a b : ℕ) (bytes : List ℕ) → bit_or (mask_l (map (is_byte a) bytes)) (mask_l (map (is_byte b) bytes))
-    ≡ mask_l (map (is_byte2 a b) bytes)
-either_mask a b [] = or_zero_l 0
-either_mask a b (x ∷ bytes) = grind (arith, or_bits, either_mask a b bytes)
-
-pub blanks_are : (spaces tabs : ℕ) (bytes : List ℕ) → spaces ≡ mask_l (map (is_byte 32) bytes)
-    → tabs ≡ mask_l (map (is_byte 9) bytes) → bit_or spaces tabs ≡ mask_l (map is_blank bytes)
-blanks_are spaces tabs bytes first second = rw (first, second) (either_mask 32 9 bytes)
 
 -- ---- single spaces
 
@@ -100,25 +41,6 @@ no_misplaced : (blank : Bool) (bytes : List ℕ)
     (bit blank + 2 * mask_l (map is_blank bytes)))) 0 ≡ has_single_spaces blank bytes
 no_misplaced blank [] = cc
 no_misplaced blank (b ∷ bytes) = grind (arith, and_bits, or_bits, no_misplaced (is_blank b) bytes)
-
--- ---- the first blank of a short line
-
-whole_chunk : (bytes : List ℕ) → chunk 0 (length bytes) bytes ≡ bytes
-whole_chunk bytes = take_all (length bytes) bytes (omega arith)
-
-pub none_if_no_blank : (bytes : List ℕ) (m : ℕ) → m ≡ mask_l (map is_blank bytes) → m ≡ 0
-    → IsFirstByte is_blank bytes None
-none_if_no_blank bytes m is none =
-    let chunked : m ≡ mask_l (map is_blank (chunk 0 (length bytes) bytes)) = rw (whole_chunk bytes) is in
-    let nowhere = none_if_zero_mask is_blank bytes 0 (length bytes) m (omega arith) chunked none in
-    λ k low high. nowhere k low (omega arith)
-
-pub first_blank_at : (bytes : List ℕ) (m : ℕ) → length bytes ≤ 64 → m ≡ mask_l (map is_blank bytes) → (m ≡ 0 → ⊥)
-    → IsFirstByte is_blank bytes (Some (count_trailing_zeros 64 m))
-first_blank_at bytes m few is some =
-    let chunked : m ≡ mask_l (map is_blank (chunk 0 (length bytes) bytes)) = rw (whole_chunk bytes) is in
-    let (first, found) = first_at_lowest_bit is_blank bytes 0 (length bytes) m few (omega arith) chunked some in
-    grind arith
 
 pub single_spaces_is : (any before : ℕ) (bytes : List ℕ) → before ≤ 1 → length bytes ≤ 64
     → any ≡ mask_l (map is_blank bytes)
@@ -423,161 +345,7 @@ module _ {line : List ℕ} {passed words : ℕ} (short : length line < 64) (left
 
 pub ruleset word_steps = (any_fits, words_start, word_passed, none_left, word_found)
 
--- ---- fields by a mask of their separators
-
-mask_after : (test : ℕ → Bool) (v : List ℕ) (n : ℕ) {mask : ℕ} → mask ≡ mask_l (map test v)
-    → mask / 2 ^ n / 2 ≡ mask_l (map test (drop (n + 1) v))
-mask_after test v n {mask} is =
-    let twice : 2 ^ n * 2 ≡ 2 ^ (n + 1) = omega (arith, pow-add 2 n 1) in
-    cc (div-div-eq-div-mul mask (2 ^ n) 2, shifted (n + 1) (map test v), drop-map test (n + 1) v)
-
-no_separator : (c : ℕ) (v : List ℕ) → mask_l (map (is_byte c) v) ≡ 0 → join_fields (Some c) v ≡ v ∷ []
-no_separator c [] none = refl
-no_separator c (b ∷ v) none = grind (arith, no_separator c v)
-
--- the first separator of `v` is at the index `n`
-record FirstSeparator (c : ℕ) (v : List ℕ) (n : ℕ) : Type 0 where
-  low : n < length v
-  split : join_fields (Some c) v ≡ take n v ∷ join_fields (Some c) (drop (n + 1) v)
-  at : drop n v ≡ c ∷ drop (n + 1) v
-
-first_separator : (c : ℕ) (v : List ℕ) → 0 < mask_l (map (is_byte c) v)
-    → FirstSeparator c v (prefix_len (λ b. not (is_byte c b)) v)
-first_separator c [] some = absurd (omega arith)
-first_separator c (b ∷ v) some =
-    ⊎_elim
-    (λ (e : (b == c) ≡ true). let is = eqb-true b c e in grind (arith, e, is))
-    (λ (e : (b == c) ≡ false). let w = first_separator c v (grind arith) in grind (arith, e, w, one_more))
-    (cases_Bool (b == c))
-
--- `passed` separators of the line have been passed, and after them the line goes on at the index `start`
-pub record FieldsFrom (c : ℕ) (line : List ℕ) (passed start : ℕ) : Type 0 where
-  pub within : start ≤ length line
-  pub fields : drop passed (join_fields (Some c) line) ≡ join_fields (Some c) (drop start line)
-
-module _ {c : ℕ} {line : List ℕ} {passed start : ℕ} (left : FieldsFrom c line passed start) where
-  abbrev tail : List ℕ
-  tail = drop start line
-
-  module _ (last : join_fields (Some c) tail ≡ tail ∷ []) where
-    none_after : (number : ℕ) → passed < number - 1 → drop (number - 1) (join_fields (Some c) line) ≡ []
-    none_after number low =
-        none_past _ (passed + 1) (number - 1) (drop_next _ [] tail passed (left.fields ∙ last)) (omega arith)
-
-    last_at : (number : ℕ) → passed ≡ number - 1 → IsFieldAt (Some c) number line
-        (record { start = start; end = length line })
-    last_at number is =
-        let more : Lines = [] in
-        let all : drop passed (join_fields (Some c) line) ≡ tail ∷ [] = left.fields ∙ last in
-        grind (usual, all, more, left.within)
-
-  module _ {n : ℕ} (first : FirstSeparator c tail n) where
-    next_within : start + (n + 1) ≤ length line
-    next_within = omega (arith, first.low, length-drop start line)
-
-    passed_on : FieldsFrom c line (passed + 1) (start + (n + 1))
-    passed_on = record {
-      within = next_within;
-      fields = rw (sym (drop-drop (n + 1) start line)) (drop_next _ _ _ passed (left.fields ∙ first.split));
-    }
-
-    found_at : (number : ℕ) → passed ≡ number - 1 → IsFieldAt (Some c) number line
-        (record { start = start; end = start + n })
-    found_at number is =
-        let size : start + n - start ≡ n = omega arith in
-        record {
-          more = join_fields (Some c) (drop (n + 1) tail);
-          is = rw (← is, size) (left.fields ∙ first.split);
-          ordered = omega arith;
-          within = omega (arith, next_within);
-          after = λ e. rw (sym (drop-drop n start line)) (prefixed_fields c (drop (n + 1) tail) ∙ sym first.at);
-        }
-
--- `rest` is the mask of the separators from the index `start` on
-pub record SeparatedLeft (c : ℕ) (line : List ℕ) (passed start rest : ℕ) : Type 0 where
-  pub from : FieldsFrom c line passed start
-  pub mask : rest ≡ mask_l (map (is_byte c) (drop start line))
-
-module _ {c : ℕ} {line : List ℕ} {passed start rest : ℕ} (short : length line < 64)
-    (left : SeparatedLeft c line passed start rest) where
-  is_last : rest ≡ 0 → join_fields (Some c) (drop start line) ≡ drop start line ∷ []
-  is_last none = no_separator c (drop start line) (sym left.mask ∙ none)
-
-  pub none_separated : (number : ℕ) → rest ≡ 0 → passed < number - 1
-      → drop (number - 1) (join_fields (Some c) line) ≡ []
-  none_separated number none low = none_after left.from (is_last none) number low
-
-  pub last_found : (number : ℕ) → rest ≡ 0 → passed ≡ number - 1 → IsFieldAt (Some c) number line
-      (record { start = start; end = length line })
-  last_found number none is = last_at left.from (is_last none) number is
-
-  module _ (some : rest ≢ 0) where
-    first_at : FirstSeparator c (drop start line) (count_trailing_zeros 64 rest)
-    first_at =
-        let v = drop start line in
-        let few : length v ≤ 64 = omega (arith, length-drop start line) in
-        rw (left.mask, trailing_mask_l (is_byte c) 64 v few (omega (arith, left.mask)))
-        (first_separator c v (omega (arith, left.mask)))
-
-    pub next_in : start + (count_trailing_zeros 64 rest + 1) ≤ length line
-    next_in = next_within left.from first_at
-
-    pub separator_passed : SeparatedLeft c line (passed + 1) (start + (count_trailing_zeros 64 rest + 1))
-        (rest / 2 ^ count_trailing_zeros 64 rest / 2)
-    separator_passed =
-        let n = count_trailing_zeros 64 rest in
-        record {
-          from = passed_on left.from first_at;
-          mask = rw (sym (drop-drop (n + 1) start line)) (mask_after (is_byte c) (drop start line) n left.mask);
-        }
-
-    pub separated_found : (number : ℕ) → passed ≡ number - 1 → IsFieldAt (Some c) number line
-        (record { start = start; end = start + count_trailing_zeros 64 rest })
-    separated_found number is = found_at left.from first_at number is
-
-pub ruleset separator_steps = (none_separated, last_found, next_in, separator_passed, separated_found)
-
--- in a line of any length, `v` are the bytes from the index `start` on
-module _ {c : ℕ} {line : List ℕ} {passed start : ℕ} (left : FieldsFrom c line passed start) {v : List ℕ}
-    (is_tail : v ≡ drop start line) where
-  all_is_last : IsFirstByte (is_byte c) v None → join_fields (Some c) (drop start line) ≡ drop start line ∷ []
-  all_is_last none = rw is_tail at (split_whole (is_byte c) v (sym (first_is_position (is_byte c) v None none)))
-
-  pub none_separated_long : (number : ℕ) → IsFirstByte (is_byte c) v None → passed < number - 1
-      → drop (number - 1) (join_fields (Some c) line) ≡ []
-  none_separated_long number none low = none_after left (all_is_last none) number low
-
-  pub last_found_long : (number : ℕ) → IsFirstByte (is_byte c) v None → passed ≡ number - 1
-      → IsFieldAt (Some c) number line (record { start = start; end = length line })
-  last_found_long number none is = last_at left (all_is_last none) number is
-
-  module _ {n : ℕ} (found : IsFirstByte (is_byte c) v (Some n)) where
-    first_in : FirstSeparator c (drop start line) n
-    first_in =
-        let (range, passes) = found in
-        let split = split_around (is_byte c) v n (sym (first_is_position (is_byte c) v (Some n) found)) in
-        let rest = take_all (length v - (n + 1)) (drop (n + 1) v) (omega (arith, length-drop (n + 1) v)) in
-        let all : FirstSeparator c v n = record {
-          low = range.high;
-          split = rw rest at split;
-          at = rw (eqb-true (get_or v n 0) c passes) at (drop_more v n 0 range.high);
-        } in
-        rw is_tail at all
-
-    pub next_in_long : start + (n + 1) ≤ length line
-    next_in_long = next_within left first_in
-
-    pub separator_passed_long : FieldsFrom c line (passed + 1) (start + (n + 1))
-    separator_passed_long = passed_on left first_in
-
-    pub separated_found_long : (number : ℕ) → passed ≡ number - 1 → IsFieldAt (Some c) number line
-        (record { start = start; end = start + n })
-    separated_found_long number is = found_at left first_in number is
-
-pub tail_is : (line : List ℕ) (start : ℕ) → take (length line - start) (drop start line) ≡ drop start line
-tail_is line start = take_all (length line - start) (drop start line) (omega (arith, length-drop start line))
-
--- ---- chunks of a line are passed by their number of separators
+-- ---- fields after a number of separators
 
 onto_first_drop : (b m : ℕ) (pieces : Lines) → drop (suc m) (onto_first b pieces) ≡ drop (suc m) pieces
 onto_first_drop b zero [] = refl
@@ -602,15 +370,77 @@ pieces_passed c (b ∷ v) (suc n) m =
     rw (sum_by-cons (λ x. cond (is_byte c x) 1 0) b (take n v))
     (byte_passed b (count_by (is_byte c) (take n v)) m _ _ (pieces_passed c v n m) (b == c))
 
-pub chunk_passed : {c count : ℕ} {line : List ℕ} {at left ones : ℕ} → AreSeparatorsPassed c count line at left
-    → ones ≡ count_by (is_byte c) (take 16 (drop at line)) → ones < left → at + 16 ≤ length line
-    → AreSeparatorsPassed c count line (at + 16) (left - ones)
-chunk_passed {c} {count} {line} {at} {left} {ones} passed is some room =
-    let more = pieces_passed c (drop at line) 16 (left - ones - 1) in
-    let all : suc (left - ones - 1 + ones) ≡ left = omega (arith, some) in
-    let rest : suc (left - ones - 1) ≡ left - ones = omega (arith, some) in
-    record {
-      within = room;
-      less = omega (arith, passed.less);
-      fields = passed.fields ∙ (rw (← is, all, rest, drop-drop 16 at line) at more);
-    }
+-- the bytes after the n-th separator are the fields after the first n
+pub fields_after_nth : (c number at : ℕ) (line : List ℕ) → 1 < number → 0 < at
+    → IsNth (is_byte c) 0 (number - 2) (take (length line) line) (at - 1)
+    → drop (number - 1) (join_fields (Some c) line) ≡ join_fields (Some c) (drop at line)
+fields_after_nth c number at line some after nth =
+    let all = take_all (length line) line (omega arith) in
+    let (within, passes, counted) = rw all at nth in
+    let count : suc (0 + count_by (is_byte c) (take (at - 1) line)) ≡ number - 1 = omega (arith, counted) in
+    let next : at - 1 + 1 ≡ at = omega arith in
+    let here = rw (eqb-true (get_or line (at - 1) 0) c passes, next) at (drop_more line (at - 1) 0 within) in
+    rw (count, here, byte_eq c) at (pieces_passed c line (at - 1) 0)
+
+pub no_field_after : (c number : ℕ) (line : List ℕ) → 1 < number
+    → count_by (is_byte c) (take (length line) line) ≤ number - 2 → drop (number - 1) (join_fields (Some c) line) ≡ []
+no_field_after c number line some few =
+    let left = number - 2 - count_by (is_byte c) (take (length line) line) in
+    let count : suc (left + count_by (is_byte c) (take (length line) line)) ≡ number - 1 = omega (arith, few) in
+    let none : Lines = [] in
+    rw (count, drop_all (length line) line (omega arith)) at (pieces_passed c line (length line) left)
+    ∙ drop_all left none (omega arith)
+
+-- the first match from an index on, in the bytes from there on
+first_of_rest : (test : ℕ → Bool) (hay : List ℕ) (start : ℕ) → start ≤ length hay → (r : Option ℕ)
+    → IsFirst (Passes test hay) start (length hay) r
+    → IsFirstByte test (drop start hay) (option_map (λ at. at - start) r)
+first_of_rest test hay start within None none = λ k low high passes.
+    none (start + k) (omega arith) (omega (arith, length-drop start hay)) (rw (get_or-drop start hay k 0) at passes)
+first_of_rest test hay start within (Some at) (first, found) =
+    let same : start + (at - start) ≡ at = omega (arith, first.low) in (
+      record {
+        low = omega arith;
+        high = omega (arith, first.low, first.high, length-drop start hay);
+        before = λ k low high passes.
+            first.before (start + k) (omega arith) (omega (arith, first.low)) (rw (get_or-drop start hay k 0) at passes);
+      },
+      rw (get_or-drop start hay (at - start) 0, same) found,
+    )
+
+module _ {c : ℕ} {line : List ℕ} {number start : ℕ} (within : start ≤ length line)
+    (fields : drop (number - 1) (join_fields (Some c) line) ≡ join_fields (Some c) (drop start line)) where
+  last_at : IsFirstByte (is_byte c) (drop start line) None → IsFieldAt (Some c) number line
+      (record { start = start; end = length line })
+  last_at none =
+      let tail = drop start line in
+      let more : Lines = [] in
+      let all : drop (number - 1) (join_fields (Some c) line) ≡ tail ∷ [] =
+      fields ∙ split_whole (is_byte c) tail (sym (first_is_position (is_byte c) tail None none)) in
+      grind (usual, all, more, within)
+
+  found_at : (n : ℕ) → IsFirstByte (is_byte c) (drop start line) (Some n) → IsFieldAt (Some c) number line
+      (record { start = start; end = start + n })
+  found_at n found =
+      let (range, passes) = found in
+      let tail = drop start line in
+      let rest = take_all (length tail - (n + 1)) (drop (n + 1) tail) (omega (arith, length-drop (n + 1) tail)) in
+      let split = rw rest at (split_around (is_byte c) tail n (sym (first_is_position (is_byte c) tail (Some n) found))) in
+      let end = rw (eqb-true (get_or tail n 0) c passes) at (drop_more tail n 0 range.high) in
+      let size : start + n - start ≡ n = omega arith in
+      record {
+        more = join_fields (Some c) (drop (n + 1) tail);
+        is = rw size (fields ∙ split);
+        ordered = omega arith;
+        within = omega (arith, range.high, length-drop start line);
+        after = λ e. rw (sym (drop-drop n start line)) (prefixed_fields c (drop (n + 1) tail) ∙ sym end);
+      }
+
+  -- the field at an index is up to the first separator after it
+  pub field_at : (r : Option ℕ) → IsFirst (Passes (is_byte c) line) start (length line) r
+      → IsFieldAt (Some c) number line (record { start = start; end = unwrap_or r (length line) })
+  field_at None none = last_at (first_of_rest (is_byte c) line start within None none)
+  field_at (Some at) first =
+      let (range, passes) = first in
+      let same : start + (at - start) ≡ at = omega (arith, range.low) in
+      rw same at (found_at (at - start) (first_of_rest (is_byte c) line start within (Some at) first))

@@ -1,7 +1,7 @@
 -- The merge of the lines of two blocks: keys in order, what it requires of a tool, the lines passed in the block of one
 -- input, and the contracts of a step and of the whole merge of both, or of one after the end of the other input. `head`
 -- is the current line of an input, and `rest` the bytes of its block after this line.
-use Rattle.std.specs.Prelude.{◌≡◌, ◌⊎◌, ℕ, suc, ◌+◌, ◌<◌, ◌≤◌, List, [], ◌∷◌, ◌++◌, length, map, take}
+use Rattle.std.specs.Prelude.{◌≡◌, ◌⊎◌, ℕ, suc, ◌+◌, ◌≤◌, List, [], ◌∷◌, ◌++◌, length, map, take}
 use Rattle.std.specs.Prelude.{Bool, true, false, Option, Some, None}
 use Rattle.std.specs.List.{flat_map}
 use Rattle.std.specs.Ordering.{is_eq, is_gt}

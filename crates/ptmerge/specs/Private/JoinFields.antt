@@ -1,7 +1,7 @@
 -- The fields of a line as `join` finds and writes them: the rest of the line after a field, the span of the field with
--- a number, the masks by which blanks and separators are found, separators that were passed, words with single spaces
--- between them, and lines that are written unchanged.
-use Rattle.std.specs.Prelude.{◌≡◌, ◌≤◌, ◌++◌, ℕ, length, map, take, drop, IfSome, MatchOption, ◌==◌, List, [], ◌∷◌}
+-- a number, the masks of blanks, the first window of separators, words with single spaces between them, and lines that
+-- are written unchanged.
+use Rattle.std.specs.Prelude.{◌≡◌, ◌≤◌, ◌++◌, ℕ, length, map, take, drop, min, IfSome, MatchOption, ◌==◌, List, [], ◌∷◌}
 use Rattle.std.specs.Prelude.{Option, Some, None, Bool, false, true, not, ◌||◌, ◌&&◌, ◌-◌, if◌then◌else◌, unwrap_or}
 use Rattle.std.specs.List.{flat_map, join_with_byte, slice_range, slice_split}
 use Rattle.std.specs.Simd.Lanes.{mask_l}
@@ -9,6 +9,7 @@ use Rattle.memchr.specs.Find.{is_byte}
 use Rattle.ptlangs.specs.Jobs.{Join}
 use Rattle.ptlangs.specs.declared.outlist.OutField.{OutField}
 use Rattle.ptlines.specs.Text.{is_blank}
+use Rattle.ptlines.specs.declared.scan.MatchWindow.{MatchWindow}
 use Rattle.ptmerge.specs.Join.{join_fields, output_fields, output_separator}
 use Rattle.ptmerge.specs.Calls.Join.{join_key}
 use Rattle.ptmerge.specs.MergeSpec.{Lines}
@@ -16,7 +17,6 @@ use Rattle.ptmerge.specs.Calls.Sides.{both}
 use Rattle.ptmerge.specs.declared.key_order.Side.{Side}
 use Rattle.ptmerge.specs.declared.key_order.Side.TheVariants.{First, Second}
 use Rattle.ptmerge.specs.declared.key_order.Span.{Span}
-use Rattle.ptmerge.specs.declared.tools.join.masks.Masks.{Masks}
 use Rattle.ptmerge.specs.declared.tools.join.words.Blanks.{Blanks}
 
 -- The byte separates fields: it is the separator of `-t`, or a blank.
@@ -69,11 +69,6 @@ has_single_spaces blank [] = true
 has_single_spaces blank (b ∷ bytes) =
     if (b == 9) || (blank && (b == 32)) then false else has_single_spaces (b == 32) bytes
 
--- The masks of the bytes `a` and `b` among these bytes.
-pub record AreMasks (a b : ℕ) (bytes : List ℕ) (masks : Masks) : Type 0 where
-  pub first : masks.first ≡ mask_l (map (is_byte a) bytes)
-  pub second : masks.second ≡ mask_l (map (is_byte b) bytes)
-
 -- The masks of the blanks and of the tabs among these bytes.
 pub record AreBlanks (bytes : List ℕ) (blanks : Blanks) : Type 0 where
   pub any : blanks.any ≡ mask_l (map is_blank bytes)
@@ -98,11 +93,9 @@ abbrev pub IsFieldFound : Option ℕ → ℕ → List ℕ → Option Span → Ty
 IsFieldFound separator number line found =
     MatchOption found (drop (number - 1) (join_fields separator line) ≡ []) (IsFieldAt separator number line)
 
--- The separators up to the index `at` of the line are passed, and `left` of `count` are to be passed after it.
-pub record AreSeparatorsPassed (separator count : ℕ) (line : List ℕ) (at left : ℕ) : Type 0 where
-  pub within : at ≤ length line
-  pub less : left ≤ count
-  pub fields : drop count (join_fields (Some separator) line) ≡ drop left (join_fields (Some separator) (drop at line))
+-- The window of the first 64 bytes of a line, or of all if there are fewer, with this mask.
+abbrev pub first_window : List ℕ → ℕ → MatchWindow
+first_window line mask = record { at = 0; mask = mask; end = min (length line) 64 }
 
 -- The line without the span and the separator before it, if there is a span, each field after a separator.
 abbrev pub around : ℕ → List ℕ → Option Span → List ℕ

@@ -24,10 +24,8 @@ ghost use Rattle.ptmerge.specs.declared.merging.cursor.CursorStatus.TheVariants 
 mod field_keys;
 mod fields;
 mod key_group;
-mod masks;
 mod output;
 mod row;
-mod separators;
 mod words;
 
 use crate::faults::MergeFault;

@@ -32,8 +32,7 @@ use Rattle.ptrun.specs.Private.Joint.{JointTool, joint_spec}
 use Rattle.ptrun.specs.Private.Lag.{IsPushedUpToBlock}
 use Rattle.ptrun.specs.Private.Messages.{unopened_messages}
 use Rattle.ptrun.specs.Private.Sequential.{sequential_spec}
-use Rattle.ptrun.specs.Runs.{HasCause, IsRunInStore, IsStoreUnchangedIfUnread, IsUnchangedIfUnread}
-use Rattle.ptrun.specs.Runs.{Outcome, Sinks}
+use Rattle.ptrun.specs.Runs.{HasCause}
 use Rattle.ptrun.specs.declared.tool.Completion.{Completion}
 use Rattle.ptrun.specs.declared.tool.Completion.TheVariants.{AllWritten, Disordered, Unopened}
 
@@ -71,13 +70,6 @@ pub record ReportUnopenedPost (tool : List ℕ) (names : List (List ℕ)) (posit
       (unopened_messages tool names (is_reader_unopened inputs) positions)
   pub sound : AreSoundAt positions inputs
 
--- The precondition of processing the inputs: no write has failed, and the store is empty and was not denied memory.
-pub record RunInputsPre (m : CommandSpec) (inputs : List Reader) (out : Output) (store : Slots) : Type 0 where
-  pub given : InputsPre m inputs
-  pub writable : out.write_failed ≡ false
-  pub not_denied : store.denied ≡ false
-  pub empty : total_bytes store.lines ≡ 0
-
 -- ---- the end of a run
 
 -- The last message of a run after this result. It is empty unless a call failed or a line is out of order.
@@ -111,20 +103,12 @@ pub record FinishPost (old new : Output) (run_result final_result : Result Compl
   pub broken : new.write_failed ≡ true → final_result ≡ Err Write
 
 -- The postcondition of the end of a run: the output was finished, and the last message said.
-pub record EndRunPost (tool : List ℕ) (names : List (List ℕ)) (was : Output) (messages_old : SinkState)
-    (run_result : Result Completion FlowFault) (store : Slots) (o : Outcome) : Type 0 where
+pub record EndRunPost (tool : List ℕ) (names : List (List ℕ)) (was is : Output) (messages_old messages_new : SinkState)
+    (run_result : Result Completion FlowFault) (status : ℕ) : Type 0 where
   pub final_result : Result Completion FlowFault
-  -- the output once it was finished
-  pub last : Output
-  pub finished : FinishPost was last run_result final_result
-  pub has_said : HasSaid messages_old o.messages (result_message tool names final_result)
-  pub status_is : o.status ≡ result_status final_result
-  pub accepted : o.out.accepted ≡ last.accepted
-  pub failed : o.out.failed ≡ last.write_failed
-  pub unflushed : o.out.unflushed ≡ last.unflushed
-  pub flushes : o.out.flushes ≡ last.flushes
-  pub peak : o.peak ≡ store.peak
-  pub denied : o.denied ≡ store.denied
+  pub finished : FinishPost was is run_result final_result
+  pub has_said : HasSaid messages_old messages_new (result_message tool names final_result)
+  pub status_is : status ≡ result_status final_result
 
 -- ---- a call over the operands
 
@@ -170,8 +154,8 @@ RunInputsEnd m r old new pushed failed denied n (Ok done) =
     → (result_message m.tool m.names (Ok done) ≡ m.final_message w) × (result_status (Ok done) ≡ m.status w))
 RunInputsEnd m r old new pushed failed denied n (Err fault) = HasCause m r old new failed denied n fault
 
--- The postcondition of processing the inputs: that of a run, except that the last message is still to be said and that
--- some output may still be buffered.
+-- The inputs were processed: as in a run, except that the last message is still to be said and that some output may
+-- still be buffered.
 pub record RunInputsPost (m : CommandSpec) (old new : List Reader) (was is : Output)
     (messages_old messages_new : SinkState)
     (before store : Slots) (result : Result Completion FlowFault) : Type 0 where
@@ -199,14 +183,6 @@ pub record RunInputsPost (m : CommandSpec) (old new : List Reader) (was is : Out
   pub peak : (w : InputBytes) → AreInputsConsistent received w → store.peak ≤ max before.peak (m.memory_bound w)
   pub slots : (w : InputBytes) → AreInputsConsistent received w
       → length store.lines ≤ max (length before.lines) (m.beyond.slot_bound w)
-
--- The postcondition of a run with a lent store: the peak that it reports, and whether memory was denied, are the
--- store's own, and if it reads nothing, then inputs, store and output are unchanged.
-pub record RunWithStorePost (m : CommandSpec) (old new : List Reader) (handed : Sinks) (o : Outcome)
-    (lent left : Slots) : Type 0 where
-  pub run : IsRunInStore m old new handed o lent left
-  pub reads_nothing : IsUnchangedIfUnread m old new handed.out o × IsStoreUnchangedIfUnread m old lent left
-  pub store : (o.peak ≡ left.peak) × (o.denied ≡ left.denied)
 
 -- ---- the kinds of tools
 

@@ -20,7 +20,7 @@ push_reserved-requires-in-loop-name g c =
 pub loop-name-preserved : goal.loop-name-preserved
 loop-name-preserved g c = record {
   opened = rw c.push_reserved-in-loop-name.ensures.items
-      (next_opened c.names-names.result.now c.loop-name.name-index _ c.loop-name-test.true c.loop-name.invariant.opened
+      (next_opened c.args.names.now c.loop-name.name-index _ c.loop-name-test.true c.loop-name.invariant.opened
       c.open.ensures c.reader_of.ensures);
   room = c.push_reserved-in-loop-name.ensures.capacity ∙ c.loop-name.invariant.room;
   count = omega (arith, c.push_reserved-in-loop-name.ensures.len, c.loop-name.invariant.count);
@@ -30,6 +30,5 @@ pub returns-clause-opened : goal.returns-clause-opened
 returns-clause-opened g c =
     subst (λ names. HaveOpened (g.F.Files.state c.args.files.now) (g.F.Files.state c.loop-name.files) names
     (g.S.Source.state c.args.standard) c.loop-name.readers.items)
-    (all_names c.names-names.result.now c.loop-name.name-index c.loop-name.auto.name-index-end c.loop-name-test.false
-    ∙ c.names-names.ensures)
+    (all_names c.args.names.now c.loop-name.name-index c.loop-name.auto.name-index-end c.loop-name-test.false)
     c.loop-name.invariant.opened

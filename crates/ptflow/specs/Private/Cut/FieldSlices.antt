@@ -6,7 +6,7 @@ use Rattle.ptlangs.specs.Calls.CutLists.{AreSeparated}
 use Rattle.ptlangs.specs.CutLists.{is_selected}
 use Rattle.ptflow.specs.Cuts.{select_from}
 use Rattle.ptflow.specs.Private.Cut.FieldOffsets.{IsFieldOffset, fields, prefixed_fields}
-use Rattle.ptflow.specs.Private.Vectors.FindNth.{IsMatchWindow}
+use Rattle.ptlines.specs.Calls.Scan.{IsMatchWindow}
 use Rattle.ptflow.specs.declared.tools.cut.fields.FieldCursor.{FieldCursor}
 use Rattle.ptflow.specs.declared.tools.cut.fields.LineSlice.{LineSlice}
 

@@ -1,9 +1,9 @@
 -- Segments of a row of `paste`: a column, and the columns after it whose inputs have ended.
-use Rattle.std.specs.Prelude.{◌≡◌, ℕ, ◌+◌, ◌<◌, ◌≤◌, true, List, [], ◌∷◌, ◌++◌, length, take, replicate}
-use Rattle.std.specs.Prelude.{slice_index_or}
+use Rattle.std.specs.Prelude.{◌≡◌, ℕ, ◌+◌, ◌<◌, ◌≤◌, true, List, [], ◌∷◌, ◌++◌, length, take, slice_index_or}
 use Rattle.ptlines.specs.Calls.Readers.{IsSound}
-use Rattle.ptlines.specs.Readers.{Reader, reader_at}
-use Rattle.ptflow.specs.Private.Paste.RowCells.{RowShape, after_cell, cells_text}
+use Rattle.ptlines.specs.Readers.{Reader}
+use Rattle.ptflow.specs.Private.Paste.BufferedRows.{AreConsumed, CopyColumnsPost}
+use Rattle.ptflow.specs.Private.Paste.RowCells.{BegunText, RowShape, after_cell}
 use Rattle.ptflow.specs.declared.tools.paste.segments.Segment.{Segment}
 
 -- A reader has given all of its input.
@@ -12,20 +12,20 @@ pub record IsEnded (r : Reader) : Type 0 where
   pub none : r.buffered ≡ []
   pub sound : IsSound r
 
--- The inputs of `count` columns from column c on have ended.
-abbrev pub AreEnded : RowShape → List Reader → ℕ → ℕ → Type 0
-AreEnded row readers c count = (column : ℕ) → c ≤ column → column < c + count
-    → IsEnded (reader_at readers (slice_index_or row.cells column 0))
+-- Columns c up to `next` are copied if the field of column c is followed by `bytes`: now, and after more of the bytes
+-- of the readers were consumed.
+abbrev pub EndsWith : RowShape → List Reader → ℕ → ℕ → List ℕ → Type 0
+EndsWith row readers c next bytes = (first : BegunText) (field : List ℕ) → first.count ≡ c + 1
+    → first.text ≡ field ++ after_cell row c → AreConsumed readers first.readers
+    → CopyColumnsPost row first (record first { count = next; text = field ++ bytes })
 
--- A segment that begins with column c, after which the inputs of `more` columns have ended.
+-- A segment that begins with column c: its bytes end its columns, of which only the first one may have a line.
 pub record IsSegment (row : RowShape) (readers : List Reader) (c : ℕ) (segment : Segment) : Type 0 where
-  pub more : ℕ
   pub input : segment.input ≡ slice_index_or row.cells c 0
-  pub count : segment.count ≡ more + 1
+  pub some : 0 < segment.count
   pub within : c + segment.count ≤ length row.cells
   pub few : segment.len ≤ 16
-  pub text : take segment.len segment.bytes ≡ after_cell row c ++ cells_text row (c + 1) (replicate more [])
-  pub ended : AreEnded row readers (c + 1) more
+  pub ends : EndsWith row readers c (c + segment.count) (take segment.len segment.bytes)
 
 -- Segments of which the first one begins with column c, and each other one where the one before it ends.
 abbrev pub AreSegments : RowShape → List Reader → ℕ → List Segment → Type 0

@@ -115,21 +115,22 @@ impl Selection<'_> {
             ≡ take at into.old ++ select_from (is_selected self.now.selected.now) 1 (take count line.now) }
         ensures near { result ≤ at + count }
     {
+        let mut rest = count;
         for index in 0..self.shuffles.count {
-            let rest = count - 16 * index;
             at = self.copy16(index, line, rest.min(16), into, at);
             if rest <= 16 {
                 return at;
             }
+            rest -= 16;
         }
-        let start = 16 * self.shuffles.count;
+        let start = count - rest;
         let line_offset = start as u64;
-        let rest = Line {
+        let tail = Line {
             start,
             line_offset,
             at,
         };
-        self.copy_selected(line, rest, count - start, into)
+        self.copy_selected(line, tail, rest, into)
     }
 
     // Copies the selected bytes of a line of `count` bytes, and the terminator. Returns the index after the copied

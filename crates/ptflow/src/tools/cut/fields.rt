@@ -6,32 +6,33 @@ ghost use Rattle.std.specs.Prelude.{◌≡◌, ◌+◌, ◌-◌, ◌<◌, ◌≤
 ghost use Rattle.std.specs.Prelude.{false, [], ◌∷◌, Some, OnOk, OnErr, MatchOption};
 ghost use Rattle.memchr.specs.Find.{IsFirstByte, is_byte};
 ghost use Rattle.ptlines.specs.Calls.Outputs.{PushEffect};
+ghost use Rattle.ptlines.specs.Calls.Scan.{IsMatchWindow};
 ghost use Rattle.ptlangs.specs.Jobs.{cut_job};
 ghost use Rattle.ptflow.specs.Cuts.{cut_fields, cut_lines};
 ghost use Rattle.ptflow.specs.Private.Cut.FieldOffsets.{IsFieldOffset};
 ghost use Rattle.ptflow.specs.Private.Cut.FieldSlices.{IsFieldCursor, IsLineWindow, IsNextSlice, output_from_cursor};
-ghost use Rattle.ptflow.specs.Private.Vectors.FindNth.{IsMatchWindow};
 ghost use Rattle.ptflow.specs.Private.Cut.CutFrom.{CopyLinesPost};
 
 use crate::line_loop::LineFilter;
-use crate::simd::find_nth::{ByteMatches, MatchWindow};
 use memchr::memrchr;
 use ptlangs::jobs::CutJob;
 use ptlangs::ranges::Interval;
-use ptlines::{Out, PADDED, PaddedBlock, Sink, Store, WriteFault, copy_short};
+use ptlines::{
+    MatchWindow, Matches, Out, PADDED, PaddedBlock, Sink, Store, WriteFault, copy_short,
+};
 use std::alloc::Allocator;
 use std::simd::prelude::*;
 
 // Moves a window of the delimiters of a line, which is the first `to` bytes, to the start of the field after `count`
 // others, counted from the window on. If there is no such field, the window is after the line.
 #[inline(always)]
-fn skip_fields(delimiters: &ByteMatches, window: MatchWindow, to: usize, count: u64) -> MatchWindow
+fn skip_fields(delimiters: &Matches<u8>, window: MatchWindow, to: usize, count: u64) -> MatchWindow
     requires within { (window.at ≤ to) × (to ≤ length delimiters.now.bytes.now) }
-    requires window { IsMatchWindow (is_byte delimiters.now.byte) delimiters.now.bytes.now window }
+    requires window { IsMatchWindow (is_byte delimiters.now.needle) delimiters.now.bytes.now window }
     ensures near { window.at ≤ result.at }
-    ensures offset { IsFieldOffset delimiters.now.byte count (drop window.at (take to delimiters.now.bytes.now))
+    ensures offset { IsFieldOffset delimiters.now.needle count (drop window.at (take to delimiters.now.bytes.now))
         (min result.at (to + 1) - window.at) }
-    ensures moved { result.at ≤ to → IsMatchWindow (is_byte delimiters.now.byte) delimiters.now.bytes.now result }
+    ensures moved { result.at ≤ to → IsMatchWindow (is_byte delimiters.now.needle) delimiters.now.bytes.now result }
 {
     if count == 0 {
         return window;
@@ -58,11 +59,11 @@ struct FieldCursor<'a> {
 impl<'a> FieldCursor<'a> {
     // The cursor at the start of a line.
     #[inline(always)]
-    fn new(left: &'a [Interval], delimiters: &ByteMatches) -> FieldCursor<'a>
+    fn new(left: &'a [Interval], delimiters: &Matches<u8>) -> FieldCursor<'a>
         ensures left { result.left.now ≡ left.now }
         ensures passed { result.passed ≡ 0 }
         ensures at { result.window.at ≡ 0 }
-        ensures window { IsMatchWindow (is_byte delimiters.now.byte) delimiters.now.bytes.now result.window }
+        ensures window { IsMatchWindow (is_byte delimiters.now.needle) delimiters.now.bytes.now result.window }
     {
         FieldCursor {
             left,
@@ -74,14 +75,14 @@ impl<'a> FieldCursor<'a> {
     // The next slice of the output for a line, which is the first `to` bytes: adjacent selected fields, with the
     // delimiter before them if they are not the first. The cursor moves after them. `None` if no field is left.
     #[inline(always)]
-    fn next_slice(&mut self, delimiters: &ByteMatches, to: usize) -> Option<LineSlice>
+    fn next_slice(&mut self, delimiters: &Matches<u8>, to: usize) -> Option<LineSlice>
         requires within { to ≤ length delimiters.now.bytes.now }
-        requires window { IsLineWindow delimiters.now.byte delimiters.now.bytes.now to self.old }
-        requires cursor { IsFieldCursor delimiters.now.byte (take to delimiters.now.bytes.now) self.old }
+        requires window { IsLineWindow delimiters.now.needle delimiters.now.bytes.now to self.old }
+        requires cursor { IsFieldCursor delimiters.now.needle (take to delimiters.now.bytes.now) self.old }
         ensures next { MatchOption result
-            (output_from_cursor delimiters.now.byte (take to delimiters.now.bytes.now) self.old ≡ [])
-            (λ slice. IsNextSlice delimiters.now.byte (take to delimiters.now.bytes.now) self.old slice self.new) }
-        ensures window { IsLineWindow delimiters.now.byte delimiters.now.bytes.now to self.new }
+            (output_from_cursor delimiters.now.needle (take to delimiters.now.bytes.now) self.old ≡ [])
+            (λ slice. IsNextSlice delimiters.now.needle (take to delimiters.now.bytes.now) self.old slice self.new) }
+        ensures window { IsLineWindow delimiters.now.needle delimiters.now.bytes.now to self.new }
     {
         if self.left.is_empty() || self.window.at > to {
             return None;
@@ -103,10 +104,10 @@ impl<'a> FieldCursor<'a> {
 // Pushes the selected fields of a line of any length.
 fn write_fields<A: Allocator + Copy, W: Sink>(
     job: &CutJob<A>,
-    delimiters: &ByteMatches,
+    delimiters: &Matches<u8>,
     out: &mut Out<W>,
 ) -> Result<(), WriteFault>
-    requires { delimiters.now.byte ≡ job.now.delim }
+    requires { delimiters.now.needle ≡ job.now.delim }
     ensures wrote { PushEffect out.old out.new (cut_fields (cut_job job.now) delimiters.now.bytes.now) }
     ensures clean { OnOk result (out.old.write_failed ≡ false → out.new.write_failed ≡ false) }
     ensures fault { OnErr result (out.new.write_failed ≡ true) }
@@ -167,7 +168,7 @@ fn write_line<A: Allocator + Copy, W: Sink>(
     ensures clean { OnOk result (out.old.write_failed ≡ false → out.new.write_failed ≡ false) }
     ensures fault { OnErr result (out.new.write_failed ≡ true) }
 {
-    let delimiters = ByteMatches::new(selection.delim, line);
+    let delimiters = Matches::new(selection.delim, line);
     if delimiters.first().is_some() {
         write_fields(selection.job, &delimiters, out)?;
         return out.push(&[selection.terminator]);
@@ -201,12 +202,12 @@ fn copy_slice(bytes: &[u8], slice: LineSlice, into: &mut [u8], at: usize)
 #[inline(always)]
 fn copy_fields<A: Allocator + Copy>(
     job: &CutJob<A>,
-    delimiters: &ByteMatches,
+    delimiters: &Matches<u8>,
     to: usize,
     room: &mut [u8],
     start: usize,
 ) -> usize
-    requires delimiter { delimiters.now.byte ≡ job.now.delim }
+    requires delimiter { delimiters.now.needle ≡ job.now.delim }
     requires room { (to < length delimiters.now.bytes.now) × (start + to + 17 ≤ length room.old) }
     ensures long { length room.new ≡ length room.old }
     ensures put { take result room.new ≡ take start room.old
@@ -270,7 +271,7 @@ fn copy_lines<A: Allocator + Copy>(
         delim,
         terminator,
     } = *selection;
-    let delimiters = ByteMatches::new(delim, bytes);
+    let delimiters = Matches::new(delim, bytes);
     let first = delimiters.first().unwrap_or(bytes.len());
     if first < to {
         let end = copy_fields(job, &delimiters, to, room, start);
@@ -335,7 +336,7 @@ impl<'a, A: Allocator + Copy> LineFilter for FieldCut<'a, A> {
         };
         let mut end = 0;
         let mut rest = block;
-        'lines: while let Some(to) = ByteMatches::new(selection.terminator, rest).first() {
+        'lines: while let Some(to) = Matches::new(selection.terminator, rest).first() {
             let copied = copy_lines(&selection, to, rest, &mut self.buffer, end);
             rest = &rest[copied.len..];
             end = copied.end;

@@ -10,13 +10,13 @@ ghost use Rattle.ptlines.specs.Readers.{Reader};
 ghost use Rattle.ptlines.specs.Calls.Readers.{IsSound};
 ghost use Rattle.ptflow.specs.Private.Paste.RowCells.{after_cell, begun_after, begun_in, shape_of};
 ghost use Rattle.ptflow.specs.Private.Paste.BufferedRows.{BufferedRowsPre, CopyCellPost, CopyColumnsPost, CopyRowsPost};
-ghost use Rattle.ptflow.specs.Private.Paste.BufferedRows.{IsLineCopied, LineCopied};
+ghost use Rattle.ptflow.specs.Private.Paste.BufferedRows.{AreConsumed, IsLineCopied, LineCopied, RowsTaken};
 ghost use Rattle.ptflow.specs.Private.Paste.Segments.{AreSegments};
+ghost use Rattle.ptlines.specs.declared.sizes.TheConstants.{PADDED};
 
-use crate::simd::find_nth::find_by_mask;
 use crate::tools::paste::row::{BegunRow, CopiedRows, RowFormat, copy_option, next_index};
 use crate::tools::paste::segments::{Segment, has_ended_column, segments};
-use ptlines::{BLOCK, LineReader, PaddedBlock, Source, copy_short, find_in_chunk};
+use ptlines::{BLOCK, LineReader, PaddedBlock, Source, copy_short, find_by_mask, find_in_chunk};
 use std::simd::prelude::*;
 
 // Copies the 16 bytes from `from` on to `at`. Returns the index of the first terminator among them.
@@ -45,7 +45,7 @@ fn copy_16(
 #[inline(always)]
 fn copy_by_16(terminator: u8, bytes: &[u8], into: &mut PaddedBlock, at: usize) -> Option<usize>
     ensures line { IfSome result (IsLineCopied terminator bytes.now at into.old into.new) }
-    ensures prefix_kept { take at into.new ≡ take at into.old }
+    ensures none { IfNone result (take at into.new ≡ take at into.old) }
 {
     if bytes.len() < 16 || at >= BLOCK - 16 {
         return None;
@@ -77,8 +77,7 @@ fn copy_near_end<S: Source, R: Source>(
     ensures line { IfSome result
         (λ end. LineCopied terminator reader.old reader.new (take at into.old) (take end into.new)) }
     ensures size_bound { IfSome result (λ end. (at ≤ end) × (end < BLOCK)) }
-    ensures none { IfNone result (reader.new ≡ reader.old) }
-    ensures prefix_kept { take at into.new ≡ take at into.old }
+    ensures none { IfNone result ((reader.new ≡ reader.old) × (take at into.new ≡ take at into.old)) }
     ensures was_sound { IsSound reader.old }
 {
     let bytes = reader.buffered();
@@ -109,24 +108,20 @@ fn copy_cell<S: Source, R: Source>(
 ) -> Option<CopiedField>
     ensures cell { IfSome result (CopyCellPost terminator reader.old reader.new (take at into.old) into.new) }
     ensures size_bound { IfSome result (λ field. (at ≤ field.end) × (field.end < BLOCK)) }
-    ensures none { IfNone result (reader.new ≡ reader.old) }
-    ensures prefix_kept { take at into.new ≡ take at into.old }
+    ensures none { IfNone result ((reader.new ≡ reader.old) × (take at into.new ≡ take at into.old)) }
     ensures was_sound { IsSound reader.old }
 {
-    if let Some(count) = copy_by_16(terminator, reader.buffered(), into, at) {
+    let end = if let Some(count) = copy_by_16(terminator, reader.buffered(), into, at) {
         reader.consume(count + 1);
-        return Some(CopiedField {
-            end: at + count,
-            is_line: true,
-        });
-    }
-    if reader.buffered().is_empty() && reader.at_eof() && at < BLOCK {
+        at + count
+    } else if reader.buffered().is_empty() && reader.at_eof() && at < BLOCK {
         return Some(CopiedField {
             end: at,
             is_line: false,
         });
-    }
-    let end = copy_near_end(terminator, reader, into, at)?;
+    } else {
+        copy_near_end(terminator, reader, into, at)?
+    };
     Some(CopiedField { end, is_line: true })
 }
 
@@ -165,7 +160,7 @@ pub(crate) fn copy_columns<S: Source, R: Source>(
 }
 
 // Copies the segments of a row, after what was copied of it, up to the first one whose line is not complete in the
-// buffer or does not fit. Of a segment that may not fit, it copies only the first column.
+// buffer or does not fit.
 #[inline(always)]
 fn copy_segments<S: Source, R: Source>(
     row: RowFormat,
@@ -187,22 +182,44 @@ fn copy_segments<S: Source, R: Source>(
         let Some(field) = copy_cell(row.terminator, reader, into, begun.end) else {
             return begun;
         };
-        let any_line = begun.any_line | field.is_line;
-        if field.end > BLOCK - 16 {
-            return BegunRow {
-                count: begun.count + 1,
-                end: copy_option(row.byte_after(begun.count), into, field.end),
-                any_line,
-            };
-        }
         begun = BegunRow {
             count: begun.count + segment.count,
             end: segment.copy_bytes(into, field.end),
-            any_line,
+            any_line: begun.any_line | field.is_line,
         };
         rest = tail;
     }
     begun
+}
+
+// Copies the first rows if the first segment is a row, since the inputs of all other columns have ended: each is a line
+// and the bytes of the segment. It stops at a line that `copy_by_16` does not copy. Returns the offset after them.
+#[inline(always)]
+fn copy_rows_of_one<S: Source, R: Source>(
+    row: RowFormat,
+    segments: &[Segment],
+    readers: &mut [LineReader<S, R>],
+    into: &mut PaddedBlock,
+) -> usize
+    requires readable { BufferedRowsPre (shape_of row) readers.old }
+    requires segments { AreSegments (shape_of row) readers.old 0 segments.now }
+    ensures rows { RowsTaken (shape_of row.entry) readers.old readers.new (take result into.new) }
+    ensures consumed { AreConsumed readers.old readers.new }
+    ensures size_bound { result ≤ PADDED }
+{
+    let segment = match segments {
+        [segment, ..] if segment.count == row.cells.len() => segment,
+        _ => return 0,
+    };
+    let mut end = 0;
+    'lines: loop {
+        let reader = &mut readers[segment.input];
+        let Some(count) = copy_by_16(row.terminator, reader.buffered(), into, end) else {
+            return end;
+        };
+        reader.consume(count + 1);
+        end = segment.copy_bytes(into, end + count);
+    }
 }
 
 // Copies rows like `copy_rows`, each by these segments first. Inlined, so that over no segments nothing is left of the
@@ -220,37 +237,20 @@ fn copy_rows_by<S: Source, R: Source>(
         (begun_after readers.new result into.new) }
     ensures within { result.begun.count ≤ length row.entry.cells.now }
 {
-    let mut end = 0;
+    let mut end = copy_rows_of_one(row, segments, readers, into);
     'rows: loop {
         let start = BegunRow {
             count: 0,
             end,
             any_line: false,
         };
-        let mut begun = copy_segments(row, segments, readers, into, start);
-        if begun.count < row.cells.len() {
-            begun = copy_columns(row, readers, into, begun);
-        }
+        let first = copy_segments(row, segments, readers, into, start);
+        let begun = copy_columns(row, readers, into, first);
         if begun.count < row.cells.len() || !begun.any_line {
             return CopiedRows { end, begun };
         }
         end = begun.end;
     }
-}
-
-// Copies rows like `copy_rows`, by all segments that begin a row. Out of line (`paste` of 50 files).
-#[inline(never)]
-fn copy_rows_by_segments<S: Source, R: Source>(
-    row: RowFormat,
-    readers: &mut [LineReader<S, R>],
-    into: &mut PaddedBlock,
-) -> CopiedRows
-    requires { BufferedRowsPre (shape_of row) readers.old }
-    ensures rows { CopyRowsPost (shape_of row.entry) readers.old (take result.end into.new)
-        (begun_after readers.new result into.new) }
-    ensures within { result.begun.count ≤ length row.entry.cells.now }
-{
-    copy_rows_by(row, &segments(row, readers), readers, into)
 }
 
 // Copies rows while all of their lines are complete in the buffers and fit, and the first columns of the next row. If
@@ -267,7 +267,7 @@ pub(crate) fn copy_rows<S: Source, R: Source>(
     ensures within { result.begun.count ≤ length row.entry.cells.now }
 {
     if has_ended_column(row, readers) {
-        return copy_rows_by_segments(row, readers, into);
+        return copy_rows_by(row, &segments(row, readers), readers, into);
     }
     copy_rows_by(row, &[], readers, into)
 }
@@ -298,7 +298,7 @@ pub(crate) fn copy_slot(
         (λ next. (begun.count ≡ column) × (next.count ≡ column + 1) × (next.any_line ≡ begun.any_line)) }
     ensures none { IfNone result (into.new ≡ into.old) }
 {
-    if begun.count != column || line.len() >= BLOCK - begun.end {
+    if begun.count != column || begun.end.saturating_add(line.len()) >= BLOCK {
         return None;
     }
     copy_short(line, 0, line.len(), into, begun.end);

@@ -4,7 +4,7 @@
 
 ghost use Rattle.std.specs.Prelude.{◌≡◌, ◌<◌, ◌≤◌, ◌+◌, ◌%◌, ◌++◌, IfSome, length, option_to_list, take};
 ghost use Rattle.ptflow.specs.Private.Paste.Unrolled.{AreDelimiterBytes};
-ghost use Rattle.ptlines.specs.declared.sizes.TheConstants.{BLOCK};
+ghost use Rattle.ptlines.specs.declared.sizes.TheConstants.{PADDED};
 
 use arrayvec::ArrayVec;
 
@@ -45,7 +45,7 @@ pub(crate) struct BegunRow {
     pub count: usize,
     pub end: usize,
     pub any_line: bool,
-    ghost size_bound: { end ≤ BLOCK },
+    ghost size_bound: { end ≤ PADDED },
 }
 
 // Rows that were copied up to `end`, and a begun row after them.

@@ -22,15 +22,12 @@ pub(crate) struct Segment {
     pub bytes: [u8; 16],
 }
 
-// The segments of the first columns of a row.
-pub(crate) type Segments = ArrayVec<Segment, 64>;
-
 impl Segment {
     // Copies the bytes after the fields to `at`. Returns the offset after them.
     #[inline(always)]
     pub(crate) fn copy_bytes(&self, into: &mut PaddedBlock, at: usize) -> usize
         requires few { self.now.len ≤ 16 }
-        requires room { at + 16 ≤ BLOCK }
+        requires room { at < BLOCK }
         ensures copied { take result into.new ≡ take at into.old ++ take self.now.len self.now.bytes }
         ensures end { result ≡ at + self.now.len }
     {
@@ -56,8 +53,7 @@ pub(crate) fn has_ended_column<S: Source, R: Source>(
 ) -> bool
     requires { BufferedRowsPre (shape_of row) readers.now }
 {
-    let first = &row.cells[..row.cells.len().min(64)];
-    for input in first {
+    for input in &row.cells[..row.cells.len().min(64)] {
         if has_ended(&readers[*input]) {
             return true;
         }
@@ -76,19 +72,17 @@ fn segment_at<S: Source, R: Source>(
     ensures { IsSegment (shape_of row.entry) readers.now column result }
 {
     let mut bytes = [0; 16];
-    let mut len = 0;
-    let mut next = column;
-    'columns: loop {
+    let mut len = copy_option(row.byte_after(column), &mut bytes, 0);
+    let mut next = column + 1;
+    'columns: while next < row.cells.len() && len < 16 && has_ended(&readers[row.cells[next]]) {
         len = copy_option(row.byte_after(next), &mut bytes, len);
         next += 1;
-        if next == row.cells.len() || len == 16 || !has_ended(&readers[row.cells[next]]) {
-            return Segment {
-                input: row.cells[column],
-                count: next - column,
-                len,
-                bytes,
-            };
-        }
+    }
+    Segment {
+        input: row.cells[column],
+        count: next - column,
+        len,
+        bytes,
     }
 }
 
@@ -96,7 +90,7 @@ fn segment_at<S: Source, R: Source>(
 pub(crate) fn segments<S: Source, R: Source>(
     row: RowFormat,
     readers: &[LineReader<S, R>],
-) -> Segments
+) -> ArrayVec<Segment, 64>
     requires { BufferedRowsPre (shape_of row) readers.now }
     ensures { AreSegments (shape_of row.entry) readers.now 0 result.items }
 {

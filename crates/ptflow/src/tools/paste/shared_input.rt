@@ -11,11 +11,10 @@ ghost use Rattle.ptflow.specs.Private.Paste.RowCells.{shape_of};
 ghost use Rattle.ptflow.specs.Private.Paste.Replaced.{cycle_byte, with_replacements};
 ghost use Rattle.ptflow.specs.Private.Paste.SharedInput.{IsSharedCycle, IsWholeRows};
 
-use crate::simd::find_nth::nth_index;
 use crate::simd::replace::Cycle;
 use crate::tools::paste::row::{RowFormat, delimiter_bytes};
 use memchr::memrchr;
-use ptlines::{LineReader, Out, PaddedBlock, Sink, Source, WriteFault};
+use ptlines::{LineReader, Out, PaddedBlock, Sink, Source, WriteFault, nth_index};
 
 // The replacements of the terminators of a row: after each column but the last its delimiter, and at the end the
 // terminator of the row. `None` unless there are at most 128 columns, all with the same reader, and every delimiter

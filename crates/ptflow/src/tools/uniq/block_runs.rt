@@ -12,11 +12,10 @@ ghost use Rattle.ptflow.specs.Private.Uniq.BlockRuns.{RunsWritten, RunsFailed, E
 ghost use Rattle.ptflow.specs.Private.Uniq.BlockRuns.{repeated, bytes_in_range};
 
 use crate::simd::compare::{is_equal, same_start};
-use crate::simd::find_nth::find_line_end;
 use crate::tools::uniq::line_key::key;
 use itoa::Buffer;
 use ptlangs::jobs::{Show, UniqJob};
-use ptlines::{Out, Sink, WriteFault};
+use ptlines::{Out, Sink, WriteFault, find_line_end};
 
 // Checks whether a run of `count` lines is written.
 fn has_output(show: Show, count: u64) -> bool

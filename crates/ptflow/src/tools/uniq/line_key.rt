@@ -8,9 +8,8 @@ ghost use Rattle.ptlines.specs.Text.{is_blank};
 ghost use Rattle.ptflow.specs.Uniqs.{after_fields, ends_word, key};
 ghost use Rattle.ptflow.specs.Private.Uniq.FieldEnds.{field_ends};
 
-use crate::simd::find_nth::nth_bit;
 use ptlangs::jobs::UniqJob;
-use std::simd::prelude::*;
+use ptlines::{Blank, mask_at, nth_bit};
 
 fn is_blank(byte: u8) -> bool
     ensures { result ≡ is_blank byte }
@@ -46,23 +45,13 @@ fn skip_fields_short(fields: u64, line: &[u8]) -> &[u8]
     rest
 }
 
-// The mask of the blanks among the 32 bytes at index `at`: bit `i` is set if the byte at `at + i` is one.
-#[inline(always)]
-fn blank_mask(bytes: &[u8], at: usize) -> u64
-    requires { at + 32 ≤ length bytes.now }
-    ensures { result ≡ mask_l (map is_blank (chunk at 32 bytes.now)) }
-{
-    let v = u8x32::from_slice(&bytes[at..]);
-    (v.simd_eq(u8x32::splat(b' ')) | v.simd_eq(u8x32::splat(b'\t'))).to_bitmask()
-}
-
 // The mask of the field ends among the 31 bytes at index `at`: each is not a blank, but the byte after it is.
 #[inline(always)]
 fn field_ends(bytes: &[u8], at: usize) -> u64
     requires { at + 32 ≤ length bytes.now }
     ensures { result ≡ mask_l (field_ends 31 (drop at bytes.now)) }
 {
-    let blanks = blank_mask(bytes, at);
+    let blanks = mask_at::<32, Blank>(Blank, bytes, at);
     (0xffff_ffff - blanks) & blanks >> 1
 }
 

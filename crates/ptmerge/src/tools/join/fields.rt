@@ -1,21 +1,20 @@
 //! Fields of a line of `join`, between separators (`-t`) or else between blanks. `output` finds fields in a `SplitLine`
 //! or one after another (`next_word`), and `field_keys` finds the span of the join field (`field_span`).
 
-ghost use Rattle.std.specs.Prelude.{◌≡◌, ◌∷◌, [], None, Some, ◌<◌, ◌+◌, length, position, option_copied, IfSome};
-ghost use Rattle.std.specs.Prelude.{MatchOption, map, ℕ};
+ghost use Rattle.std.specs.Prelude.{◌≡◌, ◌∷◌, [], None, Some, ◌<◌, ◌≤◌, ◌+◌, ◌-◌, length, drop, position, option_copied, IfSome};
+ghost use Rattle.std.specs.Prelude.{MatchOption, ℕ};
 ghost use Rattle.std.specs.List.{slice_split};
-ghost use Rattle.std.specs.Simd.Lanes.{mask_l};
 ghost use Rattle.memchr.specs.Find.{is_byte};
+ghost use Rattle.ptlines.specs.Calls.Scan.{IsMatchWindow};
 ghost use Rattle.ptlines.specs.Text.{is_blank};
-ghost use Rattle.ptmerge.specs.Join.{nth_field};
+ghost use Rattle.ptmerge.specs.Join.{join_fields, nth_field};
 ghost use Rattle.ptmerge.specs.Private.JoinFields.{AreBlanks, IsFieldFound, IsFirstPieceEnd, IsFieldIn, IsPiece};
-ghost use Rattle.ptmerge.specs.Private.JoinFields.{is_evenly_separated, is_separator, remaining_fields};
+ghost use Rattle.ptmerge.specs.Private.JoinFields.{first_window, is_evenly_separated, is_separator, remaining_fields};
 ghost use Rattle.ptmerge.specs.Calls.KeySpan.{IsKeySpan};
 
 use crate::key_order::Span;
-use crate::tools::join::separators::{find_separated, find_separated_long, separators_of};
-use crate::tools::join::words::{Blanks, blanks_of, find_blank, find_word, is_single_spaced};
-use ptlines::find_byte;
+use crate::tools::join::words::{Blanks, blanks_of, find_word, is_single_spaced};
+use ptlines::{Blank, MatchWindow, find_byte, find_first};
 
 // Returns the index of the first separator or blank in `bytes`.
 #[inline(always)]
@@ -25,7 +24,7 @@ fn field_end(separator: Option<u8>, bytes: &[u8]) -> Option<usize>
 {
     match separator {
         Some(byte) => find_byte(byte, bytes),
-        None => find_blank(bytes),
+        None => find_first(Blank, bytes),
     }
 }
 
@@ -109,39 +108,70 @@ fn find_word_long(number: u64, line: &[u8]) -> Option<Span>
     Some(span_of_word(line, next_word(left)?))
 }
 
-// Returns the blanks of a short line without separators. The result for others does not matter.
+// Returns the first masks of a line: with `-t` that of its separators among the first 64 bytes, and otherwise those of
+// its blanks, if it is short.
 #[inline(always)]
-fn blanks_if_short(separator: Option<u8>, line: &[u8]) -> Blanks
-    ensures { separator ≡ None → length line.now < 64 → AreBlanks line.now result }
-{
-    if separator.is_some() || line.len() >= 64 {
-        return Blanks { any: 0, tabs: 0 };
-    }
-    blanks_of(line)
-}
-
-// Returns the mask of the separators of a short line, if it has separators. The result for others does not matter.
-#[inline(always)]
-fn separators_if_short(separator: Option<u8>, line: &[u8]) -> u64
-    ensures { (byte : ℕ) → separator ≡ Some byte → length line.now < 64
-        → result ≡ mask_l (map (is_byte byte) line.now) }
+fn first_masks(separator: Option<u8>, line: &[u8]) -> Blanks
+    ensures blanks { separator ≡ None → length line.now < 64 → AreBlanks line.now result }
+    ensures separators { (byte : ℕ) → separator ≡ Some byte
+        → IsMatchWindow (is_byte byte) line.now (first_window line.now result.any) }
 {
     match separator {
-        Some(byte) if line.len() < 64 => separators_of(byte, line),
-        _ => 0,
+        Some(byte) => Blanks {
+            any: MatchWindow::new(byte, line, 0).mask,
+            tabs: 0,
+        },
+        None if line.len() < 64 => blanks_of(line),
+        None => Blanks { any: 0, tabs: 0 },
     }
 }
 
-// A line that is split into fields. If it is short, its blanks or separators are found only once.
+// From the first window of the separators, returns the one at the field with this number, or after the line.
+#[inline(always)]
+fn to_field(separator: u8, number: u64, line: &[u8], first: MatchWindow) -> MatchWindow
+    requires start { first.at ≡ 0 }
+    requires window { IsMatchWindow (is_byte separator) line.now first }
+    ensures none { length line.now < result.at → drop (number - 1) (join_fields (Some separator) line.now) ≡ [] }
+    ensures field { result.at ≤ length line.now → drop (number - 1) (join_fields (Some separator) line.now)
+        ≡ join_fields (Some separator) (drop result.at line.now) }
+    ensures window { result.at ≤ length line.now → IsMatchWindow (is_byte separator) line.now result }
+{
+    if number <= 1 {
+        return first;
+    }
+    first.after_nth(separator, line, line.len(), number - 2)
+}
+
+// Returns the span of the field with this number, counted from 1, or `None` if there is none. `mask` is that of the
+// separators among the first 64 bytes.
+fn find_separated(separator: u8, number: u64, line: &[u8], mask: u64) -> Option<Span>
+    requires { IsMatchWindow (is_byte separator) line.now (first_window line.now mask) }
+    ensures { IsFieldFound (Some separator) number line.now result }
+{
+    let first = MatchWindow {
+        at: 0,
+        mask,
+        end: line.len().min(64),
+    };
+    let field = to_field(separator, number, line, first);
+    if field.at > line.len() {
+        return None;
+    }
+    Some(Span {
+        start: field.at,
+        end: field.first(separator, line).unwrap_or(line.len()),
+    })
+}
+
+// A line that is split into fields. Its first separators are found only once, or its blanks if it is short.
 #[derive(Clone, Copy)]
 pub(crate) struct SplitLine<'a> {
     pub(crate) separator: Option<u8>,
     pub(crate) line: &'a [u8],
-    blanks: Blanks,
-    separators: u64,
-    ghost masks: { separator ≡ None → length line.now < 64 → AreBlanks line.now blanks },
-    ghost mask: { (byte : ℕ) → separator ≡ Some byte → length line.now < 64
-        → separators ≡ mask_l (map (is_byte byte) line.now) },
+    masks: Blanks,
+    ghost blanks: { separator ≡ None → length line.now < 64 → AreBlanks line.now masks },
+    ghost separators: { (byte : ℕ) → separator ≡ Some byte
+        → IsMatchWindow (is_byte byte) line.now (first_window line.now masks.any) },
 }
 
 impl<'a> SplitLine<'a> {
@@ -152,8 +182,7 @@ impl<'a> SplitLine<'a> {
         SplitLine {
             separator,
             line,
-            blanks: blanks_if_short(separator, line),
-            separators: separators_if_short(separator, line),
+            masks: first_masks(separator, line),
         }
     }
 
@@ -164,9 +193,8 @@ impl<'a> SplitLine<'a> {
     {
         let is_short = self.line.len() < 64;
         match self.separator {
-            Some(byte) if is_short => find_separated(byte, number, self.line, self.separators),
-            Some(byte) => find_separated_long(byte, number, self.line),
-            None if is_short => find_word(number, self.line, self.blanks),
+            Some(byte) => find_separated(byte, number, self.line, self.masks.any),
+            None if is_short => find_word(number, self.line, self.masks),
             None => find_word_long(number, self.line),
         }
     }
@@ -187,7 +215,7 @@ impl<'a> SplitLine<'a> {
     pub(crate) fn is_single_spaced(&self) -> bool
         ensures { result ≡ is_evenly_separated self.now.separator self.now.line.now }
     {
-        self.separator.is_some() || is_single_spaced(self.line, self.blanks)
+        self.separator.is_some() || is_single_spaced(self.line, self.masks)
     }
 }
 

@@ -1,110 +1,39 @@
-//! Blanks and words of a line of `join`, by masks in which bit i is set if and only if byte i is a blank: finds the
-//! first blank and, in a short line, the word with a number, and checks whether a line is words with a single space
-//! between them.
+//! Blanks and words of a line of `join`, by masks in which bit i is set if and only if byte i is a blank: finds the word
+//! with a number in a short line, and checks whether a line is words with a single space between them.
 ghost use Rattle.std.specs.Prelude.{◌≡◌, ◌≢◌, ◌≤◌, ◌<◌, ◌+◌, ◌==◌, ◌-◌, ◌^◌, ℕ, List, bit_or, None, true, length};
 ghost use Rattle.std.specs.Simd.Lanes.{chunk};
-ghost use Rattle.memchr.specs.Find.{IsFirst, IsFirstByte, Passes};
-ghost use Rattle.ptlines.specs.Private.Bounds.{HasChunk};
-ghost use Rattle.ptlines.specs.Text.{is_blank};
-ghost use Rattle.ptmerge.specs.Private.JoinFields.{AreBlanks, AreMasks, IsFieldFound, has_single_spaces, is_single_spaced};
+ghost use Rattle.ptmerge.specs.Private.JoinFields.{AreBlanks, IsFieldFound, has_single_spaces, is_single_spaced};
 
 use crate::key_order::Span;
-use crate::tools::join::masks::{Masks, masks_in, masks_of};
-use memchr::memchr2;
+use ptlines::{Blank, mask_at, masks_of};
 
-// The blanks among at most 64 bytes: a mask of the spaces and tabs, and one of the tabs.
+// Masks of at most 64 bytes: of the blanks, and of the tabs among them; or of the separators of `-t`, without tabs.
 #[derive(Clone, Copy)]
 pub(crate) struct Blanks {
     pub(crate) any: u64,
     pub(crate) tabs: u64,
 }
 
-impl Blanks {
-    // Returns the blanks of bytes with these masks of spaces and tabs.
-    #[inline(always)]
-    #[tactic(auto, using(crate::proofs::JoinLemmas::FieldMasks::blanks_are))]
-    fn of(masks: Masks) -> Blanks
-        ensures { (bytes : List ℕ) → AreMasks 32 9 bytes masks → AreBlanks bytes result }
-    {
-        Blanks {
-            any: masks.first | masks.second,
-            tabs: masks.second,
-        }
+// Returns the blanks among the 64 bytes from `at` on.
+#[inline(always)]
+fn blanks_at(bytes: &[u8], at: usize) -> Blanks
+    requires { at + 64 ≤ length bytes.now }
+    ensures { AreBlanks (chunk at 64 bytes.now) result }
+{
+    Blanks {
+        any: mask_at::<64, Blank>(Blank, bytes, at),
+        tabs: mask_at::<64, u8>(b'\t', bytes, at),
     }
 }
 
-// Returns the blanks among the N bytes from `at` on.
-#[inline(always)]
-fn blanks_in<const N: usize>(bytes: &[u8], at: usize) -> Blanks
-    requires { HasChunk N at bytes.now }
-    ensures { AreBlanks (chunk at N bytes.now) result }
-{
-    Blanks::of(masks_in::<N>(b' ', b'\t', bytes, at))
-}
-
-// Returns the blanks among at most 64 bytes.
+// Returns the blanks among fewer than 64 bytes.
 #[inline(always)]
 pub(crate) fn blanks_of(bytes: &[u8]) -> Blanks
-    requires { length bytes.now ≤ 64 }
+    requires { length bytes.now < 64 }
     ensures { AreBlanks bytes.now result }
 {
-    Blanks::of(masks_of(b' ', b'\t', bytes))
-}
-
-// Returns the index of the first blank among the N bytes from `at` on.
-#[inline(always)]
-#[tactic(auto, using(ptlines::proofs::MatchMasks::none_if_zero_mask, ptlines::proofs::MatchMasks::first_at_lowest_bit))]
-fn find_blank_in<const N: usize>(bytes: &[u8], at: usize) -> Option<usize>
-    requires { HasChunk N at bytes.now }
-    ensures { IsFirst (Passes is_blank bytes.now) at (at + N) result }
-{
-    let mask = blanks_in::<N>(bytes, at).any;
-    if mask == 0 {
-        return None;
-    }
-    Some(at + mask.trailing_zeros() as usize)
-}
-
-// Returns the index of the first blank among at most 64 bytes.
-#[inline(always)]
-#[tactic(auto, using(crate::proofs::JoinLemmas::FieldMasks::none_if_no_blank))]
-fn find_blank_short(bytes: &[u8]) -> Option<usize>
-    requires { length bytes.now ≤ 64 }
-    ensures { IsFirstByte is_blank bytes.now result }
-{
-    let mask = blanks_of(bytes).any;
-    if mask == 0 {
-        return None;
-    }
-    Some(mask.trailing_zeros() as usize)
-}
-
-// Returns the index of the first blank, with `memchr2` from index 64 on.
-fn find_blank_long(bytes: &[u8]) -> Option<usize>
-    ensures { IsFirstByte is_blank bytes.now result }
-{
-    if bytes.len() <= 64 {
-        return find_blank_short(bytes);
-    }
-    if let Some(at) = find_blank_in::<64>(bytes, 0) {
-        return Some(at);
-    }
-    let at = memchr2(b' ', b'\t', &bytes[64..])?;
-    Some(64 + at)
-}
-
-// Returns the index of the first blank, which usually is among the first 16 bytes.
-#[inline(always)]
-pub(crate) fn find_blank(bytes: &[u8]) -> Option<usize>
-    ensures { IsFirstByte is_blank bytes.now result }
-{
-    if bytes.len() >= 16 {
-        let near = find_blank_in::<16>(bytes, 0);
-        if near.is_some() {
-            return near;
-        }
-    }
-    find_blank_long(bytes)
+    let (any, tabs) = masks_of(Blank, b'\t', bytes);
+    Blanks { any, tabs }
 }
 
 // Checks that none of these blanks is a tab, or comes after a blank. `before` is 1 if a blank precedes the bytes.
@@ -141,7 +70,7 @@ fn is_single_spaced_long(bytes: &[u8]) -> bool
     let mut before = 1;
     let mut at = 0;
     while bytes.len() - at >= 64 {
-        let blanks = blanks_in::<64>(bytes, at);
+        let blanks = blanks_at(bytes, at);
         if !are_single_spaces(blanks, before) {
             return false;
         }

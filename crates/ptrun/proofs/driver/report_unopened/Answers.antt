@@ -14,7 +14,7 @@ loop-input-init g c = grind (arith, said_nothing)
 
 pub loop-input-preserved : goal.loop-input-preserved
 loop-input-preserved g c =
-    let word = c.args.tool.now in
+    let word = c.args.name.now in
     let names = words_view c.args.names.now in
     let inputs = c.args.inputs.now in
     let p = c.position_of-position.result in

@@ -7,7 +7,7 @@ use proofs.driver.report_unopened.Given as goal
 abbrev pub invariant-loop-input : goal.invariant-loop-input
 invariant-loop-input g l = record {
   message : HasSaid l.fn.messages l.messages
-      (unopened_messages l.tool (words_view l.names) (is_reader_unopened l.inputs)
+      (unopened_messages l.name (words_view l.names) (is_reader_unopened l.inputs)
       (take l.input-index (positions l.order)));
   any_is : l.any ≡ list_any (is_reader_unopened l.inputs) (take l.input-index (positions l.order));
   sound : AreSoundAt (take l.input-index (positions l.order)) l.inputs;

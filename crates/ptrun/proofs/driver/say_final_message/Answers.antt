@@ -4,7 +4,7 @@ use Rattle.ptrun.proofs.driver.say_final_message.Goals as goal
 pub returns-in-Err-Read-clause-message : goal.returns-in-Err-Read-clause-message
 returns-in-Err-Read-clause-message g c =
     rw (c.in-Err-Read.is, rw c.in-Err-Read.is at c.in-Err-Read.field-0-is)
-    (rw c.name_at.ensures at c.say-in-Err-Read.ensures)
+    (rw c.name_at-in-Err-Read.ensures at c.say-in-Err-Read.ensures)
 
 pub returns-in-Err-Write-clause-message : goal.returns-in-Err-Write-clause-message
 returns-in-Err-Write-clause-message g c =

@@ -1,7 +1,7 @@
 -- Each call of `resume` in `Merge::resume_both` changes one input only, so what holds for the other stays; both inputs
 -- are then at the lines reached, or the line reached of one could not be stored.
 use Rattle.ptmerge.proofs
-use proofs.Common.{First, Second, refl}
+use proofs.Common.{First, Second}
 use proofs.merging.Merge.resume_both.Goals as goal
 
 pub resume-requires-clause-fits : goal.resume-requires-clause-fits

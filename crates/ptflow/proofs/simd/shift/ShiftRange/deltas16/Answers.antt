@@ -1,5 +1,5 @@
--- A range adds to each of 16 lanes: its shift if the distance from its first byte is at most its width, and
--- otherwise 0.
+-- In each of 16 lanes, `deltas16` selects what a range adds to the byte there: its shift, or 0 if the byte is not in
+-- the range.
 use Rattle.ptflow.proofs
 use Rattle.std.proofs.Common.{◌+◌, ◌-◌, ◌%◌, nat_le}
 use Rattle.std.proofs.lemmas.Simd.{splat_is_map, zip2_splat}

@@ -34,7 +34,7 @@ slice_near g c =
     let part = take (c.in-Some.slice.end - first) (drop first line) in
     let long = length-take-le c.args.to c.args.delimiters.now.bytes.now (omega arith) in
     let size = length-take-le (c.in-Some.slice.end - first) (drop first line) (omega (arith, length-drop first line)) in
-    let rest = output_from_cursor c.args.delimiters.now.byte line c.next_slice.new.self in
+    let rest = output_from_cursor c.args.delimiters.now.needle line c.next_slice.new.self in
     let near = output_is_near c.args.start loop.end c.args.room.now loop.room (cut_fields job line) part rest
     (cc next.output) (omega arith) (omega arith) in
     omega (arith, size, near, output_is_short job line)
@@ -48,7 +48,7 @@ slices-preserved g c =
     let loop = c.slices in
     let size = c.in-Some.slice.end - first in
     let long = length-take-le to bytes (omega arith) in
-    let rest = output_from_cursor c.args.delimiters.now.byte (take to bytes) c.next_slice.new.self in
+    let rest = output_from_cursor c.args.delimiters.now.needle (take to bytes) c.next_slice.new.self in
     record {
       copied = slice_put (take loop.end loop.room) rest first c.in-Some.slice.end to bytes loop.invariant.copied
           next.output (omega arith) c.copy_slice.ensures.copied;

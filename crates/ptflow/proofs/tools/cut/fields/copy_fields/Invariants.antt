@@ -9,9 +9,9 @@ abbrev pub invariant-slices : goal.invariant-slices
 invariant-slices g l =
     let line = take l.to l.delimiters.bytes.now in record {
       copied : take l.start l.fn.room ++ cut_fields (cut_job l.job) line
-          ≡ take l.end l.room ++ output_from_cursor l.delimiters.byte line l.cursor;
-      cursor : IsFieldCursor l.delimiters.byte line l.cursor;
-      window : IsLineWindow l.delimiters.byte l.delimiters.bytes.now l.to l.cursor;
+          ≡ take l.end l.room ++ output_from_cursor l.delimiters.needle line l.cursor;
+      cursor : IsFieldCursor l.delimiters.needle line l.cursor;
+      window : IsLineWindow l.delimiters.needle l.delimiters.bytes.now l.to l.cursor;
       low : l.start ≤ l.end;
       high : l.end ≤ l.start + l.to;
       long : length l.room ≡ length l.fn.room;

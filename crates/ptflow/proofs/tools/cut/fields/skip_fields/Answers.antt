@@ -13,9 +13,9 @@ returns-then-count-eq0-clause-offset c =
 pub returns-clause-near : goal.returns-clause-near
 returns-clause-near c =
     let d = c.args.delimiters.now in
-    offset_later d.byte d.bytes.now c.requires.within.0 c.requires.within.1 (omega arith) c.after_nth.ensures
+    offset_later d.needle d.bytes.now c.requires.within.0 c.requires.within.1 (omega arith) c.after_nth.ensures
 
 pub returns-clause-offset : goal.returns-clause-offset
 returns-clause-offset c =
     let d = c.args.delimiters.now in
-    offset_of_window d.byte d.bytes.now c.requires.within.0 c.requires.within.1 (omega arith) c.after_nth.ensures
+    offset_of_window d.needle d.bytes.now c.requires.within.0 c.requires.within.1 (omega arith) c.after_nth.ensures

@@ -9,9 +9,9 @@ use proofs.tools.cut.fields.write_fields.Given as goal
 abbrev pub invariant-slices : goal.invariant-slices
 invariant-slices g l = record {
   front : WrittenPrefix (cut_fields (cut_job l.job) l.delimiters.bytes.now)
-      (output_from_cursor l.delimiters.byte (take (length l.line) l.line) l.cursor) l.fn.out l.out;
-  cursor : IsFieldCursor l.delimiters.byte (take (length l.line) l.line) l.cursor;
-  window : IsLineWindow l.delimiters.byte l.delimiters.bytes.now (length l.line) l.cursor;
+      (output_from_cursor l.delimiters.needle (take (length l.line) l.line) l.cursor) l.fn.out l.out;
+  cursor : IsFieldCursor l.delimiters.needle (take (length l.line) l.line) l.cursor;
+  window : IsLineWindow l.delimiters.needle l.delimiters.bytes.now (length l.line) l.cursor;
   clean : l.fn.out.write_failed ≡ false → l.out.write_failed ≡ false;
 }
 

@@ -12,7 +12,7 @@ has : (g : given.Over) (c : After-is_some g) → list_any (is_field_delimiter (c
     c.args.line.now ≡ c.is_some.result
 has g c =
     let of = c.new-delimiters.ensures in
-    found _ _ _ (rw (of.byte, of.bytes, c.args.selection.now.delimits) at c.first.ensures) ∙ sym c.is_some.ensures
+    found _ _ _ (rw (of.needle, of.bytes, c.args.selection.now.delimits) at c.first.ensures) ∙ sym c.is_some.ensures
 
 pub returns-in_err-write_fields-clause-wrote : goal.returns-in_err-write_fields-clause-wrote
 returns-in_err-write_fields-clause-wrote g c =

@@ -1,9 +1,10 @@
 -- A line whose terminator is found in a vector was copied with the vectors up to there (`line_found`). Each vector is
--- copied after those before it (`vector_copied`), and the bytes before the line stay (`kept`).
+-- copied after those before it (`vector_copied`).
 use Rattle.ptflow.proofs
-use proofs.Common.{◌≡◌, ◌≤◌, ◌+◌, ◌++◌, ◌∙◌, ℕ, List, length, take, drop, sym, ap, arith, take-add, take-take}
-use proofs.Common.{take-append-le, length-take-le, append_assoc, NoneBefore, Passes, is_byte, nowhere_trans}
+use proofs.Common.{◌≡◌, ◌≤◌, ◌+◌, ◌++◌, ℕ, List, length, take, drop, ap, arith, take-add, append_assoc, NoneBefore}
+use proofs.Common.{Passes, is_byte, nowhere_trans}
 use Rattle.ptlines.proofs.CopyFacts.{copied_prefix}
+use proofs.PasteLemmas.BufferedRows.{kept}
 use Rattle.ptflow.specs.Private.Paste.BufferedRows.{IsLineCopied}
 use Rattle.ptlines.specs.declared.sizes.TheConstants.{BLOCK}
 use proofs.tools.paste.buffered_rows.copy_by_16.Goals as goal
@@ -30,21 +31,10 @@ vector_copied at from was before is bytes first second =
       take-add from 16 bytes,
     )
 
-kept : (at n : ℕ) (was is more : List ℕ) → at ≤ length was → take (at + n) is ≡ take at was ++ more
-    → take at is ≡ take at was
-kept at n was is more within copied =
-    sym (take-take at (at + n) is (omega arith)) ∙ ap (take at) copied
-    ∙ take-append-le at (take at was) more (omega (arith, length-take-le at was within))
-    ∙ take-take at at was (omega arith)
-
 pub returns-in-Some-clause-line : goal.returns-in-Some-clause-line
 returns-in-Some-clause-line c =
     let (first, here) = c.in-Some.ensures.found in
     line_found _ _ 16 _ _ _ _ (omega arith) (omega arith) (omega arith) first here c.in-Some.ensures.copied
-
-pub returns-in-Some-clause-prefix_kept : goal.returns-in-Some-clause-prefix_kept
-returns-in-Some-clause-prefix_kept c =
-    kept c.args.at 16 c.args.into.now c.copy_16.new.into _ (omega arith) c.in-Some.ensures.copied
 
 pub returns-in-Some-copy_16-clause-line : goal.returns-in-Some-copy_16-clause-line
 returns-in-Some-copy_16-clause-line c =
@@ -57,14 +47,6 @@ returns-in-Some-copy_16-clause-line c =
       before = nowhere_trans (Passes (is_byte c.args.terminator) bytes) 0 size _ c.vectors.invariant.none first.before;
     }) here (vector_copied c.args.at size c.args.into.now c.vectors.into c.copy_16-in-vectors.new.into bytes
     c.vectors.invariant.copied c.copy_16-in-vectors.ensures.copied)
-
-pub returns-in-Some-copy_16-clause-prefix_kept : goal.returns-in-Some-copy_16-clause-prefix_kept
-returns-in-Some-copy_16-clause-prefix_kept c =
-    let size = c.vectors.size in
-    let was = c.args.into.now in
-    let is = c.copy_16-in-vectors.new.into in
-    kept c.args.at (size + 16) was is _ (omega arith) (vector_copied c.args.at size was c.vectors.into is
-    c.args.bytes.now c.vectors.invariant.copied c.copy_16-in-vectors.ensures.copied)
 
 pub vectors-preserved : goal.vectors-preserved
 vectors-preserved c =
@@ -79,6 +61,6 @@ vectors-preserved c =
       buffer_size = c.copy_16-in-vectors.array_long;
     }
 
-pub returns-clause-prefix_kept : goal.returns-clause-prefix_kept
-returns-clause-prefix_kept c =
-    kept c.args.at c.vectors.size c.args.into.now c.vectors.into _ (omega arith) c.vectors.invariant.copied
+pub returns-clause-none : goal.returns-clause-none
+returns-clause-none c =
+    kept c.args.at (c.args.at + c.vectors.size) _ _ _ (omega arith) (omega arith) c.vectors.invariant.copied

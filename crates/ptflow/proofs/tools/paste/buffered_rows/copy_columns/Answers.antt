@@ -40,8 +40,8 @@ returns-in_default-clause-cells g c =
     let readers = c.cells.readers in
     let input = get_or c.args.row.cells.now c.cells.begun.0 0 in
     let same : set readers input c.copy_cell.new.reader ≡ readers =
-    ap (set readers input) none.none ∙ set-get_or readers input c.index-readers-row.result in
-    rw (same, none.prefix_kept) c.cells.invariant.copied
+    ap (set readers input) none.none.0 ∙ set-get_or readers input c.index-readers-row.result in
+    rw (same, none.none.1) c.cells.invariant.copied
 
 pub returns-then-begun-row-clause-cells : goal.returns-then-begun-row-clause-cells
 returns-then-begun-row-clause-cells g c =

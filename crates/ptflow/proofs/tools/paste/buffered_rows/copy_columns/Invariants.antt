@@ -4,7 +4,7 @@
 use Rattle.ptflow.proofs
 use proofs.Common.{◌≡◌, ◌≤◌, ◌%◌, ◌-◌, length, take, CopyColumnsPost, begun_in, shape_of}
 use proofs.tools.paste.buffered_rows.copy_columns.Given as goal
-use Rattle.ptlines.specs.declared.sizes.TheConstants.{BLOCK, PADDED}
+use Rattle.ptlines.specs.declared.sizes.TheConstants.{PADDED}
 
 abbrev pub invariant-cells : goal.invariant-cells
 invariant-cells g l = let (count, (end, (any_line, _))) = l.begun in record {
@@ -12,7 +12,7 @@ invariant-cells g l = let (count, (end, (any_line, _))) = l.begun in record {
       (record { readers = l.readers; count = count; any_line = any_line; text = take end l.into });
   within : count ≤ length l.row.cells.now;
   grows : l.fn.begun.end ≤ end;
-  size_bound : end ≤ BLOCK;
+  size_bound : end ≤ PADDED;
   at : l.index ≡ count % length l.row.delims.now;
   buffer_size : length l.into ≡ PADDED;
 }

@@ -1,12 +1,12 @@
 -- For `copy_segments`. Facts about the first segment that is left (`segment`, `first`, `low`): which columns it has,
 -- and that its reader exists. By these, each copied segment is added to the columns before it. A field that cannot be
--- copied ends the loop, and nothing of it was consumed; so does a segment that may not fit, of which the first column
--- is copied.
+-- copied ends the loop, and nothing of it was consumed.
 use Rattle.ptflow.proofs
-use proofs.Common.{◌≡◌, ◌<◌, [], ◌+◌, drop, set, get_or, arith, set-get_or, ◌∙◌, ap, sym, subst, take_all, length, length-drop, shape_of}
+use proofs.Common.{rules, ◌≡◌, ◌<◌, [], ◌+◌, drop, set, get_or, arith, set-get_or, ◌∙◌, ap, sym, subst, take_all}
+use proofs.Common.{length, length-drop, shape_of}
 use borrow.Author.Rules.{scaled_Fits}
 use proofs.PasteLemmas.BufferedRows.{columns_start}
-use proofs.PasteLemmas.Segments.{first_segment, first_column, all_columns}
+use proofs.PasteLemmas.Segments.{first_segment, has_reader, segment_copied}
 use Rattle.ptflow.specs.Private.Paste.Segments.{AreSegments, IsSegment}
 use Rattle.ptflow.specs.declared.tools.paste.segments.Segment.{Segment}
 use proofs.tools.paste.buffered_rows.copy_segments.Given as given
@@ -14,14 +14,7 @@ use proofs.tools.paste.buffered_rows.copy_segments.Goals as goal
 use Rattle.ptflow.proofs.tools.paste.buffered_rows.copy_segments.Goals.{In-len1-up}
 
 pub segments-init : goal.segments-init
-segments-init g c = record {
-  copied = columns_start;
-  are = c.requires.segments;
-  within = c.requires.within;
-  grows = omega arith;
-  size_bound = c.args.begun.size_bound;
-  buffer_size = c.told-into;
-}
+segments-init g c = search (rules, columns_start)
 
 module _ (g : given.Over) (c : In-len1-up g) where
   abbrev segment : Segment
@@ -33,9 +26,7 @@ module _ (g : given.Over) (c : In-len1-up g) where
       c.in-len1-up.len_at_least c.segments.invariant.are
 
   low : segment.input < length c.args.readers.now
-  low =
-      let (is, _) = first in
-      rw is.input (c.requires.readable.within c.segments.begun.0 0 (omega (arith, is.within, is.count)))
+  low = let (is, _) = first in has_reader c.requires.readable is
 
 pub offset_bounds-readers-segment : goal.offset_bounds-readers-segment
 offset_bounds-readers-segment g c =
@@ -50,24 +41,18 @@ returns-in_default-copy_cell-clause-cells g c =
     let readers = c.segments.readers in
     let input = (segment g (goal.at.returns-in_default-copy_cell-clause-cells g c).In-len1-up).input in
     let same : set readers input c.copy_cell.new.reader ≡ readers =
-    ap (set readers input) none.none ∙ set-get_or readers input c.index-readers-segment.result in
-    rw (same, none.prefix_kept) c.segments.invariant.copied
-
-pub returns-then-field-clause-cells : goal.returns-then-field-clause-cells
-returns-then-field-clause-cells g c =
-    let (is, _) = first g (goal.at.returns-then-field-clause-cells g c).In-len1-up in
-    first_column c.segments.invariant.copied c.requires.readable is _ _ c.in-Some.ensures.was_sound _ _
-    c.in-Some.ensures.cell c.copy_option.ensures.copied c.byte_after.ensures
+    ap (set readers input) none.none.0 ∙ set-get_or readers input c.index-readers-segment.result in
+    rw (same, none.none.1) c.segments.invariant.copied
 
 pub segments-preserved : goal.segments-preserved
 segments-preserved g c =
     let (is, are) = first g (goal.at.segments-preserved g c).In-len1-up in
     record {
-      copied = all_columns c.segments.invariant.copied c.requires.readable is _ _ c.in-Some.ensures.was_sound _ _
+      copied = segment_copied c.segments.invariant.copied c.requires.readable is _ _ c.in-Some.ensures.was_sound _ _
           c.in-Some.ensures.cell c.copy_bytes.ensures.copied;
       are = subst (AreSegments (shape_of c.args.row) c.args.readers.now _) (sym (take_all _ _ (omega (arith, length-drop 1 c.segments.rest.now)))) are;
       within = is.within;
       grows = omega (arith, c.in-Some.ensures.size_bound, c.copy_bytes.ensures.end);
-      size_bound = omega (arith, c.copy_bytes.ensures.end, is.few);
+      size_bound = omega (arith, c.in-Some.ensures.size_bound, c.copy_bytes.ensures.end, is.few);
       buffer_size = c.copy_bytes.array_long;
     }

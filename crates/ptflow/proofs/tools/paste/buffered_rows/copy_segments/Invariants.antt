@@ -5,7 +5,7 @@ use Rattle.ptflow.proofs
 use proofs.Common.{◌≡◌, ◌≤◌, length, take, CopyColumnsPost, begun_in, shape_of}
 use Rattle.ptflow.specs.Private.Paste.Segments.{AreSegments}
 use proofs.tools.paste.buffered_rows.copy_segments.Given as goal
-use Rattle.ptlines.specs.declared.sizes.TheConstants.{BLOCK, PADDED}
+use Rattle.ptlines.specs.declared.sizes.TheConstants.{PADDED}
 
 abbrev pub invariant-segments : goal.invariant-segments
 invariant-segments g l = let (count, (end, (any_line, _))) = l.begun in record {
@@ -14,7 +14,7 @@ invariant-segments g l = let (count, (end, (any_line, _))) = l.begun in record {
   are : AreSegments (shape_of l.row) l.fn.readers count l.rest;
   within : count ≤ length l.row.cells.now;
   grows : l.fn.begun.end ≤ end;
-  size_bound : end ≤ BLOCK;
+  size_bound : end ≤ PADDED;
   buffer_size : length l.into ≡ PADDED;
 }
 

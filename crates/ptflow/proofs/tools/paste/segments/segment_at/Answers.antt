@@ -1,39 +1,39 @@
--- For `segment_at`: the byte after the column `next` is added to the bytes of the segment (lemma `text`). The step of
--- its loop, if the input of the column after that one has ended, too; and its result, a segment of the columns so
--- far.
+-- For `segment_at`: the bytes after its first column alone, the step of its loop, which adds those after a column whose
+-- input has ended, and its result.
 use Rattle.ptflow.proofs
-use proofs.Common.{◌≡◌, ◌+◌, ◌-◌, ◌∙◌, suc, take, refl, ap, arith, shape_of}
+use proofs.Common.{◌≡◌, ◌+◌, ◌-◌, ◌∙◌, ◌++◌, take, subst, ap, refl, arith, shape_of}
 use proofs.PasteLemmas.BufferedRows.{at_index}
-use proofs.PasteLemmas.Segments.{ended_more, ends_text, text_more}
-use proofs.tools.paste.segments.segment_at.Given as given
+use proofs.PasteLemmas.Segments.{ends_more, ends_one}
+use Rattle.ptflow.specs.Private.Paste.Segments.{EndsWith}
 use proofs.tools.paste.segments.segment_at.Goals as goal
-use Rattle.ptflow.proofs.tools.paste.segments.segment_at.Goals.{After-copy_option-len}
 
-text : (g : given.Over) (c : After-copy_option-len g) → take c.copy_option-len.result c.copy_option-len.new.into
-    ≡ ends_text (shape_of c.args.row) c.args.column (c.columns.next + 1 - c.args.column)
-text g c = text_more (shape_of c.args.row) c.args.column c.columns.next c.columns.invariant.within.0
-    c.columns.invariant.text c.byte_after.ensures c.copy_option-len.ensures.copied
-
-pub returns-then-next-row : goal.returns-then-next-row
-returns-then-next-row g c =
-    let number : c.columns.next + 1 - c.args.column ≡ suc (c.columns.next - c.args.column) = omega arith in
-    record {
-      more = c.columns.next - c.args.column;
-      input = refl;
-      count = omega arith;
-      within = omega arith;
-      few = omega (arith, c.copy_option-len.ensures.size_bound);
-      text = text g (goal.at.returns-then-next-row g c).After-copy_option-len
-          ∙ ap (ends_text (shape_of c.args.row) c.args.column) number;
-      ended = c.columns.invariant.ended;
-    }
+pub columns-init : goal.columns-init
+columns-init g c = record {
+  within = omega arith;
+  few = omega (arith, c.copy_option-len.ensures.size_bound);
+  ends = ends_one c.args.column (c.copy_option-len.ensures.copied ∙ c.byte_after.ensures);
+}
 
 pub columns-preserved : goal.columns-preserved
-columns-preserved g c = record {
-  within = omega arith;
-  room = omega (arith, c.copy_option-len.ensures.size_bound);
-  text = text g (goal.at.columns-preserved g c).After-copy_option-len;
-  ended = ended_more (shape_of c.args.row) c.args.readers.now c.columns.invariant.within.0 c.columns.invariant.ended
-      (rw (at_index _ _ _ (c.requires.readable.within (c.columns.next + 1) 0 (omega arith))) at
-      (rw c.index-readers-row.is at (c.has_ended.ensures c.if-not-has_ended.false)));
-}
+columns-preserved g c =
+    let more = c.copy_option-len-in-columns.ensures in
+    record {
+      within = omega arith;
+      few = omega (arith, more.size_bound);
+      ends = ends_more c.args.column c.requires.readable c.columns-test.true
+          (rw (at_index _ _ _ (c.requires.readable.within c.columns.next 0 c.columns-test.true)) at
+          (rw c.index-readers-row.is at (c.has_ended.ensures c.if-has_ended.true))) c.columns.invariant.ends
+          (more.copied ∙ ap (λ after. take c.columns.len c.columns.bytes ++ after) c.byte_after-in-columns.ensures);
+    }
+
+pub returns : goal.returns
+returns g c =
+    let number : c.columns.next ≡ c.args.column + (c.columns.next - c.args.column) = omega arith in
+    record {
+      input = refl;
+      some = omega arith;
+      within = omega arith;
+      few = c.columns.invariant.few;
+      ends = subst (λ next. EndsWith (shape_of c.args.row) c.args.readers.now c.args.column next
+          (take c.columns.len c.columns.bytes)) number c.columns.invariant.ends;
+    }

@@ -6,7 +6,7 @@ use proofs.UniqLemmas.Keys.{blanks_fit, ends_mask}
 use proofs.tools.uniq.line_key.field_ends.Goals as goal
 
 pub overflow_sub-result : goal.overflow_sub-result
-overflow_sub-result c = omega (arith, blanks_fit c.args.bytes.now c.args.at c.requires c.blank_mask-blanks.ensures)
+overflow_sub-result c = omega (arith, blanks_fit c.args.bytes.now c.args.at c.requires c.mask_at-blanks.ensures)
 
 pub returns : goal.returns
-returns c = ends_mask c.args.bytes.now c.args.at c.requires c.blank_mask-blanks.ensures
+returns c = ends_mask c.args.bytes.now c.args.at c.requires c.mask_at-blanks.ensures

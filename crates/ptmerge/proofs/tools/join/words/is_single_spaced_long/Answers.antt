@@ -15,7 +15,7 @@ returns-then-not-are_single_spaces c =
     let v = chunk at 64 bytes in
     let room : at + 64 ≤ length bytes = omega arith in
     let few : length v ≤ 64 = omega (arith, length-chunk at 64 bytes room) in
-    let misplaced = sym (c.are_single_spaces.ensures v few c.blanks_in-blanks.ensures)
+    let misplaced = sym (c.are_single_spaces.ensures v few c.blanks_at-blanks.ensures)
     ∙ c.if-not-are_single_spaces.true in
     sym (c.loop-at.invariant.same ∙ rw misplaced at (chunk_spaced (c.loop-at.before == 1) bytes at room))
 
@@ -27,9 +27,9 @@ loop-at-preserved c =
     let v = chunk at 64 bytes in
     let room : at + 64 ≤ length bytes = omega arith in
     let few : length v ≤ 64 = omega (arith, length-chunk at 64 bytes room) in
-    let spaced = sym (c.are_single_spaces.ensures v few c.blanks_in-blanks.ensures)
+    let spaced = sym (c.are_single_spaces.ensures v few c.blanks_at-blanks.ensures)
     ∙ c.if-not-are_single_spaces.false in
-    let before = ap (λ x. x / 2 ^ 63) c.blanks_in-blanks.ensures.any
+    let before = ap (λ x. x / 2 ^ 63) c.blanks_at-blanks.ensures.any
     ∙ top_bit 63 blank v (length-chunk at 64 bytes room) spaced in
     record {
       within = room;

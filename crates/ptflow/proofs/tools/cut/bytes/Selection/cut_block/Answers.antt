@@ -2,7 +2,7 @@
 -- the line continues.
 use Rattle.ptflow.proofs
 use proofs.Common.{[], ap, arith, ◌∙◌, count_ones, ones-mask_l, is_byte}
-use proofs.Vectors.FindNth.{count_chunk}
+use Rattle.ptlines.proofs.MatchWindows.{count_chunk}
 use proofs.tools.cut.bytes.Selection.cut_block.Goals as goal
 use proofs.tools.cut.bytes.Selection.cut_block.Goals.{then-mask-ne0, else-mask-ne0}
 

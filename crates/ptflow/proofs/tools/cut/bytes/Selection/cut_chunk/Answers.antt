@@ -5,7 +5,8 @@ use proofs.Common.{◌≡◌, ◌+◌, suc, map, refl, ◌∙◌, ap, arith, cou
 use proofs.Common.{ones-mask_l, is_byte}
 use lib.Count.{count_trailing_zeros}
 use proofs.CutLemmas.CutBytes.{line_cut, terminators_next, cut_next}
-use proofs.Vectors.FindNth.{NextTerminator, cleared, count_chunk, next_terminator}
+use proofs.Vectors.NextTerminator.{NextTerminator, next_terminator}
+use Rattle.ptlines.proofs.MatchWindows.{cleared, count_chunk}
 use proofs.tools.cut.bytes.Selection.cut_chunk.Goals as goal
 use Rattle.ptflow.proofs.tools.cut.bytes.Selection.cut_chunk.Goals.{In-loop-end}
 

@@ -17,7 +17,7 @@ returns-then-is_empty c =
       | then-is_empty-via-then-is_empty w ↦
           (grind (usual, select_none))
       | then-is_empty-via-else-is_empty+then-self-to w ↦
-          (grind (arith, (none_selected d.byte line c.args.self.now), none_left))
+          (grind (arith, (none_selected d.needle line c.args.self.now), none_left))
     ]
 
 pub returns-then-begun-to-clause-next : goal.returns-then-begun-to-clause-next
@@ -27,7 +27,7 @@ returns-then-begun-to-clause-next c =
     let long = length-take-le _ _ c.requires.within in
     let some = eqb-false (length c.args.self.now.left.now) 0 (sym c.is_empty.ensures ∙ c.if-is_empty.false) in
     let begun = c.skip_fields-begun.ensures in
-    ends_before d.byte line _ c.requires.cursor (omega arith) (omega arith) (omega arith) begun.offset (omega arith)
+    ends_before d.needle line _ c.requires.cursor (omega arith) (omega arith) (omega arith) begun.offset (omega arith)
 
 pub overflow_add-last : goal.overflow_add-last
 overflow_add-last c = grind usual
@@ -41,7 +41,7 @@ returns-clause-next c =
     let begun = c.skip_fields-begun.ensures in
     let ended = c.skip_fields-self.ensures in
     let from : min c.skip_fields-begun.result.at (c.args.to + 1) ≡ c.skip_fields-begun.result.at = omega arith in
-    rw c.min.ensures (next_slice d.byte line c.args.self.now c.requires.cursor (omega arith) (omega arith)
+    rw c.min.ensures (next_slice d.needle line c.args.self.now c.requires.cursor (omega arith) (omega arith)
     begun.near (rw from at begun.offset) (omega arith) (omega arith) ended.offset _ (take_rest _ 1) refl
     (omega arith) _ (omega (arith, c.min-end.ensures)))
 

@@ -42,7 +42,7 @@ returns-in_err-push_block-clause-halts g c =
 none_left : (g : given.Over) (c : In_default g)
     → IsLine (cut_job c.args.self.now.selection.job.now).terminator c.lines.rest.now
 none_left g c = line_if_not_found _ _
-    (rw (c.new.ensures.byte, c.new.ensures.bytes, c.args.self.now.selection.ends) at c.in_default.ensures)
+    (rw (c.new.ensures.needle, c.new.ensures.bytes, c.args.self.now.selection.ends) at c.in_default.ensures)
 
 pub returns-clause-continues : goal.returns-clause-continues
 returns-clause-continues g c =

@@ -3,7 +3,7 @@
 use Rattle.ptflow.proofs
 use proofs.Common.{◌≡◌, ◌+◌, ◌-◌, ◌++◌, length, take, sym, ◌∙◌, ap, arith, length-drop, take_rest, take_all}
 use proofs.Common.{line_if_not_found, mod-eq_of_lt, count_by, is_byte, take-append-drop}
-use proofs.Vectors.FindNth.{none_counted}
+use proofs.Vectors.NextTerminator.{none_counted}
 use proofs.PasteLemmas.Replaced.{replaced_none, line_copied, copied_more}
 use proofs.tools.paste.serial.SerialFormat.copy_cells_slow.Goals as goal
 

@@ -1,0 +1,53 @@
+-- The terminators in 64 bytes are processed in order by clearing the lowest bit of their mask (`NextTerminator`).
+use Rattle.ptflow.proofs
+use proofs.Common.{◌≡◌, ℕ, ◌+◌, ◌-◌, ◌<◌, ◌≤◌, Bool, true, Some, List, [], ◌∷◌, length, map, take, drop, get_or, refl}
+use proofs.Common.{sym, ◌∙◌, arith, usual, count_ones, count_by, count_by_more_yes, mask_l, chunk, take-add}
+use proofs.Common.{ones-mask_l, get_or-chunk, length-chunk, IsFirstByte, NoneBefore, Passes, is_byte}
+use proofs.Common.{IsLine, byte_ne, IsTerminatorMask}
+use Rattle.ptlines.proofs.MatchWindows.{after_set, count_in_prefix, first_is, near, without}
+use lib.Count.{count_trailing_zeros}
+
+-- ---- lines without a byte
+
+pub none_counted : (d : ℕ) (bytes : List ℕ) → IsLine d bytes → count_by (is_byte d) bytes ≡ 0
+none_counted d [] free = refl
+none_counted d (b ∷ bytes) (differs, free) = grind (arith, none_counted d bytes free, byte_ne)
+
+-- no item from `start` on passes before the one at `end`
+module _ (p : ℕ → Bool) (bytes : List ℕ) (start end : ℕ) (fits : end < length bytes)
+    (is : p (get_or bytes end 0) ≡ true) (same : count_by p (take end bytes) ≡ count_by p (take start bytes)) where
+  pub one_after : count_by p (take (end + 1) bytes) ≡ count_by p (take end bytes) + 1
+  one_after = count_by_more_yes p bytes end 0 fits is
+
+  pub in_order : start ≤ end
+  in_order = grind usual
+
+  pub next_is : NoneBefore (Passes p (drop start bytes)) 0 (length (drop start bytes)) (end - start)
+      × Passes p (drop start bytes) (end - start)
+  next_is =
+      let whole : start + (end - start) ≡ end = omega (arith, in_order) in
+      grind (usual, first_is, in_order, take-add)
+
+-- the next terminator among 64 bytes, after n of them, where the line starts at `start`
+pub record NextTerminator (d : ℕ) (block : List ℕ) (from n bit start : ℕ) : Type 0 where
+  pub near : bit < 64
+  pub order : start ≤ from + bit
+  pub first : IsFirstByte (is_byte d) (drop start block) (Some (from + bit - start))
+  pub counted : count_by (is_byte d) (take (from + bit + 1) block) ≡ count_by (is_byte d) (take from block) + (n + 1)
+
+module _ {d : ℕ} {block : List ℕ} {from all marked : ℕ} (n start : ℕ) (h : IsTerminatorMask d block from all)
+    (some : n < count_ones all) (bits : marked ≡ mask_l (without n (map (is_byte d) (chunk from 64 block))))
+    (ends : count_by (is_byte d) (take start block) ≡ count_by (is_byte d) (take from block) + n) where
+  pub next_terminator : NextTerminator d block from n (count_trailing_zeros 64 marked) start
+  next_terminator =
+      let p = is_byte d in
+      let v = chunk from 64 block in
+      let bit = count_trailing_zeros 64 marked in
+      let room : from + 64 ≤ length block = omega arith in
+      let nth = after_set p v n (omega (arith, length-chunk from 64 block room)) (grind (arith, ones-mask_l)) bits in
+      let close = near p block 64 from n bit room nth in
+      let fits : from + bit < length block = omega arith in
+      let (_, passes, _) = nth in
+      let is : p (get_or block (from + bit) 0) ≡ true = cc (get_or-chunk from 64 block bit 0 close) in
+      let as_many = count_in_prefix p block 64 from n bit room nth ∙ sym ends in
+      grind (arith, in_order, next_is, one_after)

@@ -1,8 +1,0 @@
--- Each iteration clears the lowest set bit.
-use Rattle.ptflow.proofs
-use proofs.Common.{◌≡◌, Bool, List, mask_l}
-use proofs.Vectors.FindNth.{without}
-use proofs.simd.find_nth.nth_bit.Given as goal
-
-abbrev pub invariant-loop-bit : goal.invariant-loop-bit
-invariant-loop-bit l = (bits : List Bool) → l.mask ≡ mask_l bits → l.rest ≡ mask_l (without l._bit bits)
