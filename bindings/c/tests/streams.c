@@ -330,10 +330,10 @@ int __wrap_munmap(void *at, size_t size) {
     return __real_munmap(at, size);
 }
 
-/* All tools have run by now. A handler of a signal has what they leave. */
+/* All tools have run by now. A handler of a signal has what they leave. (They need more than 16 of the 256 KiB.) */
 static void stacks(void) {
-    if (untouched < 64 << 10 || untouched > 200 << 10) {
-        printf("FAILED: %zu bytes of a stack are left, and not 64 KiB\n", untouched);
+    if (untouched < 64 << 10 || untouched > 240 << 10) {
+        printf("FAILED: %zu bytes of a stack are left, and not 64 to 240 KiB\n", untouched);
         failed = 1;
     }
 }
