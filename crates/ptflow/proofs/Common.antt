@@ -25,18 +25,18 @@ pub use lemmas.List.Folds.{drop_split, list_any_at}
 pub use lemmas.List.FromFn.{get_or-enumerate_from, get_or-range_with_len, length-enumerate_from}
 pub use lemmas.List.FromFn.{length-map-range_with_len, length-range_with_len}
 pub use lemmas.List.Splits.{length-slice_split}
-pub use lemmas.List.Sums.{count_by-le-length, count_by_more_no, count_by_more_yes, get_or-le-sum_by, sum_by-append}
+pub use lemmas.List.Sums.{count_by-le-length, count_by_more_no, count_by_more_yes, sum_by-append}
 pub use lemmas.List.Sums.{sum_by-cons, sum_by-take-le}
-pub use lemmas.Nat.{and_mask, mod-mul-add, ones-le, pow_pos}
-pub use lemmas.Simd.{Each1-from_get_or, SwzOk, SwzOk-from_below, bit_mask_l, bitmask_splat, chunk-drop, get_or-chunk}
+pub use lemmas.Nat.{and_mask, mod-mul-add, pow_pos}
+pub use lemmas.Simd.{Each1-from_get_or, SwzOk, SwzOk-from_below, bit_mask_l, chunk-drop, get_or-chunk}
 pub use lemmas.Simd.{length-chunk, length-put_chunk, length-swz_l, length-zip2, map-map, mask_l-lt, mask_l-mod}
-pub use lemmas.Simd.{ones-mask_l, ones-mask_l_cons, pick_l-range_with_len, splat_is_map, swz_l, take_more_put_chunk}
+pub use lemmas.Simd.{ones-mask_l, pick_l-range_with_len, splat_is_map, swz_l, take_more_put_chunk}
 pub use lemmas.Simd.{tops_compared, zip2_of_maps, zip2_splat}
 pub use lemmas.Slice.Eq.{bytes_eq-Decides}
 pub use Rattle.std.specs.Int.{bit_at, cast_signed, cast_unsigned, from_bool}
 pub use Rattle.std.specs.Int.RustNames.{count_ones}
 pub use Rattle.std.specs.List.{AllByRecursion, count_by, enumerate_from, flat_map, join_with_byte, last_or, list_any}
-pub use Rattle.std.specs.List.{onto_first, prefix_len, range_with_len}
+pub use Rattle.std.specs.List.{onto_first, range_with_len}
 pub use Rattle.std.specs.Option.{is_some, option_map_or, option_or}
 pub use Rattle.std.specs.Prelude.{All, bytes_eq, filter, fold, if◌then◌else◌, nat_eq, nat_le, nat_lt, option_map}
 pub use Rattle.std.specs.Prelude.{option_to_list, slice_get, slice_range, sum_by, unwrap_or}
@@ -53,7 +53,7 @@ pub use Rattle.ptlines.proofs.PartLaws.{the_lines_of_parts}
 pub use Rattle.ptlines.proofs.Push.{push_nothing, push_past_failure, push_trans}
 pub use Rattle.ptlines.proofs.LineSearch.{line_before_terminator, drop_at_terminator, advance_ok_take}
 pub use Rattle.ptlines.proofs.LineSearch.{line_if_not_found, take_with_terminator}
-pub use Rattle.ptlines.proofs.MatchMasks.{first_at_lowest_bit, none_if_zero_mask, nowhere_trans}
+pub use Rattle.ptlines.proofs.MatchMasks.{nowhere_trans}
 pub use Rattle.ptlines.proofs.Lag.{bounded_lag_after}
 pub use Rattle.ptlines.proofs.TextLaws.{complete_lines_cons, complete_lines_none, complete_lines_of_unlines}
 pub use Rattle.ptlines.proofs.TextLaws.{lines-unlines, lines_are, lines_cons, lines_of_last, lines_of_unlines, byte_ne}

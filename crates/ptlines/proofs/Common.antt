@@ -11,7 +11,7 @@ pub use lemmas.Bool.{eq-eqb, eqb-false}
 use lemmas.Grind.{common_steps}
 pub use lemmas.List.{append-nil, drop-drop, drop-take, drop_all, length-map, length-take-le, set-set, take-append-le}
 pub use lemmas.List.{take-take, take_all, take_rest, with_items_is}
-pub use lemmas.Simd.{bitmask_splat, chunk-fits, length-chunk, length-put_chunk, take_more_put_chunk}
+pub use lemmas.Simd.{chunk-fits, length-chunk, length-put_chunk, take_more_put_chunk}
 pub use Rattle.std.specs.Io.KnownBytes.{append_known, prepend_known}
 pub use Rattle.std.specs.List.{onto_first, prefix_len}
 pub use Rattle.std.specs.Prelude.{bit_or, slice_range, swap}

@@ -1,10 +1,10 @@
 -- The match masks of chunks. The trailing zeros of a mask count the bytes before the first match; a mask of zero
--- means that there is none. A search that goes on after bytes without a match; the masks of adjacent chunks, put
--- together; and the first match among 64 bytes.
+-- means that there is none. A search that goes on after bytes without a match; and the mask of few bytes, from those of
+-- the first and of the last.
 use Rattle.ptlines.proofs
 use Rattle.std.proofs.lemmas
 use proofs.Common.{◌≡◌, ℕ, ◌+◌, ◌*◌, ◌^◌, ◌%◌, ◌<◌, ◌≤◌, Bool, not, List, [], ◌∷◌, ◌++◌, rules, Option, Some, length}
-use proofs.Common.{map, refl, sym, ◌∙◌, ap, subst, arith, bit_or, take-add, drop-drop, length-map, length-chunk}
+use proofs.Common.{map, refl, sym, ◌∙◌, ap, arith, bit_or, drop-drop, length-map, length-chunk}
 use proofs.Common.{None, drop, ◌-◌, prefix_len, mask_l, chunk, Nowhere, Passes, IsFirst, IsFirstByte, usual}
 use Rattle.std.specs.Option.{option_map}
 use Rattle.std.proofs.Common.{pow-suc, div-one, zero, suc, ◌/◌, cond, ◌||◌, take, replicate, eqb, true, false}
@@ -14,8 +14,7 @@ use Rattle.memchr.specs.Find.{is_byte, is_byte2}
 use Rattle.std.specs.Simd.Lanes.{top, zip2}
 use proofs.Common.{take_all}
 use lib.Bits.{or_step, or_zero_l}
-use lemmas.Grind.{or_before_shift}
-use lemmas.List.{drop-map, get_or-drop, length-drop, map-append, take-map}
+use lemmas.List.{drop-map, get_or-drop, length-drop, take-map}
 use lib.Count.{count_trailing_zeros}
 use lemmas.Simd.{map-map, mask_l-lt, mask_l-mod, none_from_empty_mask, run_in_chunk_fails, run_in_chunk_stops}
 use lemmas.Simd.{trailing_mask_l, zip2_of_maps, zip2_splat}
@@ -63,11 +62,7 @@ module _ (test : ℕ → Bool) (hay : List ℕ) (from size : ℕ) (order : from 
     cc (get_or-drop size hay at 0),
   )
 
-pub first_in_rest : (test : ℕ → Bool) (hay : List ℕ) (size : ℕ) → Nowhere (Passes test hay) 0 size → (r : Option ℕ)
-    → IsFirstByte test (drop size hay) r → IsFirstByte test hay (option_map (λ at. size + at) r)
-first_in_rest test hay size none = first_after test hay 0 size (omega arith) none
-
--- ---- masks of adjacent chunks
+-- ---- masks without their first bits
 
 pub mask_append : (front back : List Bool) → mask_l (front ++ back) ≡ mask_l front + 2 ^ length front * mask_l back
 mask_append [] back = omega arith
@@ -88,70 +83,6 @@ pub mask_after : (test : ℕ → Bool) (v : List ℕ) (n : ℕ) {mask : ℕ} →
 mask_after test v n {mask} is =
     let twice : 2 ^ n * 2 ≡ 2 ^ (n + 1) = omega (arith, pow-add 2 n 1) in
     cc (div-div-eq-div-mul mask (2 ^ n) 2, shifted (n + 1) (map test v), drop-map test (n + 1) v)
-
-chunk_append : {X : Type 0} (i m n : ℕ) (xs : List X) → chunk i (m + n) xs ≡ chunk i m xs ++ chunk (i + m) n xs
-chunk_append {X} i m n xs = grind (arith, take-add, drop-drop)
-
-mask_16_append : (test : ℕ → Bool) (hay : List ℕ) (i n : ℕ) → i + 16 ≤ length hay
-    → mask_l (map test (chunk i (16 + n) hay))
-    ≡ mask_l (map test (chunk i 16 hay)) + 65536 * mask_l (map test (chunk (i + 16) n hay))
-mask_16_append test hay i n room =
-    let long = length-map (chunk i 16 hay) test ∙ length-chunk i 16 hay room in
-    rw (chunk_append i 16 n hay, map-append, mask_append, long)
-
-mask_16_lt : (test : ℕ → Bool) (hay : List ℕ) (i : ℕ) → i + 16 ≤ length hay → mask_l (map test (chunk i 16 hay)) < 65536
-mask_16_lt = search (rules, mask_l-lt)
-
-pub mask_48 : (test : ℕ → Bool) (hay : List ℕ) (i a b c : ℕ) → i + 48 ≤ length hay
-    → a ≡ mask_l (map test (chunk i 16 hay)) → b ≡ mask_l (map test (chunk (i + 16) 16 hay))
-    → c ≡ mask_l (map test (chunk (i + 32) 16 hay))
-    → bit_or (bit_or a (b * 65536 % 18446744073709551616)) (c * 4294967296 % 18446744073709551616)
-    ≡ mask_l (map test (chunk i 48 hay))
-mask_48 test hay i a b c room first second third =
-    let low : a < 65536 = search (rules, mask_16_lt) in
-    let mid : b < 65536 = search (rules, mask_16_lt) in
-    let high : c < 65536 = search (rules, mask_16_lt) in
-    let two : bit_or a (b * 65536 % 18446744073709551616) ≡ b * 65536 + a = grind (arith, or_before_shift) in
-    let three = or_before_shift (bit_or a (b * 65536 % 18446744073709551616)) c 4294967296 18446744073709551616 refl
-    (grind arith) (omega arith) in
-    let mask : ℕ → ℕ → ℕ = λ k n. mask_l (map test (chunk k n hay)) in
-    let all = mask_16_append test hay i 32 (omega arith) in
-    let rest = mask_16_append test hay (i + 16) 16 (omega arith) in
-    grind arith
-
--- ---- the first match among 64 bytes, by the mask of the first 16 if that is not zero
-
-module _ (test : ℕ → Bool) (hay : List ℕ) where
-  first_from_start : (n m : ℕ) → n ≤ 64 → n ≤ length hay → m ≡ mask_l (map test (chunk 0 n hay)) → (m ≡ 0 → ⊥)
-      → IsFirst (Passes test hay) 0 n (Some (count_trailing_zeros 64 m))
-  first_from_start n m few room is some =
-      let at : 0 + count_trailing_zeros 64 m ≡ count_trailing_zeros 64 m = omega arith in
-      let end : 0 + n ≡ n = omega arith in
-      subst (λ k. IsFirst (Passes test hay) 0 n (Some k)) at
-      (subst (λ k. IsFirst (Passes test hay) 0 k (Some (0 + count_trailing_zeros 64 m))) end
-      (first_at_lowest_bit _ hay 0 n m few (omega arith) is some))
-
-  pub first_of_mask_64 : (m : ℕ) → 64 ≤ length hay → m ≡ mask_l (map test (chunk 0 64 hay)) → (m ≡ 0 → ⊥)
-      → IsFirst (Passes test hay) 0 64 (Some (count_trailing_zeros 64 m))
-  first_of_mask_64 = grind (arith, first_from_start)
-
-  pub first_of_mask_16 : (m : ℕ) → 64 ≤ length hay → m ≡ mask_l (map test (chunk 0 16 hay)) → (m ≡ 0 → ⊥)
-      → IsFirst (Passes test hay) 0 64 (Some (count_trailing_zeros 64 m))
-  first_of_mask_16 m room is some =
-      let (first, found) = first_from_start 16 m (omega arith) (omega arith) is some in
-      grind arith
-
-  pub mask_64 : (near far : ℕ) → 64 ≤ length hay → near ≡ mask_l (map test (chunk 0 16 hay)) → near ≡ 0
-      → far ≡ mask_l (map test (chunk 16 48 hay))
-      → far * 65536 % 18446744073709551616 ≡ mask_l (map test (chunk 0 64 hay))
-  mask_64 near far room is none rest =
-      let all : mask_l (map test (chunk 0 64 hay)) ≡ mask_l (map test (chunk 0 16 hay))
-      + 65536 * mask_l (map test (chunk 16 48 hay)) = mask_16_append test hay 0 48 (omega (arith, room)) in
-      let flags = map test (chunk 16 48 hay) in
-      let few : far < 2 ^ 48 = subst (λ m. m < 2 ^ 48) (sym rest)
-      (subst (λ n. mask_l flags < 2 ^ n)
-      (length-map (chunk 16 48 hay) test ∙ length-chunk 16 48 hay (omega (arith, room))) (mask_l-lt flags)) in
-      omega (arith, all, is, none, rest, few)
 
 -- ---- the lowest bits of two numbers
 

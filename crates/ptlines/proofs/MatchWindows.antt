@@ -6,8 +6,9 @@ use Rattle.std.proofs.lemmas
 use proofs.Common.{◌≡◌, ℕ, zero, suc, ◌+◌, ◌-◌, ◌%◌, ◌^◌, ◌<◌, ◌≤◌, Bool, true, false, cond, not, Some}
 use proofs.Common.{List, [], ◌∷◌, length, map, take, drop, refl, sym, ◌∙◌, ap, arith, rules, usual, inl, inr}
 use proofs.Common.{prefix_len, mask_l, chunk, take-add, take-take, length-take-le, length-chunk, length-map, drop-drop}
-use proofs.Common.{take_all, drop-take, IsFirst, Nowhere, Passes}
-use proofs.MatchMasks.{none_if_zero_mask, first_at_lowest_bit, mask_after}
+use proofs.Common.{take_all, take_rest, drop-take, IsFirst, IsFirstByte, Nowhere, Option, Passes}
+use Rattle.std.specs.Option.{option_map}
+use proofs.MatchMasks.{none_if_zero_mask, first_at_lowest_bit, first_after, mask_after}
 use Rattle.ptlines.specs.Calls.Scan.{IsNth, IsMatchWindow, IsAfterNth}
 use Rattle.ptlines.specs.declared.scan.MatchWindow.{MatchWindow}
 use Rattle.std.proofs.Common.{◌/◌, get_or-take, get_or-drop, length-drop}
@@ -50,7 +51,7 @@ length-without : (n : ℕ) (bits : List Bool) → length (without n bits) ≡ le
 length-without zero bits = refl
 length-without (suc n) bits = length-clear_first (without n bits) ∙ length-without n bits
 
-and_less : (bits : List Bool) → bit_and (mask_l bits) (mask_l bits - 1) ≡ mask_l (clear_first bits)
+pub and_less : (bits : List Bool) → bit_and (mask_l bits) (mask_l bits - 1) ≡ mask_l (clear_first bits)
 and_less [] = and_zero_l 0
 and_less (true ∷ bits) = search (rules, and_self, and_step)
 and_less (false ∷ bits) = grind (arith, and_less bits, and_step)
@@ -208,6 +209,11 @@ module _ (p : ℕ → Bool) (bytes : List ℕ) where
     nowhere_in_window none =
         let all : w.at + (w.end - w.at) ≡ w.end = omega (arith, is.order) in
         rw all at (none_if_zero_mask p bytes w.at (w.end - w.at) w.mask size is.is none)
+
+    pub first_past : w.mask ≡ 0 → (r : Option ℕ) → IsFirstByte p (take (length bytes - w.end) (drop w.end bytes)) r
+        → IsFirst (Passes p bytes) w.at (length bytes) (option_map (λ at. w.end + at) r)
+    first_past none r first =
+        first_after p bytes w.at w.end is.order (nowhere_in_window none) r (rw take_rest at first)
 
     pub first_in_window : (w.mask ≡ 0 → ⊥)
         → IsFirst (Passes p bytes) w.at (length bytes) (Some (w.at + count_trailing_zeros 64 w.mask))

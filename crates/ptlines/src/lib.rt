@@ -6,7 +6,6 @@ ghost use Rattle.ptlines.specs.Laws.Text.{LinesAreUnique, CompleteLinesAreLines}
 
 mod cmp;
 mod copy;
-mod find;
 mod memory;
 mod out;
 mod parts;
@@ -21,13 +20,12 @@ mod store;
 
 pub use cmp::compare;
 pub use copy::{copy_all, copy_short};
-pub use find::{find_byte, find_in_chunk, match_mask};
 pub use out::{Out, WriteFault, write_out};
 pub use parts::parts_of_lines;
 pub use reader::LineReader;
 pub use scan::{
-    Blank, MatchWindow, Matches, Needle, find_by_mask, find_first, find_line_end, mask_at,
-    masks_of, nth_bit, nth_index,
+    Blank, MatchWindow, Matches, Needle, find_byte, find_in_chunk, find_near, mask_at, masks_of,
+    nth_bit, nth_index,
 };
 pub use sink::{Failed, Sink};
 pub use sizes::{BLOCK, PAD, PADDED, PaddedBlock, size_of_a_block};

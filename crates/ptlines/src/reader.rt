@@ -20,8 +20,8 @@ ghost use Rattle.ptlines.specs.Calls.ReadLine.{FillLine, FillPost};
 ghost use Rattle.ptlines.specs.Calls.ReadLine.{BlockPost};
 ghost use Rattle.ptlines.specs.contracts.reader.LineReader.{the_row};
 
-use crate::find::{Padded64, ShortLine, find_byte, find_in_64};
 use crate::out::{Out, WriteFault};
+use crate::scan::{find_byte, find_in_64};
 use crate::sink::{Failed, Sink};
 use crate::sizes::{BLOCK, PADDED, PaddedBlock};
 use crate::source::{InputSource, Source};
@@ -260,9 +260,7 @@ impl<S: Source, R: Source> LineReader<S, R> {
         ensures slots { length store.new.lines ≡ length store.old.lines }
         ensures sound { IsSound self.new }
     {
-        let front = Padded64 {
-            bytes: &self.block[self.start..],
-        };
+        let front = &self.block[self.start..];
         let Some(size) = find_in_64(self.terminator, front) else {
             return false;
         };
@@ -270,7 +268,7 @@ impl<S: Source, R: Source> LineReader<S, R> {
         if at >= self.end {
             return false;
         }
-        store.set_short_line(slot, ShortLine { front, size });
+        store.set_short_line(slot, front, size);
         self.start = at + 1;
         true
     }

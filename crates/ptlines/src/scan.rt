@@ -1,18 +1,18 @@
-//! Scans bytes for a `Needle` by match masks: a `MatchWindow` has the mask of at most 64 bytes, and is followed by the
-//! one after the n-th match. `cut -f` and `join -t` follow them along a line, and `uniq` and `paste` find the ends of
-//! lines.
+//! Searches for bytes, by match masks of a `Needle`. `find_byte` finds the first match, near or far; a `MatchWindow`
+//! has the mask of at most 64 bytes, and is followed by the one after the n-th match. The reader and the tools find
+//! terminators with `find_byte`, and `join` the ends of fields with `find_near`; `cut -f` and `join -t` follow windows
+//! along a line.
 
 ghost use Rattle.std.specs.Prelude.{◌≡◌, ◌<◌, ◌≤◌, ◌+◌, ◌-◌, ◌/◌, ◌^◌, ℕ, Bool, List, length, map, take, drop, min};
 ghost use Rattle.std.specs.Int.RustNames.{count_ones};
 ghost use Rattle.std.specs.List.{count_by};
 ghost use Rattle.std.specs.Simd.Lanes.{mask_l, chunk};
-ghost use Rattle.memchr.specs.Find.{IsFirst, IsFirstByte, Nowhere, Passes, is_byte, is_byte2};
+ghost use Rattle.memchr.specs.Find.{IsFirst, IsFirstByte, Passes, is_byte, is_byte2};
 ghost use Rattle.ptlines.specs.Private.Bounds.{IsCoveredByEnds};
 ghost use Rattle.ptlines.specs.Text.{is_blank};
 ghost use Rattle.ptlines.specs.Calls.Scan.{IsFirstByte-prop, IsNth, IsNthResult, IsMatchWindow, IsAfterNth};
 
-use crate::find::{find_byte, find_in_chunk};
-use memchr::memchr2;
+use memchr::{memchr, memchr2};
 use std::simd::prelude::*;
 
 /// A byte, or either of two, that bytes are scanned for.
@@ -37,9 +37,10 @@ impl Needle for u8 {
         (self, self)
     }
 
-    #[inline(always)]
+    // Out of line, so that `find_later` saves fewer registers (`uniq` of a log). So is that of `Blank`.
+    #[inline(never)]
     fn find(self, bytes: &[u8]) -> Option<usize> {
-        find_byte(self, bytes)
+        memchr(self, bytes)
     }
 }
 
@@ -55,7 +56,7 @@ impl Needle for Blank {
         (b' ', b'\t')
     }
 
-    #[inline(always)]
+    #[inline(never)]
     fn find(self, bytes: &[u8]) -> Option<usize> {
         memchr2(b' ', b'\t', bytes)
     }
@@ -136,8 +137,10 @@ pub fn nth_bit(mask: u64, count: u64) -> usize
         → count < count_by test bytes → IsNth test 0 count bytes result }
 {
     let mut rest = mask;
-    for _bit in 0..count {
-        rest &= rest.wrapping_sub(1);
+    let mut left = count;
+    while left > 0 && rest != 0 {
+        rest &= rest - 1;
+        left -= 1;
     }
     rest.trailing_zeros() as usize
 }
@@ -167,6 +170,21 @@ impl MatchWindow {
         }
     }
 
+    // The window of the 64 bytes from `at` on.
+    #[inline(always)]
+    fn of_64<M: Needle>(needle: M, bytes: &[u8], at: usize) -> MatchWindow
+        requires within { at + 64 ≤ length bytes.now }
+        ensures at { result.at ≡ at }
+        ensures end { result.end ≡ at + 64 }
+        ensures window { IsMatchWindow (M.test needle) bytes.now result }
+    {
+        MatchWindow {
+            at,
+            mask: mask_at::<64, M>(needle, bytes, at),
+            end: at + 64,
+        }
+    }
+
     /// Returns the window of the next 64 bytes from `at` on, or of those that are left: at least one, unless there are
     /// fewer than 64 bytes in all.
     #[inline(always)]
@@ -184,11 +202,7 @@ impl MatchWindow {
                 end: bytes.len(),
             };
         }
-        MatchWindow {
-            at,
-            mask: mask_at::<64, M>(needle, bytes, at),
-            end: at + 64,
-        }
+        MatchWindow::of_64(needle, bytes, at)
     }
 
     // A window after the first `to` bytes, without a match.
@@ -255,7 +269,7 @@ impl MatchWindow {
         let mut at = self.end;
         let mut left = before - u64::from(self.mask.count_ones());
         while at < to && bytes.len() - at >= 64 {
-            let window = MatchWindow::new(needle, bytes, at);
+            let window = MatchWindow::of_64(needle, bytes, at);
             let count = u64::from(window.mask.count_ones());
             if left < count {
                 return window.after(nth_bit(window.mask, left));
@@ -304,30 +318,90 @@ impl MatchWindow {
         if self.end == bytes.len() {
             return None;
         }
-        let at = needle.find(&bytes[self.end..])?;
+        let at = find_byte(needle, &bytes[self.end..])?;
         Some(self.end + at)
     }
 }
 
-// Finds a match that usually is not among the first 16 bytes.
-fn find_later<M: Needle>(needle: M, bytes: &[u8]) -> Option<usize>
-    ensures { IsFirstByte (M.test needle) bytes.now result }
+/// Returns the index of the first match among `bytes[at..at + N]`, which are compared all at once. `N` is at most 64.
+/// The index is counted from the beginning of `bytes`.
+#[inline(always)]
+pub fn find_in_chunk<const N: usize, M: Needle>(needle: M, bytes: &[u8], at: usize) -> Option<usize>
+    requires lanes { N ≤ 64 }
+    requires within { at + N ≤ length bytes.now }
+    ensures { IsFirst (Passes (M.test needle) bytes.now) at (at + N) result }
 {
-    MatchWindow::new(needle, bytes, 0).first(needle, bytes)
+    let mask = mask_at::<N, M>(needle, bytes, at);
+    if mask == 0 {
+        return None;
+    }
+    Some(at + mask.trailing_zeros() as usize)
 }
 
-/// Returns the index of the first match. It is faster if the match is among the first 16 bytes.
+// Returns the index of the first match among the first 64 bytes. The first 16 are compared first, since the match is
+// often among them.
 #[inline(always)]
-pub fn find_first<M: Needle>(needle: M, bytes: &[u8]) -> Option<usize>
+pub(crate) fn find_in_64<M: Needle>(needle: M, bytes: &[u8]) -> Option<usize>
+    requires { 64 ≤ length bytes.now }
+    ensures { IsFirst (Passes (M.test needle) bytes.now) 0 64 result }
+{
+    if let Some(at) = find_in_chunk::<16, M>(needle, bytes, 0) {
+        return Some(at);
+    }
+    find_in_chunk::<64, M>(needle, bytes, 0)
+}
+
+// Finds the first match from `from` on. Out of line, since few matches are that far (`join`).
+#[inline(never)]
+fn find_later<M: Needle>(needle: M, bytes: &[u8], from: usize) -> Option<usize>
+    requires within { from ≤ length bytes.now }
+    requires some { 64 ≤ length bytes.now → from < length bytes.now }
+    ensures { IsFirst (Passes (M.test needle) bytes.now) from (length bytes.now) result }
+{
+    let window = MatchWindow::new(needle, bytes, from);
+    if window.mask != 0 {
+        return Some(from + window.mask.trailing_zeros() as usize);
+    }
+    let at = needle.find(&bytes[window.end..])?;
+    Some(window.end + at)
+}
+
+/// Returns the index of the first match, like `find_byte`, by less code where it is inlined. It is as fast if the match is
+/// among the first 16 bytes, as the end of a field often is.
+#[inline(always)]
+pub fn find_near<M: Needle>(needle: M, bytes: &[u8]) -> Option<usize>
     ensures { IsFirstByte (M.test needle) bytes.now result }
 {
-    if bytes.len() >= 16 {
-        let near = mask_at::<16, M>(needle, bytes, 0);
-        if near != 0 {
-            return Some(near.trailing_zeros() as usize);
-        }
+    if bytes.len() < 16 {
+        return find_later(needle, bytes, 0);
     }
-    find_later(needle, bytes)
+    if let Some(at) = find_in_chunk::<16, M>(needle, bytes, 0) {
+        return Some(at);
+    }
+    find_later(needle, bytes, 16)
+}
+
+/// Returns the index of the first match, like `memchr`. It is faster than `memchr` if the match is among the first 112
+/// bytes, as the end of a line often is, or if there are fewer bytes.
+#[inline(always)]
+pub fn find_byte<M: Needle>(needle: M, bytes: &[u8]) -> Option<usize>
+    ensures { IsFirstByte (M.test needle) bytes.now result }
+{
+    let mut from = 0;
+    if bytes.len() >= 16 {
+        if let Some(at) = find_in_chunk::<16, M>(needle, bytes, 0) {
+            return Some(at);
+        }
+        from = 16;
+    }
+    // The rest of at most 112 bytes is left to `find_later`, so that no chunk has to be compared with the end.
+    'chunks: while from <= 96 && bytes.len() > 112 {
+        if let Some(at) = find_in_chunk::<16, M>(needle, bytes, from) {
+            return Some(at);
+        }
+        from += 16;
+    }
+    find_later(needle, bytes, from)
 }
 
 /// Returns the index of the match after `before` others, among the first `to` bytes. May read bytes after these, since
@@ -369,22 +443,22 @@ impl<'a, M: Needle> Matches<'a, M> {
         ensures needle { result.needle ≡ needle }
         ensures bytes { result.bytes.now ≡ bytes.now }
     {
-        let (mask, size) = if bytes.len() < 64 {
-            (0, 0)
-        } else {
-            (mask_at::<64, M>(needle, bytes, 0), 64)
-        };
-        let start = MatchWindow {
-            at: 0,
-            mask,
-            end: size,
-        };
-        let first_match = start.first(needle, bytes);
+        if bytes.len() < 64 {
+            return Matches {
+                needle,
+                bytes,
+                mask: 0,
+                size: 0,
+                first_match: find_byte(needle, bytes),
+            };
+        }
+        let window = MatchWindow::of_64(needle, bytes, 0);
+        let first_match = window.first(needle, bytes);
         Matches {
             needle,
             bytes,
-            mask,
-            size,
+            mask: window.mask,
+            size: 64,
             first_match,
         }
     }
@@ -420,44 +494,4 @@ impl<'a, M: Needle> Matches<'a, M> {
     {
         window.after_nth(self.needle, self.bytes, to, before)
     }
-}
-
-/// Returns the index of the first byte equal to `byte`, like `find_byte`. It is faster if the match is not among the
-/// first 32 bytes, since the first 64 are compared at once.
-#[inline(always)]
-pub fn find_by_mask(byte: u8, bytes: &[u8]) -> Option<usize>
-    ensures { IsFirstByte (is_byte byte) bytes.now result }
-{
-    Matches::new(byte, bytes).first()
-}
-
-// Finds a byte that is not among the first 16.
-fn find_far(byte: u8, bytes: &[u8]) -> Option<usize>
-    requires none { Nowhere (Passes (is_byte byte) bytes.now) 0 16 }
-    requires long { 64 ≤ length bytes.now }
-    ensures { IsFirstByte (is_byte byte) bytes.now result }
-{
-    if let Some(at) = find_in_chunk::<32>(byte, bytes, 16) {
-        return Some(at);
-    }
-    if let Some(at) = find_in_chunk::<16>(byte, bytes, 48) {
-        return Some(at);
-    }
-    let at = find_byte(byte, &bytes[64..])?;
-    Some(64 + at)
-}
-
-/// Returns the index of the first byte equal to `byte`, like `find_byte`. It is faster if the match is soon after the
-/// first 64 bytes, as the end of a line of a log often is.
-#[inline(always)]
-pub fn find_line_end(byte: u8, bytes: &[u8]) -> Option<usize>
-    ensures { IsFirstByte (is_byte byte) bytes.now result }
-{
-    if bytes.len() < 64 {
-        return find_byte(byte, bytes);
-    }
-    if let Some(at) = find_in_chunk::<16>(byte, bytes, 0) {
-        return Some(at);
-    }
-    find_far(byte, bytes)
 }

@@ -3,7 +3,6 @@
 ghost use Rattle.std.specs.Prelude.{◌≡◌, ◌<◌, ◌≤◌, ◌+◌, ◌*◌, ◌^◌, [], ◌++◌, length, max, take, IfOk, OnOk, OnErr};
 
 use crate::copy::copy_chunk;
-use crate::find::ShortLine;
 use crate::memory::{Denied, replace_rest, zeros};
 use std::alloc::Allocator;
 use std::marker::Model;
@@ -63,12 +62,13 @@ impl<A: Allocator + Copy> Slot<A> {
         self.size = 0;
     }
 
-    // Replaces the line, by a store of one vector: of 16 bytes if the line has fewer than 16, otherwise of 64.
+    // Replaces the line by the first `size` bytes, by a store of one vector: of 16 bytes if they are fewer than 16,
+    // otherwise of 64.
     #[inline(always)]
-    pub(crate) fn set_short_line(&mut self, near: ShortLine)
-        ensures { self.new ≡ record self.old { line = take near.entry.size near.entry.front.bytes.now } }
+    pub(crate) fn set_short_line(&mut self, bytes: &[u8], size: usize)
+        requires { (size < 64) × (64 ≤ length bytes.now) }
+        ensures { self.new ≡ record self.old { line = take size bytes.now } }
     {
-        let (bytes, size) = (near.front.bytes, near.size);
         if size < 16 {
             copy_chunk::<16>(bytes, 0, &mut self.buffer, 0);
         } else {

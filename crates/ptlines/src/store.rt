@@ -9,7 +9,6 @@ ghost use Rattle.ptlines.specs.Private.Slots.{LengthsAreBounded, AreBuffersBound
 ghost use Rattle.ptlines.specs.Slots.{total_bytes};
 ghost use Rattle.ptlines.specs.Calls.Slots.{with_line, with_new_slot, with_denied};
 
-use crate::find::ShortLine;
 use crate::memory::{Denied, make_room};
 use crate::slot::Slot;
 use std::alloc::{Allocator, Global};
@@ -153,15 +152,15 @@ impl<A: Allocator + Copy> Store<A> {
         self.byte_count -= count as u128;
     }
 
-    // Sets a slot to a line of fewer than 64 bytes.
+    // Sets a slot to the first `size` bytes, which are fewer than 64.
     #[inline(always)]
-    pub(crate) fn set_short_line(&mut self, slot: usize, near: ShortLine)
-        requires { slot < length self.old.lines }
-        ensures { self.new ≡ with_line self.old slot (take near.entry.size near.entry.front.bytes.now) }
+    pub(crate) fn set_short_line(&mut self, slot: usize, bytes: &[u8], size: usize)
+        requires slot { slot < length self.old.lines }
+        requires short { (size < 64) × (64 ≤ length bytes.now) }
+        ensures { self.new ≡ with_line self.old slot (take size bytes.now) }
     {
-        let size = near.size;
         let was = self.slots[slot].size();
-        self.slots[slot].set_short_line(near);
+        self.slots[slot].set_short_line(bytes, size);
         self.byte_count = self.byte_count - was as u128 + size as u128;
         // The peak is written only if it has grown, since this is done for every line.
         if self.byte_count > self.peak {

@@ -3,8 +3,8 @@
 use crate::asserts::{holds_of, same, same_of};
 use ptfakes::texts::text_of;
 use ptlines::{
-    Blank, MatchWindow, Matches, Needle, compare, copy_short, find_by_mask, find_byte, find_first,
-    find_in_chunk, find_line_end, mask_at, masks_of, match_mask, nth_bit, nth_index,
+    Blank, MatchWindow, Matches, Needle, compare, copy_short, find_byte, find_in_chunk, find_near,
+    mask_at, masks_of, nth_bit, nth_index,
 };
 use std::alloc::{AllocError, Global};
 use std::cmp::Ordering;
@@ -27,6 +27,7 @@ fn copies(rt: &impl Abort, from: usize, to: usize) {
 fn has_at(rt: &impl Abort, bytes: &[u8], newline: usize, zero: Option<usize>) {
     same_of(rt, &newline, &find_byte(b'\n', bytes), &Some(newline));
     same_of(rt, &newline, &find_byte(0, bytes), &zero);
+    same_of(rt, &newline, &find_near(0, bytes), &zero);
 }
 
 // Searches for a byte at this index.
@@ -39,7 +40,8 @@ fn finds(rt: &impl Abort, alloc: Global, at: usize) -> Result<(), AllocError> {
 }
 
 const OFFSETS: &[usize] = &[
-    0, 1, 2, 3, 4, 6, 7, 8, 12, 15, 16, 29, 30, 31, 32, 33, 63, 64, 65, 8191, 20000,
+    0, 1, 2, 3, 4, 6, 7, 8, 12, 15, 16, 29, 30, 31, 32, 33, 63, 64, 65, 79, 80, 81, 143, 144, 8191,
+    20000,
 ];
 
 #[test]
@@ -49,13 +51,13 @@ fn few_and_many_bytes_are_copied_and_found(rt: HostRuntime) -> Result<(), Fail> 
         copies(&rt, 36 - length, 36);
     }
     let few = b"ab\ncd\n0123456789abcdef";
-    same(&rt, &find_in_chunk::<4>(b'\n', few, 0), &Some(2));
-    same(&rt, &find_in_chunk::<4>(b'\n', few, 3), &Some(5));
-    same(&rt, &find_in_chunk::<2>(b'\n', few, 0), &None);
-    same(&rt, &find_in_chunk::<16>(b'\n', few, 6), &None);
-    same(&rt, &match_mask::<4>(b'\n', few, 0), &0b100);
-    same(&rt, &match_mask::<4>(b'\n', few, 2), &0b1001);
-    same(&rt, &match_mask::<16>(b'\n', few, 6), &0);
+    same(&rt, &find_in_chunk::<4, u8>(b'\n', few, 0), &Some(2));
+    same(&rt, &find_in_chunk::<4, u8>(b'\n', few, 3), &Some(5));
+    same(&rt, &find_in_chunk::<2, u8>(b'\n', few, 0), &None);
+    same(&rt, &find_in_chunk::<16, u8>(b'\n', few, 6), &None);
+    same(&rt, &mask_at::<4, u8>(b'\n', few, 0), &0b100);
+    same(&rt, &mask_at::<4, u8>(b'\n', few, 2), &0b1001);
+    same(&rt, &mask_at::<16, u8>(b'\n', few, 6), &0);
     same(&rt, &find_byte(b'\n', b""), &None);
     for at in OFFSETS {
         finds(&rt, rt.alloc(), *at)?;
@@ -85,8 +87,6 @@ fn matches_are_counted(rt: HostRuntime) -> Result<(), Fail> {
         &MatchWindow::new(b',', bytes, 0).first(b',', bytes),
         &Some(62),
     );
-    same(&rt, &find_by_mask(b',', bytes), &Some(62));
-    same(&rt, &find_line_end(b',', bytes), &Some(62));
     Ok(())
 }
 
@@ -97,7 +97,8 @@ fn blanks_are_found(rt: HostRuntime) {
     same(&rt, &nth_bit(0b1000_1010, 1), &3);
     same(&rt, &Blank.find(bytes), &Some(1));
     same(&rt, &masks_of(Blank, b'\t', bytes), &(0b1000_1010, 0b1000));
-    same(&rt, &find_first(Blank, bytes), &Some(1));
+    same(&rt, &find_byte(Blank, bytes), &Some(1));
+    same(&rt, &find_near(Blank, bytes), &Some(1));
 }
 
 const LENGTHS: [usize; 18] = [

@@ -5,12 +5,12 @@ use Rattle.ptflow.proofs
 use proofs.Common.{usual, ◌≡◌, ℕ, zero, suc, ◌+◌, ◌*◌, ◌^◌, ◌/◌, ◌%◌, ◌<◌, ◌≤◌, Bool, true, false, cond, List, []}
 use proofs.Common.{◌∷◌, ◌++◌, map, length, take, drop, set, get_or, length-drop, drop-cons, append_assoc, add-one}
 use proofs.Common.{length-append, refl, ap, arith, w8, All, nat_eq, range_with_len, mask_l, put_chunk, chunk, pick_l}
-use proofs.Common.{Each1, take_more_put_chunk, bit_mask_l, mask_l-lt, Each1-from_get_or, swz_l, ones-mask_l_cons}
+use proofs.Common.{Each1, take_more_put_chunk, bit_mask_l, mask_l-lt, Each1-from_get_or, swz_l}
 use proofs.Common.{pick_l-range_with_len, take-map, take-append-le, drop-append-le, length-take-le, take-append-add}
 use proofs.Common.{length-range_with_len, get_or-range_with_len, and_numeral, not, eqb, filter, append-nil}
 use proofs.Common.{take-append-drop, take-add, zip2, drop-drop, drop_all, length-chunk, length-zip2, bit_and}
 use proofs.Common.{keep_flags, kept_bytes, FilterPre, bit_or, rules}
-use proofs.Common.{slice_index_or, count_ones, sym, ◌∙◌, take_all}
+use proofs.Common.{slice_index_or, sym, ◌∙◌, take_all}
 pub use proofs.Vectors.Lanes.{shuffle_result}
 use Rattle.ptlines.proofs.MatchMasks.{mask_append}
 use Rattle.std.proofs.lemmas.Nat.{le_or_l, le_or_r}
@@ -18,15 +18,10 @@ use Rattle.ptflow.specs.Private.Vectors.Compress.{IsCompressTable, IsCompressRow
 
 -- ---- items that are selected by flags
 
-pub length-select_by : {X : Type 0} (flags : List Bool) (xs : List X) → length flags ≤ length xs
-    → length (select_by flags xs) ≡ count_ones (mask_l flags)
-unfolding lib.Count.ones
-length-select_by [] xs enough = refl
-length-select_by (f ∷ fs) [] enough = absurd (omega arith)
-length-select_by (true ∷ fs) (x ∷ xs) enough =
-    omega (arith, length-select_by fs xs (omega arith), ones-mask_l_cons true fs)
-length-select_by (false ∷ fs) (x ∷ xs) enough =
-    omega (arith, length-select_by fs xs (omega arith), ones-mask_l_cons false fs)
+few_selected : {X : Type 0} (flags : List Bool) (xs : List X) → length (select_by flags xs) ≤ length flags
+few_selected [] xs = omega arith
+few_selected (flag ∷ flags) [] = omega arith
+few_selected (flag ∷ flags) (x ∷ xs) = grind (arith, few_selected flags xs)
 
 map-select_by : {X Y : Type 0} (f : X → Y) (flags : List Bool) (xs : List X)
     → map f (select_by flags xs) ≡ select_by flags (map f xs)
@@ -48,6 +43,29 @@ select_by_append (flag ∷ front) [] [] = refl
 select_by_append (flag ∷ front) (other ∷ back) [] = refl
 select_by_append (true ∷ front) back (x ∷ xs) = ap (◌∷◌ x) (select_by_append front back xs)
 select_by_append (false ∷ front) back (x ∷ xs) = select_by_append front back xs
+
+pub all_selected : {X : Type 0} (flags : List Bool) (xs : List X) → length xs ≡ length flags
+    → mask_l flags + 1 ≡ 2 ^ length flags → select_by flags xs ≡ xs
+all_selected [] [] same all = refl
+all_selected [] (x ∷ xs) same all = absurd (omega arith)
+all_selected (flag ∷ flags) [] same all = absurd (omega arith)
+all_selected (flag ∷ flags) (x ∷ xs) same all = grind (arith, all_selected flags xs)
+
+-- those of a piece of the items after the first k
+pub select_more : {X : Type 0} (flags : List Bool) (k n : ℕ) (xs : List X) → k + n ≤ length flags
+    → select_by (take (k + n) flags) xs ≡ select_by (take k flags) xs
+    ++ select_by (take n (drop k flags)) (take n (drop k xs))
+select_more flags k n xs within =
+    let piece = take n (drop k flags) in
+    let long : length piece ≡ n = length-take-le n (drop k flags) (omega (arith, length-drop k flags)) in
+    let prefix : select_by piece (take n (drop k xs)) ≡ select_by piece (drop k xs) =
+    rw long at (select_by_prefix piece (drop k xs)) in
+    cc (
+      take-add k n flags,
+      select_by_append (take k flags) piece xs,
+      length-take-le k flags (omega arith),
+      prefix,
+    )
 
 -- ---- the mask of flags
 
@@ -72,13 +90,14 @@ pub row_of_mask : (rows : List (List ℕ)) (mask : ℕ) → IsCompressTable rows
     → IsCompressRow (flags_of 8 mask) (slice_index_or rows mask [])
 row_of_mask rows mask packing low = rw (mask_of_flags 8 _ low) at (packing (flags_of 8 mask) (length-flags_of 8 mask))
 
-pub row_selects : (flags : List Bool) (rows : List (List ℕ)) {mask : ℕ} (v : List ℕ) → length v ≡ 16
-    → IsCompressTable rows → length flags ≡ 8 → mask ≡ mask_l flags
-    → take (count_ones mask) (swz_l w8 16 v 0 (slice_index_or rows mask [])) ≡ select_by flags v
-row_selects flags rows v wide table long is =
+pub few_in_row : (flags : List Bool) (row : List ℕ) → IsCompressRow flags row → get_or row 15 0 ≤ length flags
+few_in_row flags row is = omega (arith, is.count, few_selected flags (range_with_len 0 (length flags)))
+
+pub row_selects : (flags : List Bool) (row v : List ℕ) → length v ≡ 16 → length flags ≡ 8 → IsCompressRow flags row
+    → take (get_or row 15 0) (swz_l w8 16 v 0 row) ≡ select_by flags v
+row_selects flags row v wide long is =
     grind (
       arith,
-      length-select_by,
       length-range_with_len,
       shuffle_result,
       row_lanes,
@@ -127,14 +146,44 @@ pub row_next : {mask place count bit : ℕ} {row : List ℕ} → place < 8 → b
 row_next {place} {count} {row} low is begun = grind (usual, bit_mask_l, next_place)
 
 pub row_complete : {mask count : ℕ} {row : List ℕ} {flags : List Bool} → length flags ≡ 8 → mask ≡ mask_l flags
-    → RowPrefix mask 8 count row → IsCompressRow flags row
+    → RowPrefix mask 8 count row → IsCompressRow flags (set row 15 count)
 row_complete {count} {row} {flags} long masked begun =
     let all : take count row ≡ true_indices flags =
     begun.indices flags long masked
     ∙ (λ i. select_by (take_all 8 flags (omega arith) i) (range_with_len 0 (sym long i))) in
-    grind (arith, length-take-le)
+    let size : length (true_indices flags) ≡ count = sym (ap length all) ∙ length-take-le count row (omega arith) in
+    record {
+      indices = grind (usual, all, size);
+      long = grind usual;
+      lanes = grind usual;
+      count = grind (usual, size);
+    }
 
 pub ruleset row_steps = (row_next, row_complete)
+
+-- ---- a mask of 64 flags in pieces of 16
+
+module _ (flags : List Bool) (k : ℕ) (within : k + 16 ≤ length flags) {rest : ℕ}
+    (is : rest ≡ mask_l (drop k flags)) where
+  pub piece_long : length (take 16 (drop k flags)) ≡ 16
+  piece_long = length-take-le 16 (drop k flags) (omega (arith, length-drop k flags))
+
+  pieces : mask_l (drop k flags) ≡ mask_l (take 16 (drop k flags)) + 65536 * mask_l (drop (k + 16) flags)
+  pieces = cc (
+    mask_append (take 16 (drop k flags)) (drop 16 (drop k flags)),
+    take-append-drop 16 (drop k flags),
+    piece_long,
+    drop-drop 16 k flags,
+  )
+
+  low : mask_l (take 16 (drop k flags)) < 65536
+  low = rw piece_long at (mask_l-lt (take 16 (drop k flags)))
+
+  pub piece_mask : bit_and rest 65535 ≡ mask_l (take 16 (drop k flags))
+  piece_mask = omega (arith, and_numeral, pieces, low)
+
+  pub other_pieces : rest / 65536 ≡ mask_l (drop (k + 16) flags)
+  other_pieces = omega (arith, pieces, low)
 
 -- ---- the halves of a mask and of lanes
 
@@ -235,10 +284,7 @@ module _ (test : ℕ → Bool) where
       pub is : take count into ++ kept_bytes test (drop at before) (drop at bytes) ≡ whole
       pub pre : FilterPre bytes at count
 
-    -- which bytes of a vector are kept, and which are equal to what they are compared with
-    abbrev pub flags_at : ℕ → List Bool
-    flags_at k = keep_flags test (chunk k 16 before) (chunk k 16 bytes)
-
+    -- which bytes of a vector are equal to what they are compared with
     abbrev pub equal_at : ℕ → List Bool
     equal_at k = zip2 eqb (chunk k 16 before) (chunk k 16 bytes)
 
@@ -256,12 +302,6 @@ module _ (test : ℕ → Bool) where
       module _ (at : ℕ) (room : at + 64 ≤ length bytes) where
         four : kept_at at 64 ≡ ((kept_at at 16 ++ kept_at (at + 16) 16) ++ kept_at (at + 32) 16) ++ kept_at (at + 48) 16
         four = cc (kept_two at 48 16 (omega arith), kept_two at 32 16 (omega arith), kept_two at 16 16 (omega arith))
-
-        pub kept_in_four : (t : List ℕ) {a b c d : List ℕ} → a ≡ t ++ select_by (flags_at at) (chunk at 16 bytes)
-            → b ≡ a ++ select_by (flags_at (at + 16)) (chunk (at + 16) 16 bytes)
-            → c ≡ b ++ select_by (flags_at (at + 32)) (chunk (at + 32) 16 bytes)
-            → d ≡ c ++ select_by (flags_at (at + 48)) (chunk (at + 48) 16 bytes) → d ≡ t ++ kept_at at 64
-        kept_in_four t ea eb ec ed = grind (arith, append_assoc, four, select_kept)
 
         whole : kept_at at 16 ≡ chunk at 16 bytes → kept_at (at + 16) 16 ≡ chunk (at + 16) 16 bytes
             → kept_at (at + 32) 16 ≡ chunk (at + 32) 16 bytes → kept_at (at + 48) 16 ≡ chunk (at + 48) 16 bytes

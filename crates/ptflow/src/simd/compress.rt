@@ -1,23 +1,23 @@
-//! Appends the selected bytes of a vector of 16 bytes to an output buffer (`compress16`), or a chunk of 64 bytes of
-//! which all are selected (`copy_chunk`), or nearly all (`copy_without`). `filter` uses these. The rows of the
-//! `CompressTable`, which `tr` makes, are byte shuffles that move the selected bytes of eight to the front.
+//! Appends the selected bytes of a chunk of 64 bytes to an output buffer (`compress64`), or all of them (`copy_chunk`).
+//! `filter` uses these. The rows of the `CompressTable`, which `tr` makes, are byte shuffles that move the selected
+//! bytes of eight to the front.
 
 ghost use Rattle.std.specs.Prelude.{◌≡◌, ◌≤◌, ◌+◌, ◌++◌, ℕ, List, Bool, length, take};
-ghost use Rattle.std.specs.Simd.Lanes.{mask_l, chunk, put_chunk};
-ghost use Rattle.ptflow.specs.Private.Vectors.Compress.{ChunkPre, IsCompressTable, IsCompressRow, removed_mask, select_by};
+ghost use Rattle.std.specs.Simd.Lanes.{mask_l, chunk};
+ghost use Rattle.ptflow.specs.Private.Vectors.Compress.{ChunkPre, IsCompressTable, IsCompressRow, select_by};
 
 use ptlines::{PADDED, PaddedBlock};
 use std::array;
 use std::simd::prelude::*;
 
-// For each mask of eight flags, the indices of those that are set, in order.
+// For each mask of eight flags, the indices of those that are set, in order. The last byte of a row is their count.
 #[derive(Clone, Copy)]
 pub(crate) struct CompressTable {
     rows: [[u8; 16]; 256],
     ghost is_table: { IsCompressTable rows },
 }
 
-// The indices of the set bits of a mask.
+// The indices of the set bits of a mask, and their count.
 #[tactic(auto, using(crate::proofs::Vectors::Compress::row_steps, std::proofs::lemmas::Grind::common_steps))]
 fn compress_row(mask: usize) -> [u8; 16]
     ensures { (flags : List Bool) → length flags ≡ 8 → mask ≡ mask_l flags → IsCompressRow flags result }
@@ -28,6 +28,7 @@ fn compress_row(mask: usize) -> [u8; 16]
         row[count] = index;
         count += mask >> index & 1;
     }
+    row[15] = count as u8;
     row
 }
 
@@ -49,9 +50,12 @@ impl CompressTable {
         ensures end { (at ≤ result) × (result ≤ at + 8) }
     {
         let into: &mut [u8] = into;
-        let indices = u8x16::from_array(self.rows[usize::from(keep)]);
-        v.swizzle_dyn(indices).copy_to_slice(&mut into[at..]);
-        at + keep.count_ones() as usize
+        let row = &self.rows[usize::from(keep)];
+        // Read first, or it is taken from the vector, which is slower (`tr -d 0-9`).
+        let count = usize::from(row[15]);
+        v.swizzle_dyn(u8x16::from_array(*row))
+            .copy_to_slice(&mut into[at..]);
+        at + count
     }
 
     // Appends to the first `at` bytes of `into` the bytes of those lanes of `v` whose bit in `keep` is set. Returns the
@@ -67,17 +71,34 @@ impl CompressTable {
         let rest = v.rotate_elements_left::<8>();
         self.compress8(rest, (keep >> 8 & 255) as u8, into, half)
     }
-}
 
-// Copies the 64 bytes at index `at` to index `to` of `into`.
-#[inline(always)]
-fn copy64(from: &[u8], at: usize, into: &mut PaddedBlock, to: usize)
-    requires lanes { at + 64 ≤ length from.now }
-    requires room { to + 64 ≤ PADDED }
-    ensures { into.new ≡ put_chunk to into.old (chunk at 64 from.now) }
-{
-    let into: &mut [u8] = into;
-    u8x64::from_slice(&from[at..]).copy_to_slice(&mut into[to..]);
+    // Appends those of the 64 bytes at index `at` whose bit in `keep` is set to the first `count` bytes of `into`.
+    // Returns the new count.
+    #[inline(always)]
+    pub(crate) fn compress64(
+        &self,
+        from: &[u8],
+        at: usize,
+        keep: u64,
+        into: &mut PaddedBlock,
+        mut count: usize,
+    ) -> usize
+        requires { ChunkPre from.now at count }
+        ensures packed { (flags : List Bool) → length flags ≡ 64 → keep ≡ mask_l flags
+            → take result into.new ≡ take count into.old ++ select_by flags (chunk at 64 from.now) }
+        ensures end { result ≤ count + 64 }
+    {
+        if keep == u64::MAX {
+            return copy_chunk(from, at, into, count);
+        }
+        let mut rest = keep;
+        for piece in 0..4 {
+            let v = u8x16::from_slice(&from[at + 16 * piece..]);
+            count = self.compress16(v, rest & 0xffff, into, count);
+            rest >>= 16;
+        }
+        count
+    }
 }
 
 // Appends the 64 bytes at index `at` to the first `count` bytes of `into`. Returns the new count.
@@ -87,36 +108,7 @@ pub(crate) fn copy_chunk(from: &[u8], at: usize, into: &mut PaddedBlock, count: 
     ensures copied { take result into.new ≡ take count into.old ++ chunk at 64 from.now }
     ensures end { result ≡ count + 64 }
 {
-    copy64(from, at, into, count);
+    let into: &mut [u8] = into;
+    u8x64::from_slice(&from[at..]).copy_to_slice(&mut into[count..]);
     count + 64
-}
-
-// Appends those of the 64 bytes at index `at` whose bit in `removed` is not set to the first `count` bytes of `into`.
-// Returns the new count. All 64 are stored, and after each removed byte again the 64 after it: for few removed bytes.
-#[inline(always)]
-pub(crate) fn copy_without(
-    from: &[u8],
-    at: usize,
-    removed: u64,
-    into: &mut PaddedBlock,
-    count: usize,
-) -> usize
-    requires chunk { ChunkPre from.now at count }
-    requires after { at + 128 ≤ length from.now }
-    ensures kept { (flags : List Bool) → length flags ≡ 64 → removed ≡ removed_mask flags
-        → take result into.new ≡ take count into.old ++ select_by flags (chunk at 64 from.now) }
-    ensures end { result ≤ count + 64 }
-{
-    copy64(from, at, into, count);
-    let mut rest = removed;
-    let mut start = 0;
-    let mut end = count;
-    while rest != 0 {
-        let kept = rest.trailing_zeros();
-        rest = rest >> kept >> 1;
-        start += kept as usize + 1;
-        end += kept as usize;
-        copy64(from, at + start, into, end);
-    }
-    end + 64 - start
 }

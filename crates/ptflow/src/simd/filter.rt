@@ -7,12 +7,9 @@ ghost use Rattle.ptflow.specs.Private.Vectors.Compress.{ChunkPre, removed_mask};
 ghost use Rattle.ptflow.specs.Private.Tr.TrFrom.{squeeze_from};
 
 use crate::simd::byte_set::ByteTest;
-use crate::simd::compress::{CompressTable, copy_chunk, copy_without};
+use crate::simd::compress::{CompressTable, copy_chunk};
 use ptlines::{BLOCK, PaddedBlock};
 use std::simd::prelude::*;
-
-// The most removed bytes of 64 for which those after each are copied again.
-const FEW: u32 = 3;
 
 /// The set of the bytes that may be removed, and the table for compression.
 #[derive(Clone, Copy)]
@@ -57,7 +54,7 @@ impl Pairs<'_> {
 }
 
 // Appends those of the 64 bytes at index `at` that are kept. Returns the new count. If no byte is equal to the one that
-// it is compared with, which is tested first for the sake of squeezing, or all are kept, the chunk is copied whole.
+// it is compared with, which is tested first for the sake of squeezing, the chunk is copied whole.
 #[inline(always)]
 fn filter64<T: ByteTest>(
     by: &Filter<T>,
@@ -82,20 +79,7 @@ fn filter64<T: ByteTest>(
     let removed_c = pairs.removed16(by.set, at + 32);
     let removed_d = pairs.removed16(by.set, at + 48);
     let removed = removed_a | removed_b << 16 | removed_c << 32 | removed_d << 48;
-    if removed == 0 {
-        return copy_chunk(from, at, into, count);
-    }
-    if removed.count_ones() <= FEW && from.len() - at >= 128 {
-        return copy_without(from, at, removed, into, count);
-    }
-    let a = u8x16::from_slice(&from[at..]);
-    let b = u8x16::from_slice(&from[at + 16..]);
-    let c = u8x16::from_slice(&from[at + 32..]);
-    let d = u8x16::from_slice(&from[at + 48..]);
-    let first = by.table.compress16(a, 0xffff - removed_a, into, count);
-    let second = by.table.compress16(b, 0xffff - removed_b, into, first);
-    let third = by.table.compress16(c, 0xffff - removed_c, into, second);
-    by.table.compress16(d, 0xffff - removed_d, into, third)
+    by.table.compress64(from, at, !removed, into, count)
 }
 
 // Appends the bytes from index `start` on that are kept, one by one. Returns the new count.

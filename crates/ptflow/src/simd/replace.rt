@@ -8,7 +8,7 @@ ghost use Rattle.memchr.specs.Find.{is_byte};
 ghost use Rattle.ptflow.specs.Private.Paste.Unrolled.{IsUnrolled};
 
 use crate::simd::shift::{ByteMap, map_bytes};
-use ptlines::match_mask;
+use ptlines::mask_at;
 use std::simd::prelude::*;
 
 /// The map that replaces the terminator by one byte.
@@ -95,7 +95,7 @@ impl Cycle {
     {
         let terminator = self.terminator;
         u8x64::from_slice(&from[at..]).copy_to_slice(&mut to[at..]);
-        let mut mask = match_mask::<64>(terminator, from, at);
+        let mut mask = mask_at::<64, u8>(terminator, from, at);
         let count = mask.count_ones() as usize;
         for after in 0..count {
             let end = at + mask.trailing_zeros() as usize;

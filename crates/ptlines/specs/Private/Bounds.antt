@@ -1,11 +1,6 @@
 -- Bounds for the vector kernels, which load and store `n` bytes at once. A vector has at most 64 bytes.
 use Rattle.std.specs.Prelude.{ℕ, ◌+◌, ◌≤◌, List, length}
 
--- `n` bytes can be loaded as one vector from the index `at`
-pub record HasChunk (n at : ℕ) (bytes : List ℕ) : Type 0 where
-  pub lanes : n ≤ 64
-  pub within : at + n ≤ length bytes
-
 -- A vector of the first `n` bytes and one of the last `n` cover all bytes. The two may overlap.
 pub record IsCoveredByEnds (n : ℕ) (bytes : List ℕ) : Type 0 where
   pub lanes : n ≤ 64

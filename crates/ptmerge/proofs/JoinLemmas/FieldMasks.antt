@@ -1,5 +1,5 @@
 -- Fields of a line of `join`, found by masks of its blanks or of its separators. A mask is the number of a list of
--- bits, so each fact is by induction on that list: no blank is misplaced if a mask is zero; and the first run of set
+-- bits, so each fact is by induction on that list: no blank is misplaced if two masks are zero; and the first run of set
 -- bits is the first word, after which the words of the rest of the line follow. Last, the fields after a number of
 -- separators.
 use Rattle.ptmerge.proofs
@@ -8,7 +8,7 @@ use Rattle.std.proofs.lemmas
 use proofs.Common.{◌≡◌, ⊎_elim, false, ℕ, List, ◌++◌, true, ◌∷◌, [], refl, arith, length-drop, suc, ◌+◌, ◌-◌, ◌≤◌, Bool}
 use proofs.Common.{None, Some, length, drop, get_or, sym, ap, zero, ◌<◌, ◌==◌, cond, filter, slice_split, is_blank}
 use proofs.Common.{Lines, usual, map, join_fields, is_single_spaced, with_prefix, ◌^◌, eqb, ◌≢◌, ◌*◌, not, ◌&&◌, ◌∙◌}
-use proofs.Common.{Option, drop_more, option_map, unwrap_or}
+use proofs.Common.{Option, drop_more, length-append, option_map, unwrap_or}
 use lemmas.Bool.{cases_Bool, eqb-true}
 use Rattle.std.specs.List.{prefix_len, onto_first, count_by}
 use Rattle.std.proofs.Common.{rules, ◌/◌, bit_and, bit_or, replicate, take, ◌%◌}
@@ -36,22 +36,23 @@ and_bits b c x y = grind (arith, and_step (bit b + 2 * x) (bit c + 2 * y), halve
 
 -- ---- single spaces
 
-no_misplaced : (blank : Bool) (bytes : List ℕ)
-    → eqb (bit_or (mask_l (map (is_byte 9) bytes)) (bit_and (mask_l (map is_blank bytes))
-    (bit blank + 2 * mask_l (map is_blank bytes)))) 0 ≡ has_single_spaces blank bytes
+no_misplaced : (blank : Bool) (bytes : List ℕ) → cond (eqb (mask_l (map (is_byte 9) bytes)) 0)
+    (eqb (bit_and (mask_l (map (is_byte 32) bytes)) (bit blank + 2 * mask_l (map (is_byte 32) bytes))) 0) false
+    ≡ has_single_spaces blank bytes
 no_misplaced blank [] = cc
-no_misplaced blank (b ∷ bytes) = grind (arith, and_bits, or_bits, no_misplaced (is_blank b) bytes)
+no_misplaced blank (b ∷ bytes) = grind (arith, and_bits, no_misplaced (b == 32) bytes)
 
-pub single_spaces_is : (any before : ℕ) (bytes : List ℕ) → before ≤ 1 → length bytes ≤ 64
-    → any ≡ mask_l (map is_blank bytes)
-    → eqb (bit_or (mask_l (map (is_byte 9) bytes)) (bit_and any (bit_or (any * 2 % 2 ^ 64) before))) 0
+pub single_spaces_is : (spaces tabs before : ℕ) (bytes : List ℕ) → before ≤ 1 → length bytes ≤ 64
+    → spaces ≡ mask_l (map (is_byte 32) bytes) → tabs ≡ mask_l (map (is_byte 9) bytes)
+    → cond (eqb tabs 0) (eqb (bit_and spaces (bit_or (spaces * 2 % 2 ^ 64) before)) 0) false
     ≡ has_single_spaces (before == 1) bytes
-single_spaces_is any before bytes low few is =
-    let wide : 2 ^ length (map is_blank bytes) ≤ 2 ^ 64 =
-    pow_mono {j = 64} (omega (arith, length-map bytes is_blank)) in
-    let small : any < 2 ^ 64 = omega (arith, mask_l-lt (map is_blank bytes)) in
-    let sum : any * 2 + before ≡ bit (before == 1) + 2 * any = omega (arith, of_bit before low) in
-    rw (or_even any before low, and_low any (any * 2 + before) small, sum, is) (no_misplaced (before == 1) bytes)
+single_spaces_is spaces tabs before bytes low few is tabs_is =
+    let wide : 2 ^ length (map (is_byte 32) bytes) ≤ 2 ^ 64 =
+    pow_mono {j = 64} (omega (arith, length-map bytes (is_byte 32))) in
+    let small : spaces < 2 ^ 64 = omega (arith, mask_l-lt (map (is_byte 32) bytes)) in
+    let sum : spaces * 2 + before ≡ bit (before == 1) + 2 * spaces = omega (arith, of_bit before low) in
+    rw (or_even spaces before low, and_low spaces (spaces * 2 + before) small, sum, is, tabs_is)
+    (no_misplaced (before == 1) bytes)
   where
     of_bit : (before : ℕ) → before ≤ 1 → bit (before == 1) ≡ before
     of_bit = grind arith
@@ -67,27 +68,25 @@ single_spaces_is any before bytes low few is =
 power_fits : (v : List ℕ) → length v < 64 → 1 * 2 ^ length v % 2 ^ 64 ≡ 1 * 2 ^ length v
 power_fits = search (rules, pow-lt)
 
--- a line that ends after these bytes, as if a space followed it
-pub with_end : (bytes : List ℕ) (any tabs : ℕ) → length bytes < 64 → any ≡ mask_l (map is_blank bytes)
-    → tabs ≡ mask_l (map (is_byte 9) bytes)
-    → (bit_or any (1 * 2 ^ length bytes % 2 ^ 64) ≡ mask_l (map is_blank (bytes ++ 32 ∷ [])))
-    × (tabs ≡ mask_l (map (is_byte 9) (bytes ++ 32 ∷ [])))
-with_end bytes any tabs short any_is tabs_is =
-    let low : any < 2 ^ length bytes =
-    grind (arith, mask_l-lt, length-map) in (
-      grind (arith, power_fits, or_shifted_r, end_bit),
-      omega (arith, end_bit (is_byte 9) bytes),
-    )
-  where
-    end_bit : (test : ℕ → Bool) (bytes : List ℕ)
-        → mask_l (map test (bytes ++ 32 ∷ [])) ≡ mask_l (map test bytes) + cond (test 32) (2 ^ length bytes) 0
-    end_bit test [] = grind arith
-    end_bit test (b ∷ bytes) = grind (arith, end_bit test bytes)
+end_bit : (test : ℕ → Bool) (bytes : List ℕ)
+    → mask_l (map test (bytes ++ 32 ∷ [])) ≡ mask_l (map test bytes) + cond (test 32) (2 ^ length bytes) 0
+end_bit test [] = grind arith
+end_bit test (b ∷ bytes) = grind (arith, end_bit test bytes)
 
-pub spaced_to_end : (blank : Bool) (bytes : List ℕ)
+spaced_to_end : (blank : Bool) (bytes : List ℕ)
     → has_single_spaces blank (bytes ++ 32 ∷ []) ≡ is_single_spaced blank bytes
 spaced_to_end blank [] = grind arith
 spaced_to_end blank (b ∷ bytes) = cc (spaced_to_end (b == 32) bytes)
+
+-- the last bytes of a line are checked as if a space followed them
+pub spaced_rest : (blank : Bool) (spaces tabs : ℕ) (bytes : List ℕ) {result : Bool} → length bytes < 64
+    → spaces ≡ mask_l (map (is_byte 32) bytes) → tabs ≡ mask_l (map (is_byte 9) bytes)
+    → ((all : List ℕ) → length all ≤ 64 → bit_or spaces (1 * 2 ^ length bytes % 2 ^ 64) ≡ mask_l (map (is_byte 32) all)
+    → tabs ≡ mask_l (map (is_byte 9) all) → result ≡ has_single_spaces blank all) → result ≡ is_single_spaced blank bytes
+spaced_rest blank spaces tabs bytes short spaces_is tabs_is ensures =
+    ensures (bytes ++ 32 ∷ []) (omega (arith, length-append bytes (32 ∷ [])))
+    (grind (arith, spaces_is, mask_l-lt, length-map, power_fits, or_shifted_r, end_bit (is_byte 32) bytes))
+    (omega (arith, tabs_is, end_bit (is_byte 9) bytes)) ∙ spaced_to_end blank bytes
 
 -- ---- the next 64 bytes of a line
 
@@ -100,18 +99,18 @@ spaced_append : (blank : Bool) (v back : List ℕ) → is_single_spaced blank (v
 spaced_append blank [] back = refl
 spaced_append blank (b ∷ v) back = grind (arith, spaced_append (b == 32) v back)
 
-pub top_bit : (n : ℕ) (blank : Bool) (v : List ℕ) → length v ≡ suc n → has_single_spaces blank v ≡ true
-    → mask_l (map is_blank v) / 2 ^ n ≡ bit (last_blank blank v)
-top_bit n blank [] size spaced = absurd (omega arith)
-top_bit zero blank (b ∷ []) size spaced = grind arith
-top_bit zero blank (b ∷ c ∷ v) size spaced = absurd (omega arith)
-top_bit (suc n) blank (b ∷ v) size spaced =
-    let m = mask_l (map is_blank v) in
+pub top_bit : (n : ℕ) (blank : Bool) (v : List ℕ) → length v ≡ suc n
+    → mask_l (map (is_byte 32) v) / 2 ^ n ≡ bit (last_blank blank v)
+top_bit n blank [] size = absurd (omega arith)
+top_bit zero blank (b ∷ []) size = grind arith
+top_bit zero blank (b ∷ c ∷ v) size = absurd (omega arith)
+top_bit (suc n) blank (b ∷ v) size =
+    let m = mask_l (map (is_byte 32) v) in
     let twice : 2 ^ suc n ≡ 2 * 2 ^ n = omega arith in
     cc (
-      top_bit n (b == 32) v (omega arith) (grind arith),
-      (halves _ m).0,
-      div-div-eq-div-mul (bit (is_blank b) + 2 * m) 2 (2 ^ n),
+      top_bit n (b == 32) v (omega arith),
+      (halves (b == 32) m).0,
+      div-div-eq-div-mul (bit (b == 32) + 2 * m) 2 (2 ^ n),
     )
 
 pub chunk_spaced : (blank : Bool) (bytes : List ℕ) (at : ℕ) → at + 64 ≤ length bytes

@@ -1,11 +1,9 @@
 -- The fields of a line as `join` finds and writes them: the rest of the line after a field, the span of the field with
--- a number, the masks of blanks, the first window of separators, words with single spaces between them, and lines that
--- are written unchanged.
-use Rattle.std.specs.Prelude.{◌≡◌, ◌≤◌, ◌++◌, ℕ, length, map, take, drop, min, IfSome, MatchOption, ◌==◌, List, [], ◌∷◌}
+-- a number, the first window of separators or blanks, words with single spaces between them, and lines that are written
+-- unchanged.
+use Rattle.std.specs.Prelude.{◌≡◌, ◌≤◌, ◌++◌, ℕ, length, take, drop, min, IfSome, MatchOption, ◌==◌, List, [], ◌∷◌}
 use Rattle.std.specs.Prelude.{Option, Some, None, Bool, false, true, not, ◌||◌, ◌&&◌, ◌-◌, if◌then◌else◌, unwrap_or}
 use Rattle.std.specs.List.{flat_map, join_with_byte, slice_range, slice_split}
-use Rattle.std.specs.Simd.Lanes.{mask_l}
-use Rattle.memchr.specs.Find.{is_byte}
 use Rattle.ptlangs.specs.Jobs.{Join}
 use Rattle.ptlangs.specs.declared.outlist.OutField.{OutField}
 use Rattle.ptlines.specs.Text.{is_blank}
@@ -17,7 +15,6 @@ use Rattle.ptmerge.specs.Calls.Sides.{both}
 use Rattle.ptmerge.specs.declared.key_order.Side.{Side}
 use Rattle.ptmerge.specs.declared.key_order.Side.TheVariants.{First, Second}
 use Rattle.ptmerge.specs.declared.key_order.Span.{Span}
-use Rattle.ptmerge.specs.declared.tools.join.words.Blanks.{Blanks}
 
 -- The byte separates fields: it is the separator of `-t`, or a blank.
 abbrev pub is_separator : Option ℕ → ℕ → Bool
@@ -68,11 +65,6 @@ abbrev pub has_single_spaces : Bool → List ℕ → Bool
 has_single_spaces blank [] = true
 has_single_spaces blank (b ∷ bytes) =
     if (b == 9) || (blank && (b == 32)) then false else has_single_spaces (b == 32) bytes
-
--- The masks of the blanks and of the tabs among these bytes.
-pub record AreBlanks (bytes : List ℕ) (blanks : Blanks) : Type 0 where
-  pub any : blanks.any ≡ mask_l (map is_blank bytes)
-  pub tabs : blanks.tabs ≡ mask_l (map (is_byte 9) bytes)
 
 -- The line is its fields with one output separator between each two.
 abbrev pub is_evenly_separated : Option ℕ → List ℕ → Bool

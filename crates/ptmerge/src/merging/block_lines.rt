@@ -2,32 +2,13 @@
 //! store. `BlockLine` is the line reached in one block, with its key and the step to the next line; `BlockRun` is where
 //! a merge of two blocks ended. The loops are in `block_merge`.
 
-ghost use Rattle.memchr.specs.Find.{IsFirstByte, is_byte};
 ghost use Rattle.std.specs.Prelude.{◌≡◌, IfSome};
 ghost use Rattle.ptmerge.specs.Private.BlockLines.{HasKey, IsInBlock, IsNextLine, IsReached, IsWholeKey};
 ghost use Rattle.ptmerge.specs.Private.BlockLines.{further_lines, lines_if_any};
 
 use crate::key_order::{KeyOrder, Side};
 use crate::merging::cursor::Reached;
-use ptlines::{find_byte, find_in_chunk};
-
-// Returns the index of the first byte equal to `terminator`. It compares 32 bytes at a time: most lines end within so
-// few that a call of `memchr` costs more.
-#[inline(always)]
-#[tactic(auto, using(ptlines::proofs::MatchMasks::nowhere_trans))]
-fn find_end(terminator: u8, bytes: &[u8]) -> Option<usize>
-    ensures { IsFirstByte (is_byte terminator) bytes.now result }
-{
-    let mut at = 0;
-    'chunks: while bytes.len() - at >= 32 {
-        if let Some(end) = find_in_chunk::<32>(terminator, bytes, at) {
-            return Some(end);
-        }
-        at += 32;
-    }
-    let end = find_byte(terminator, &bytes[at..])?;
-    Some(at + end)
-}
+use ptlines::find_byte;
 
 // The current line of an input with its key, and the bytes in its block after this line. `passed` lines
 // came before it since the merge of the blocks began. `same` is true if there are such lines, and the last of them has
@@ -77,7 +58,7 @@ impl<'a> BlockLine<'a> {
         ensures { let key = K.key_of order.now side in
             IfSome result (λ next. IsNextLine terminator (K.order order.now) key self.entry next) }
     {
-        let size = find_end(terminator, self.rest)?;
+        let size = find_byte(terminator, self.rest)?;
         let head = &self.rest[..size];
         let key = order.key(side, order.span(side, head), head);
         let ordering = order.cmp(self.key, key);
@@ -144,7 +125,7 @@ impl<'a> KeyLines<'a> {
         if self.more == 0 {
             return None;
         }
-        let end = find_end(terminator, self.rest)?;
+        let end = find_byte(terminator, self.rest)?;
         Some(KeyLines {
             line: &self.rest[..end],
             rest: &self.rest[end + 1..],

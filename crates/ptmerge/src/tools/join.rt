@@ -1,8 +1,7 @@
 //! The engine of `join`: a merge that keeps the second input's lines of one key at a time, if it writes pairs.
 //!
 //! `field_keys` is the order of lines by their join fields, and `key_group` copies the lines of a key. `fields` splits
-//! a line into fields, `output` writes an output line, and `separators` and `words` find separators and blanks by
-//! `masks`.
+//! a line into fields, by `words` if they are words, and `output` writes an output line, which `row` collects.
 
 ghost use Rattle.std.specs.Prelude.{◌≡◌, ℕ, List, ◌∷◌, [], Err, IfErr, IfOk, OnOk};
 ghost use Rattle.ptlangs.specs.Jobs.{join_job};

@@ -20,11 +20,12 @@ removed_mask flags = mask_l (map not flags)
 abbrev pub true_indices : List Bool → List ℕ
 true_indices flags = select_by flags (range_with_len 0 (length flags))
 
--- A row begins with the indices of the flags that are set, and goes on with any indices of lanes.
+-- A row begins with the indices of the flags that are set, goes on with any indices of lanes, and ends with the count.
 pub record IsCompressRow (flags : List Bool) (row : List ℕ) : Type 0 where
   pub indices : take (length (true_indices flags)) row ≡ true_indices flags
   pub long : length row ≡ 16
   pub lanes : All (λ index. index < 16) row
+  pub count : slice_index_or row 15 0 ≡ length (true_indices flags)
 
 -- a chunk of 64 bytes begins at index `at`, and the buffer has room for it after the `count` bytes kept before
 pub record ChunkPre (bytes : List ℕ) (at count : ℕ) : Type 0 where

@@ -15,7 +15,7 @@ use crate::block_loop::BlockFilter;
 use crate::tools::cut::shuffle::LineShuffles;
 use ptlangs::jobs::CutJob;
 use ptlangs::ranges::Interval;
-use ptlines::{Out, PADDED, PaddedBlock, Sink, WriteFault, copy_short, find_byte, match_mask};
+use ptlines::{Out, PADDED, PaddedBlock, Sink, WriteFault, copy_short, find_byte, mask_at};
 use std::alloc::Allocator;
 use std::simd::prelude::*;
 
@@ -233,7 +233,7 @@ impl Selection<'_> {
         };
         let mut from = 0;
         while block.len() - from >= 80 {
-            let mask = match_mask::<64>(self.terminator, block, from);
+            let mask = mask_at::<64, u8>(self.terminator, block, from);
             if mask != 0 {
                 line = self.cut_chunk(block, from, mask, line, into);
             }

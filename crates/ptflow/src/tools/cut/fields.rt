@@ -190,7 +190,9 @@ fn copy_slice(bytes: &[u8], slice: LineSlice, into: &mut [u8], at: usize)
 {
     let LineSlice { start, end } = slice;
     let len = end - start;
-    if len > 16 && len <= 32 && bytes.len() - start >= 32 {
+    if len <= 16 {
+        copy_short(bytes, start, end, into, at);
+    } else if len <= 32 && bytes.len() - start >= 32 {
         u8x32::from_slice(&bytes[start..]).copy_to_slice(&mut into[at..]);
     } else {
         copy_short(bytes, start, end, into, at);

@@ -16,7 +16,7 @@ ghost use Rattle.ptlines.specs.declared.sizes.TheConstants.{PADDED};
 
 use crate::tools::paste::row::{BegunRow, CopiedRows, RowFormat, copy_option, next_index};
 use crate::tools::paste::segments::{Segment, has_ended_column, segments};
-use ptlines::{BLOCK, LineReader, PaddedBlock, Source, copy_short, find_by_mask, find_in_chunk};
+use ptlines::{BLOCK, LineReader, PaddedBlock, Source, copy_short, find_byte, find_in_chunk};
 use std::simd::prelude::*;
 
 // Copies the 16 bytes from `from` on to `at`. Returns the index of the first terminator among them.
@@ -33,7 +33,7 @@ fn copy_16(
     ensures found { IsFirst (Passes (is_byte terminator) bytes.now) from (from + 16) result }
     ensures copied { take (at + 16) into.new ≡ take at into.old ++ take 16 (drop from bytes.now) }
 {
-    let found = find_in_chunk::<16>(terminator, bytes, from);
+    let found = find_in_chunk::<16, u8>(terminator, bytes, from);
     let into: &mut [u8] = into;
     u8x16::from_slice(&bytes[from..]).copy_to_slice(&mut into[at..]);
     found
@@ -81,7 +81,7 @@ fn copy_near_end<S: Source, R: Source>(
     ensures was_sound { IsSound reader.old }
 {
     let bytes = reader.buffered();
-    let count = find_by_mask(terminator, bytes)?;
+    let count = find_byte(terminator, bytes)?;
     if at.saturating_add(count) >= BLOCK {
         return None;
     }

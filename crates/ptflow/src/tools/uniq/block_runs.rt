@@ -15,7 +15,7 @@ use crate::simd::compare::{is_equal, same_start};
 use crate::tools::uniq::line_key::key;
 use itoa::Buffer;
 use ptlangs::jobs::{Show, UniqJob};
-use ptlines::{Out, Sink, WriteFault, find_line_end};
+use ptlines::{Out, Sink, WriteFault, find_byte};
 
 // Checks whether a run of `count` lines is written.
 fn has_output(show: Show, count: u64) -> bool
@@ -184,7 +184,7 @@ impl RunWriter<'_> {
         let mut pending = BlockRange { from: 0, to: 0 };
         let mut run_key = key(job, first, first.len());
         let mut rest = block;
-        'lines: while let Some(at) = find_line_end(terminator, rest) {
+        'lines: while let Some(at) = find_byte(terminator, rest) {
             let next = key(job, rest, at);
             if is_equal(run_key, next) {
                 let repeats = skip_repeats(rest, at + 1);

@@ -1,17 +1,33 @@
 -- Each iteration clears one more bit. After `count` of them the lowest bit that is left is the match after `count`
--- others.
+-- others. While a bit is to be cleared, one is set.
 use Rattle.ptlines.proofs
-use Rattle.std.proofs.Common.{◌≡◌, ◌+◌, suc, map, arith}
-use proofs.MatchWindows.{cleared, after_set}
+use Rattle.std.proofs.Common.{◌≡◌, ◌-◌, suc, map, arith, refl}
+use proofs.MatchWindows.{and_less, after_set, without}
+use lib.Count.{count_trailing_zeros}
 use proofs.scan.nth_bit.Goals as goal
+use proofs.scan.nth_bit.Goals.{then-loop-left-test+else-rest-ne0, else-loop-left-test}
 
-pub loop-bit-preserved : goal.loop-bit-preserved
-loop-bit-preserved c = λ bits is.
-    let i = c.loop-bit._bit in
-    let next : suc i ≡ i + 1 = omega arith in
-    rw (← next) (cleared i bits c.loop-bit.auto.rest-fits.fits (c.loop-bit.invariant bits is))
+pub loop-left-preserved : goal.loop-left-preserved
+loop-left-preserved c = record {
+  few = omega arith;
+  cleared = λ bits is.
+      let next : c.args.count - (c.loop-left.left - 1) ≡ suc (c.args.count - c.loop-left.left) = omega arith in
+      let rest = c.loop-left.invariant.cleared bits is in
+      rw (next, rest) (and_less (without (c.args.count - c.loop-left.left) bits));
+}
 
 pub returns : goal.returns
+unfolding count_trailing_zeros
 returns c = λ test bytes few is some.
-    let all : c.loop-bit._bit ≡ c.args.count = omega arith in
-    after_set test bytes _ few some (rw all at (c.loop-bit.invariant (map test bytes) is))
+    let rest = c.loop-left.invariant.cleared (map test bytes) is in
+    let nth = after_set test bytes (c.args.count - c.loop-left.left) few (omega arith) rest in
+    elim c.loop-left-test.branch [
+      | then-loop-left-test+else-rest-ne0 w ↦ (
+          let none : count_trailing_zeros 64 0 ≡ 64 = refl in
+          absurd (omega (arith, few, none, rw w.if-rest-ne0.false at nth))
+          )
+      | else-loop-left-test w ↦ (
+          let all : c.args.count - c.loop-left.left ≡ c.args.count = omega arith in
+          rw all at nth
+          )
+    ]

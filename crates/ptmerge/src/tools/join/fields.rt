@@ -2,19 +2,19 @@
 //! or one after another (`next_word`), and `field_keys` finds the span of the join field (`field_span`).
 
 ghost use Rattle.std.specs.Prelude.{◌≡◌, ◌∷◌, [], None, Some, ◌<◌, ◌≤◌, ◌+◌, ◌-◌, length, drop, position, option_copied, IfSome};
-ghost use Rattle.std.specs.Prelude.{MatchOption, ℕ};
+ghost use Rattle.std.specs.Prelude.{MatchOption};
 ghost use Rattle.std.specs.List.{slice_split};
 ghost use Rattle.memchr.specs.Find.{is_byte};
 ghost use Rattle.ptlines.specs.Calls.Scan.{IsMatchWindow};
 ghost use Rattle.ptlines.specs.Text.{is_blank};
 ghost use Rattle.ptmerge.specs.Join.{join_fields, nth_field};
-ghost use Rattle.ptmerge.specs.Private.JoinFields.{AreBlanks, IsFieldFound, IsFirstPieceEnd, IsFieldIn, IsPiece};
+ghost use Rattle.ptmerge.specs.Private.JoinFields.{IsFieldFound, IsFirstPieceEnd, IsFieldIn, IsPiece};
 ghost use Rattle.ptmerge.specs.Private.JoinFields.{first_window, is_evenly_separated, is_separator, remaining_fields};
 ghost use Rattle.ptmerge.specs.Calls.KeySpan.{IsKeySpan};
 
 use crate::key_order::Span;
-use crate::tools::join::words::{Blanks, blanks_of, find_word, is_single_spaced};
-use ptlines::{Blank, MatchWindow, find_byte, find_first};
+use crate::tools::join::words::{find_word, is_single_spaced};
+use ptlines::{Blank, MatchWindow, find_near};
 
 // Returns the index of the first separator or blank in `bytes`.
 #[inline(always)]
@@ -23,8 +23,8 @@ fn field_end(separator: Option<u8>, bytes: &[u8]) -> Option<usize>
     ensures { result ≡ position (is_separator separator) bytes.now }
 {
     match separator {
-        Some(byte) => find_byte(byte, bytes),
-        None => find_first(Blank, bytes),
+        Some(byte) => find_near(byte, bytes),
+        None => find_near(Blank, bytes),
     }
 }
 
@@ -108,21 +108,14 @@ fn find_word_long(number: u64, line: &[u8]) -> Option<Span>
     Some(span_of_word(line, next_word(left)?))
 }
 
-// Returns the first masks of a line: with `-t` that of its separators among the first 64 bytes, and otherwise those of
-// its blanks, if it is short.
+// Returns the match mask of the separators or blanks among the first 64 bytes of a line.
 #[inline(always)]
-fn first_masks(separator: Option<u8>, line: &[u8]) -> Blanks
-    ensures blanks { separator ≡ None → length line.now < 64 → AreBlanks line.now result }
-    ensures separators { (byte : ℕ) → separator ≡ Some byte
-        → IsMatchWindow (is_byte byte) line.now (first_window line.now result.any) }
+fn first_mask(separator: Option<u8>, line: &[u8]) -> u64
+    ensures { IsMatchWindow (is_separator separator) line.now (first_window line.now result) }
 {
     match separator {
-        Some(byte) => Blanks {
-            any: MatchWindow::new(byte, line, 0).mask,
-            tabs: 0,
-        },
-        None if line.len() < 64 => blanks_of(line),
-        None => Blanks { any: 0, tabs: 0 },
+        Some(byte) => MatchWindow::new(byte, line, 0).mask,
+        None => MatchWindow::new(Blank, line, 0).mask,
     }
 }
 
@@ -163,15 +156,13 @@ fn find_separated(separator: u8, number: u64, line: &[u8], mask: u64) -> Option<
     })
 }
 
-// A line that is split into fields. Its first separators are found only once, or its blanks if it is short.
+// A line that is split into fields. Its first separators or blanks are found only once.
 #[derive(Clone, Copy)]
 pub(crate) struct SplitLine<'a> {
     pub(crate) separator: Option<u8>,
     pub(crate) line: &'a [u8],
-    masks: Blanks,
-    ghost blanks: { separator ≡ None → length line.now < 64 → AreBlanks line.now masks },
-    ghost separators: { (byte : ℕ) → separator ≡ Some byte
-        → IsMatchWindow (is_byte byte) line.now (first_window line.now masks.any) },
+    mask: u64,
+    ghost window: { IsMatchWindow (is_separator separator) line.now (first_window line.now mask) },
 }
 
 impl<'a> SplitLine<'a> {
@@ -182,7 +173,7 @@ impl<'a> SplitLine<'a> {
         SplitLine {
             separator,
             line,
-            masks: first_masks(separator, line),
+            mask: first_mask(separator, line),
         }
     }
 
@@ -193,8 +184,8 @@ impl<'a> SplitLine<'a> {
     {
         let is_short = self.line.len() < 64;
         match self.separator {
-            Some(byte) => find_separated(byte, number, self.line, self.masks.any),
-            None if is_short => find_word(number, self.line, self.masks),
+            Some(byte) => find_separated(byte, number, self.line, self.mask),
+            None if is_short => find_word(number, self.line, self.mask),
             None => find_word_long(number, self.line),
         }
     }
@@ -209,14 +200,14 @@ impl<'a> SplitLine<'a> {
             None => b"",
         }
     }
+}
 
-    // Checks whether the line is its fields with one output separator between each two.
-    #[inline(always)]
-    pub(crate) fn is_single_spaced(&self) -> bool
-        ensures { result ≡ is_evenly_separated self.now.separator self.now.line.now }
-    {
-        self.separator.is_some() || is_single_spaced(self.line, self.masks)
-    }
+// Checks whether a line is its fields with one output separator between each two.
+#[inline(always)]
+pub(crate) fn is_evenly_separated(separator: Option<u8>, line: &[u8]) -> bool
+    ensures { result ≡ is_evenly_separated separator line.now }
+{
+    separator.is_some() || is_single_spaced(line)
 }
 
 // Returns the index of the first separator or blank in `bytes`, or their length.

@@ -17,7 +17,7 @@ ghost use Rattle.ptmerge.specs.declared.key_order.Side.TheVariants.{First, Secon
 
 use crate::key_order::{Side, Span};
 use crate::merging::writer::MergeWriter;
-use crate::tools::join::fields::{SplitLine, next_word};
+use crate::tools::join::fields::{SplitLine, is_evenly_separated, next_word};
 use crate::tools::join::row::Row;
 use ptlangs::jobs::JoinJob;
 use ptlangs::outlist::{File, OutField};
@@ -100,11 +100,11 @@ fn write_other_fields<W: Sink>(
     let Some(bytes) = line else {
         return Ok(());
     };
-    let split = SplitLine::new(separator, bytes);
-    if !split.is_single_spaced() {
+    if !is_evenly_separated(separator, bytes) {
         return write_other_words(number, bytes, out);
     }
-    write_around(separator.unwrap_or(b' '), bytes, split.find(number), out)
+    let span = SplitLine::new(separator, bytes).find(number);
+    write_around(separator.unwrap_or(b' '), bytes, span, out)
 }
 
 // The content of an output line: a line of each input, or of one of them, and their join field.
@@ -248,7 +248,7 @@ fn is_unchanged<A: Allocator>(job: &JoinJob<A>, side: Side, line: &[u8]) -> bool
         Side::First => job.field[0],
         Side::Second => job.field[1],
     };
-    job.list.is_none() && number <= 1 && SplitLine::new(job.sep, line).is_single_spaced()
+    job.list.is_none() && number <= 1 && is_evenly_separated(job.sep, line)
 }
 
 // Writes the output line of a pair, and its terminator. If both lines are written as they are, they are not split: the

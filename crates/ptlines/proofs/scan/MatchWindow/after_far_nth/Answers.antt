@@ -17,19 +17,19 @@ pub loop-at-preserved : goal.loop-at-preserved
 loop-at-preserved g c =
     let p = g.M.Needle.test c.args.needle in
     let bytes = c.args.bytes.now in
-    let window = c.new-window.ensures.window in
+    let window = c.of_64-window.ensures.window in
     record {
       within = window.within;
       counted = omega (
         arith,
         window_counted p bytes window,
-        ap (λ i. count_by p (take i bytes)) c.new-window.ensures.at,
+        ap (λ i. count_by p (take i bytes)) c.of_64-window.ensures.at,
       );
     }
 
 pub after-requires : goal.after-requires
 after-requires g c =
-    let window = c.new-window.ensures.window in
+    let window = c.of_64-window.ensures.window in
     let nth = nth_in_window _ _ window (omega arith) c.nth_bit.ensures in
     omega (arith, window_inside _ _ window nth, window.few)
 
@@ -37,12 +37,12 @@ pub returns-then-left-count : goal.returns-then-left-count
 returns-then-left-count g c =
     let p = g.M.Needle.test c.args.needle in
     let bytes = c.args.bytes.now in
-    let window = c.new-window.ensures.window in
+    let window = c.of_64-window.ensures.window in
     let nth = nth_in_window p bytes window (omega arith) c.nth_bit.ensures in
     rw c.after.ensures (after_in_window p bytes window nth c.requires.within.1 (omega (
       arith,
       c.loop-at.invariant.counted,
-      ap (λ i. count_by p (take i bytes)) c.new-window.ensures.at,
+      ap (λ i. count_by p (take i bytes)) c.of_64-window.ensures.at,
     )))
 
 pub returns-then-at-to : goal.returns-then-at-to

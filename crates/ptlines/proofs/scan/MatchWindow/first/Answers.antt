@@ -1,8 +1,7 @@
 -- The first match is the lowest bit of the mask, or is after the window.
 use Rattle.ptlines.proofs
-use proofs.Common.{None, Some, take_rest}
-use proofs.MatchMasks.{first_after}
-use proofs.MatchWindows.{first_in_window, nowhere_in_window}
+use proofs.Common.{None, Some}
+use proofs.MatchWindows.{first_in_window, first_past, nowhere_in_window}
 use proofs.scan.MatchWindow.first.Goals as goal
 
 pub returns-then-self-ne0 : goal.returns-then-self-ne0
@@ -13,14 +12,7 @@ returns-then-self-bytes g c = rw c.if-self-bytes.true at (nowhere_in_window _ _ 
 
 pub returns-in_err-at : goal.returns-in_err-at
 returns-in_err-at g c =
-    let window = c.requires.window in
-    let none = nowhere_in_window _ _ window c.if-self-ne0.false in
-    let rest = first_after (g.M.Needle.test c.args.needle) c.args.bytes.now _ _ window.order none in
-    rw c.from_residual.ensures (rest None (rw take_rest at c.in_err-at.ensures))
+    rw c.from_residual.ensures (first_past _ _ c.requires.window c.if-self-ne0.false None c.in_err-at.ensures)
 
 pub returns : goal.returns
-returns g c =
-    let window = c.requires.window in
-    let none = nowhere_in_window _ _ window c.if-self-ne0.false in
-    let rest = first_after (g.M.Needle.test c.args.needle) c.args.bytes.now _ _ window.order none in
-    rest (Some c.in_ok-at.at) (rw take_rest at c.in_ok-at.ensures)
+returns g c = first_past _ _ c.requires.window c.if-self-ne0.false (Some c.in_ok-at.at) c.in_ok-at.ensures

@@ -8,8 +8,8 @@ use proofs.slot.Slot.set_short_line.Goals.{then-size-lt16, else-size-lt16}
 pub returns : goal.returns
 returns g c =
     let buffer = c.self.inside.buffer in
-    let bytes = c.args.near.front.bytes.now in
-    let size = c.args.near.size in
+    let bytes = c.args.bytes.now in
+    let size = c.args.size in
     let stored : (n : ℕ) (is : List ℕ) → length is ≡ buffer.len → size ≤ n → take n is ≡ take n bytes
     → take size (with_items buffer is).items ≡ take size bytes =
     λ n is long few copied.

@@ -20,33 +20,33 @@ put_counted slots slot had low is counted was was_is bytes size near within new 
 
 pub overflow_sub-self : goal.overflow_sub-self
 overflow_sub-self g c =
-    let low = slot_in_range _ _ c.self.view_is c.requires in
+    let low = slot_in_range _ _ c.self.view_is c.requires.slot in
     omega (arith, line_le_total _ _ _ low c.index.ensures c.self.invariant.counted)
 
 pub overflow_add-self : goal.overflow_add-self
 overflow_add-self g c =
     let s = c.self.inside.slots in
     let few : length (slot_lines s.items) < 2 ^ 63 = omega (arith, length-map s.items line_of) in
-    let fits = total_fits (slot_lines s.items) c.args.near.size c.self.invariant.counted.lines few (omega arith) in
+    let fits = total_fits (slot_lines s.items) c.args.size c.self.invariant.counted.lines few (omega arith) in
     omega arith
 
 pub invariant_of-self : goal.invariant_of-self
 invariant_of-self g c =
-    let low = slot_in_range _ _ c.self.view_is c.requires in
+    let low = slot_in_range _ _ c.self.view_is c.requires.slot in
     let same = same_slot _ _ low c.index.ensures c.index_mut.ensures.value in
     record {
       counted = put_counted _ _ _ low c.index_mut.ensures.value c.self.invariant.counted _ (grind arith)
-          _ _ c.args.near.near c.args.near.front.long _ c.set_short_line.ensures _ (omega arith) (omega arith);
+          _ _ c.requires.short.0 c.requires.short.1 _ c.set_short_line.ensures _ (omega arith) (omega arith);
       room = c.self.invariant.room;
     }
 
 pub invariant_of-self-else-self : goal.invariant_of-self-else-self
 invariant_of-self-else-self g c =
-    let low = slot_in_range _ _ c.self.view_is c.requires in
+    let low = slot_in_range _ _ c.self.view_is c.requires.slot in
     let same = same_slot _ _ low c.index.ensures c.index_mut.ensures.value in
     record {
       counted = put_counted _ _ _ low c.index_mut.ensures.value c.self.invariant.counted _ (grind arith)
-          _ _ c.args.near.near c.args.near.front.long _ c.set_short_line.ensures _ (omega arith) (omega arith);
+          _ _ c.requires.short.0 c.requires.short.1 _ c.set_short_line.ensures _ (omega arith) (omega arith);
       room = c.self.invariant.room;
     }
 

@@ -1,8 +1,10 @@
 -- The row of the mask has indices below 16, so the shuffle by it is defined. It moves the selected lanes to the front,
 -- so these are the first of the bytes that are stored.
 use Rattle.ptflow.proofs
-use proofs.Common.{◌∙◌, [], refl, slice_index_or, arith, w8, swz_l, length-swz_l, SwzOk-from_below, ones-le, count_ones}
-use proofs.Vectors.Compress.{row_lanes, row_of_mask, row_selects, selected_stored}
+use proofs.Common.{◌∙◌, ◌++◌, [], ap, take, refl, slice_index_or, get_or, arith, w8, swz_l, length-swz_l}
+use proofs.Common.{SwzOk-from_below}
+use proofs.Vectors.Compress.{few_in_row, length-flags_of, row_lanes, row_of_mask, row_selects, selected_stored}
+use Rattle.ptflow.specs.Private.Vectors.Compress.{IsCompressRow}
 use proofs.simd.compress.CompressTable.compress8.Goals as goal
 
 pub swizzle : goal.swizzle
@@ -13,13 +15,15 @@ swizzle c =
 pub returns-clause-packed : goal.returns-clause-packed
 returns-clause-packed c flags long masked =
     let v = c.args.v in
-    let table = c.args.self.now.is_table in
-    let rows = c.args.self.now.rows in
-    let row = slice_index_or rows c.from.result [] in
-    rw (
-      selected_stored c.args.at (count_ones c.args.keep) c.args.into.now (swz_l w8 16 v 0 row)
-          (length-swz_l w8 16 v 0 row ∙ (row_of_mask rows c.from.result table (omega arith)).long)
-          (omega (arith, ones-le 8 c.args.keep c.ranges.keep.fits)) (omega arith),
-      c.from.ensures,
-      row_selects flags rows {mask = c.args.keep} v c.fits-v.0 table long masked,
+    let row = slice_index_or c.args.self.now.rows c.from.result [] in
+    let is : IsCompressRow flags row = rw (c.from.ensures, masked) (c.args.self.now.is_table flags long) in
+    rw c.from-count.ensures (
+    selected_stored c.args.at (get_or row 15 0) c.args.into.now (swz_l w8 16 v 0 row)
+    (length-swz_l w8 16 v 0 row ∙ is.long) (omega (arith, few_in_row flags row is)) (omega arith)
+    ∙ ap (λ kept. take c.args.at c.args.into.now ++ kept) (row_selects flags row v c.fits-v.0 long is)
     )
+
+pub returns-clause-end : goal.returns-clause-end
+returns-clause-end c =
+    let is = row_of_mask c.args.self.now.rows c.from.result c.args.self.now.is_table (omega arith) in
+    (omega arith, omega (arith, few_in_row _ _ is, length-flags_of 8 c.from.result))

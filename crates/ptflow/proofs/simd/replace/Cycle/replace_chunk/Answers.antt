@@ -7,25 +7,25 @@ use proofs.PasteLemmas.Replaced.{replace_starts, end_within, replace_next, repla
 use proofs.simd.replace.Cycle.replace_chunk.Goals as goal
 
 pub loop-after-init : goal.loop-after-init
-loop-after-init c = replace_starts c.requires.room c.requires.same c.match_mask-mask.ensures
+loop-after-init c = replace_starts c.requires.room c.requires.same c.mask_at-mask.ensures
 
 pub bounds-to-end : goal.bounds-to-end
-bounds-to-end c = end_within c.loop-after.invariant c.match_mask-mask.ensures (omega arith)
+bounds-to-end c = end_within c.loop-after.invariant c.mask_at-mask.ensures (omega arith)
 
 pub loop-after-preserved : goal.loop-after-preserved
 loop-after-preserved c =
     let v = chunk c.args.at 64 c.args.from.now in
     let p = is_byte c.args.self.now.terminator in
     let number = c.args.index + c.loop-after.after in
-    let counted : count_ones c.match_mask-mask.result ≡ count_by p v = rw (c.match_mask-mask.ensures, ones-mask_l) in
+    let counted : count_ones c.mask_at-mask.result ≡ count_by p v = rw (c.mask_at-mask.ensures, ones-mask_l) in
     let low : number < c.args.self.now.len + 63 =
     omega (arith, count_by-le-length p v, length-chunk c.args.at 64 c.args.from.now c.requires.room) in
-    replace_next c.loop-after.invariant c.match_mask-mask.ensures c.loop-after-test.true
+    replace_next c.loop-after.invariant c.mask_at-mask.ensures c.loop-after-test.true
     c.loop-after.auto.mask-fits.fits (c.args.self.now.is_unrolled.at number low) refl refl
 
 pub returns-clause-next : goal.returns-clause-next
-returns-clause-next c = rw (c.match_mask-mask.ensures, ones-mask_l) at c.after.ensures
+returns-clause-next c = rw (c.mask_at-mask.ensures, ones-mask_l) at c.after.ensures
 
 pub returns-clause-replaced : goal.returns-clause-replaced
 returns-clause-replaced c =
-    let (_, replaced) = replace_end c.loop-after.invariant c.match_mask-mask.ensures (omega arith) in replaced
+    let (_, replaced) = replace_end c.loop-after.invariant c.mask_at-mask.ensures (omega arith) in replaced

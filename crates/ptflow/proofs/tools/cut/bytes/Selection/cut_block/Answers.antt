@@ -22,7 +22,7 @@ loop-from-preserved c =
           })
       | else-mask-ne0 w ↦
           let none = ap count_ones w.if-mask-ne0.false ∙ ones-mask_l p [] in
-          let counted = ap count_ones c.match_mask-mask.ensures ∙ ones-mask_l p _ in
+          let counted = ap count_ones c.mask_at-mask.ensures ∙ ones-mask_l p _ in
           rw (w.into-is, w.line-is) (record {
             within = omega arith;
             same = (omega arith, omega (arith, count_chunk p c.args.block.now loop.from));

@@ -1,0 +1,11 @@
+-- A match in a chunk is the first one, as the chunks before it have none.
+use Rattle.ptlines.proofs
+use proofs.Common.{arith}
+use proofs.MatchMasks.{nowhere_trans}
+use proofs.scan.find_byte.Goals as goal
+
+pub returns-in-Some-find_in_chunk : goal.returns-in-Some-find_in_chunk
+returns-in-Some-find_in_chunk g c = grind (arith, nowhere_trans)
+
+pub chunks-preserved : goal.chunks-preserved
+chunks-preserved g c = grind (arith, nowhere_trans)
