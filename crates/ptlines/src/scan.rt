@@ -138,6 +138,7 @@ pub fn nth_bit(mask: u64, count: u64) -> usize
 {
     let mut rest = mask;
     let mut left = count;
+    // A loop with two conditions is not unrolled, so that the functions it is in stay small enough to be inlined.
     while left > 0 && rest != 0 {
         rest &= rest - 1;
         left -= 1;
@@ -366,8 +367,8 @@ fn find_later<M: Needle>(needle: M, bytes: &[u8], from: usize) -> Option<usize>
     Some(window.end + at)
 }
 
-/// Returns the index of the first match, like `find_byte`, by less code where it is inlined. It is as fast if the match is
-/// among the first 16 bytes, as the end of a field often is.
+/// Returns the index of the first match, like `find_byte`, by less code where it is inlined. It is as fast if the match
+/// is among the first 16 bytes, as the end of a field often is.
 #[inline(always)]
 pub fn find_near<M: Needle>(needle: M, bytes: &[u8]) -> Option<usize>
     ensures { IsFirstByte (M.test needle) bytes.now result }

@@ -1,5 +1,5 @@
 -- Each iteration clears one more bit. After `count` of them the lowest bit that is left is the match after `count`
--- others. While a bit is to be cleared, one is set.
+-- others. A mask of more than `count` set bits is not zero before that.
 use Rattle.ptlines.proofs
 use Rattle.std.proofs.Common.{◌≡◌, ◌-◌, suc, map, arith, refl}
 use proofs.MatchWindows.{and_less, after_set, without}

@@ -1,4 +1,4 @@
--- The window has the last bytes, or the next 64.
+-- A window of fewer than 64 bytes has the last ones.
 use Rattle.ptlines.proofs
 use proofs.Common.{arith}
 use proofs.MatchWindows.{last_window}
