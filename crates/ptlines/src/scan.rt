@@ -352,7 +352,7 @@ pub(crate) fn find_in_64<M: Needle>(needle: M, bytes: &[u8]) -> Option<usize>
     find_in_chunk::<64, M>(needle, bytes, 0)
 }
 
-// Finds the first match from `from` on. Out of line, since few matches are that far (`join`).
+// Finds the first match from `from` on. Out of line, since few matches are that far, or in so few bytes (`join`).
 #[inline(never)]
 fn find_later<M: Needle>(needle: M, bytes: &[u8], from: usize) -> Option<usize>
     requires within { from ≤ length bytes.now }
