@@ -180,7 +180,7 @@ fn write_line<A: Allocator + Copy, W: Sink>(
 }
 
 // Copies a slice like `copy_short`, and as one vector also if it has 17 to 32 bytes, as the time in a log often does.
-// Most slices have at most 16, which is tested first.
+// Most slices have at most 16 bytes, which is tested first.
 #[inline(always)]
 fn copy_slice(bytes: &[u8], slice: LineSlice, into: &mut [u8], at: usize)
     requires within { (slice.start ≤ slice.end) × (slice.end ≤ length bytes.now) }
