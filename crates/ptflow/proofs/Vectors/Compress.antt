@@ -10,8 +10,9 @@ use proofs.Common.{pick_l-range_with_len, take-map, take-append-le, drop-append-
 use proofs.Common.{length-range_with_len, get_or-range_with_len, and_numeral, not, eqb, filter, append-nil}
 use proofs.Common.{take-append-drop, take-add, zip2, drop-drop, drop_all, length-chunk, length-zip2, bit_and}
 use proofs.Common.{keep_flags, kept_bytes, FilterPre, bit_or, rules}
-use proofs.Common.{slice_index_or, sym, ◌∙◌, take_all}
+use proofs.Common.{slice_index_or, sym, ◌∙◌, ◌-◌, take_all, take-take, drop-take}
 pub use proofs.Vectors.Lanes.{shuffle_result}
+use Rattle.ptlines.proofs.CopyFacts.{copied_prefix}
 use Rattle.ptlines.proofs.MatchMasks.{mask_append}
 use Rattle.std.proofs.lemmas.Nat.{le_or_l, le_or_r}
 use Rattle.ptflow.specs.Private.Vectors.Compress.{IsCompressTable, IsCompressRow, select_by, true_indices}
@@ -50,6 +51,36 @@ all_selected [] [] same all = refl
 all_selected [] (x ∷ xs) same all = absurd (omega arith)
 all_selected (flag ∷ flags) [] same all = absurd (omega arith)
 all_selected (flag ∷ flags) (x ∷ xs) same all = grind (arith, all_selected flags xs)
+
+pub all_but_one : {X : Type 0} (flags : List Bool) (xs : List X) (k : ℕ) → length xs ≡ length flags
+    → k < length flags → mask_l flags + 2 ^ k + 1 ≡ 2 ^ length flags
+    → select_by flags xs ≡ take k xs ++ drop (k + 1) xs
+all_but_one [] xs k same within but_one = absurd (omega arith)
+all_but_one (flag ∷ flags) [] k same within but_one = absurd (omega arith)
+all_but_one (flag ∷ flags) (x ∷ xs) zero same within but_one = grind (arith, all_selected flags xs)
+all_but_one (flag ∷ flags) (x ∷ xs) (suc k) same within but_one = grind (arith, all_but_one flags xs k)
+
+-- a chunk was stored after the first `count` bytes, and then again what follows one byte of it
+pub stored_again : (at count k : ℕ) (from into once twice : List ℕ) → k < 64 → count ≤ length into
+    → count + k ≤ length once → take (count + 64) once ≡ take count into ++ chunk at 64 from
+    → take (count + k + 64) twice ≡ take (count + k) once ++ chunk (at + k + 1) 64 from
+    → take (count + 63) twice ≡ take count into ++ (take k (chunk at 64 from) ++ drop (k + 1) (chunk at 64 from))
+stored_again at count k from into once twice low room room_once is_once is_twice =
+    let n = 63 - k in
+    let all : k + 1 + n ≡ 64 = omega arith in
+    let size : count + k + n ≡ count + 63 = omega arith in
+    let after : at + (k + 1) ≡ at + k + 1 = omega arith in
+    cc (
+      all,
+      size,
+      after,
+      copied_prefix count k 64 into once (drop at from) room (omega arith) is_once,
+      copied_prefix (count + k) n 64 once twice (drop (at + k + 1) from) room_once (omega arith) is_twice,
+      take-take k 64 (drop at from) (omega arith),
+      drop-take (k + 1) n (drop at from),
+      drop-drop (k + 1) at from,
+      append_assoc (take count into) (take k (chunk at 64 from)) (drop (k + 1) (chunk at 64 from)),
+    )
 
 -- those of a piece of the items after the first k
 pub select_more : {X : Type 0} (flags : List Bool) (k n : ℕ) (xs : List X) → k + n ≤ length flags

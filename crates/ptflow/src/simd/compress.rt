@@ -2,7 +2,7 @@
 //! `filter` uses these. The rows of the `CompressTable`, which `tr` makes, are byte shuffles that move the selected
 //! bytes of eight to the front.
 
-ghost use Rattle.std.specs.Prelude.{◌≡◌, ◌≤◌, ◌+◌, ◌++◌, ℕ, List, Bool, length, take};
+ghost use Rattle.std.specs.Prelude.{◌≡◌, ◌<◌, ◌≤◌, ◌+◌, ◌++◌, ℕ, List, Bool, length, take, drop};
 ghost use Rattle.std.specs.Simd.Lanes.{mask_l, chunk};
 ghost use Rattle.ptflow.specs.Private.Vectors.Compress.{ChunkPre, IsCompressTable, IsCompressRow, select_by};
 
@@ -91,6 +91,12 @@ impl CompressTable {
         if keep == u64::MAX {
             return copy_chunk(from, at, into, count);
         }
+        // One byte is often removed (`tr -d '\r'`). Then up to 64 bytes after the chunk are read as well.
+        let removed = !keep;
+        let index = removed.trailing_zeros() as usize;
+        if removed == 1 << index && from.len() - at >= 128 {
+            return copy_all_but(from, at, index, into, count);
+        }
         let mut rest = keep;
         for piece in 0..4 {
             let v = u8x16::from_slice(&from[at + 16 * piece..]);
@@ -104,11 +110,34 @@ impl CompressTable {
 // Appends the 64 bytes at index `at` to the first `count` bytes of `into`. Returns the new count.
 #[inline(always)]
 pub(crate) fn copy_chunk(from: &[u8], at: usize, into: &mut PaddedBlock, count: usize) -> usize
-    requires { ChunkPre from.now at count }
+    requires lanes { at + 64 ≤ length from.now }
+    requires room { count + 64 ≤ PADDED }
     ensures copied { take result into.new ≡ take count into.old ++ chunk at 64 from.now }
     ensures end { result ≡ count + 64 }
 {
     let into: &mut [u8] = into;
     u8x64::from_slice(&from[at..]).copy_to_slice(&mut into[count..]);
     count + 64
+}
+
+// Appends the 64 bytes at index `at`, without the one at index `removed` among them, to the first `count` bytes of
+// `into`. Returns the new count. All are stored first; then 64 bytes from the one after the removed byte on are stored
+// over it.
+#[inline(always)]
+fn copy_all_but(
+    from: &[u8],
+    at: usize,
+    removed: usize,
+    into: &mut PaddedBlock,
+    count: usize,
+) -> usize
+    requires chunk { ChunkPre from.now at count }
+    requires after { (removed < 64) × (at + 128 ≤ length from.now) }
+    ensures copied { let bytes = chunk at 64 from.now in
+        take result into.new ≡ take count into.old ++ (take removed bytes ++ drop (removed + 1) bytes) }
+    ensures end { result ≡ count + 63 }
+{
+    copy_chunk(from, at, into, count);
+    copy_chunk(from, at + removed + 1, into, count + removed);
+    count + 63
 }

@@ -1,8 +1,13 @@
--- If all flags are set, the chunk is what they select. Otherwise each piece has 16 flags more.
+-- All flags, if they are set, select the chunk; all but one select the chunk without one byte. Otherwise each piece has
+-- 16 flags more.
 use Rattle.ptflow.proofs
 use proofs.Common.{◌≡◌, ◌+◌, ◌*◌, ◌++◌, ◌∙◌, ap, arith, sym, take, drop, chunk, length-chunk, take_all, append_assoc}
-use proofs.Common.{drop-drop}
-use proofs.Vectors.Compress.{all_selected, select_by_prefix, select_more, piece_long, piece_mask, other_pieces}
+use proofs.Common.{drop-drop, ◌-◌, ◌^◌, mask_l}
+use Rattle.std.specs.Int.{w64}
+use Rattle.std.specs.Int.Count.{count_trailing_zeros}
+use Rattle.std.proofs.lemmas.Nat.{one_shl}
+use Rattle.std.proofs.lemmas.Nat.Bits.{bit_at-trailing_zeros}
+use proofs.Vectors.Compress.{all_selected, all_but_one, select_by_prefix, select_more, piece_long, piece_mask, other_pieces}
 use Rattle.ptflow.specs.Private.Vectors.Compress.{select_by}
 use proofs.simd.compress.CompressTable.compress64.Goals as goal
 
@@ -13,6 +18,19 @@ returns-then-keep-eq18446744073709551615-clause-packed c flags long masked =
     let size = length-chunk c.args.at 64 c.args.from.now c.requires.lanes in
     let all : select_by flags bytes ≡ bytes = all_selected flags bytes (omega arith) (rw long (omega arith)) in
     c.copy_chunk.ensures.copied ∙ ap (λ kept. take c.args.count c.args.into.now ++ kept) (sym all)
+
+pub returns-then-from-at-ge128-clause-packed : goal.returns-then-from-at-ge128-clause-packed
+returns-then-from-at-ge128-clause-packed c flags long masked =
+    let bytes = chunk c.args.at 64 c.args.from.now in
+    let removed = 18446744073709551615 - c.args.keep in
+    let index = count_trailing_zeros 64 removed in
+    let size = length-chunk c.args.at 64 c.args.from.now c.requires.lanes in
+    let low = (bit_at-trailing_zeros w64 removed (omega arith) (omega arith)).0 in
+    let power : removed ≡ 2 ^ index = c.if-removed-index.true ∙ one_shl index 64 low in
+    let but_one : mask_l flags + 2 ^ index + 1 ≡ 2 ^ 64 = omega (arith, power) in
+    c.copy_all_but.ensures.copied
+    ∙ ap (λ kept. take c.args.count c.args.into.now ++ kept)
+    (sym (all_but_one flags bytes index (omega arith) (omega arith) (rw long but_one)))
 
 pub loop-piece-preserved : goal.loop-piece-preserved
 loop-piece-preserved c = record {
