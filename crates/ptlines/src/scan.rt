@@ -98,10 +98,13 @@ pub fn masks_of<A: Needle, B: Needle>(a: A, b: B, bytes: &[u8]) -> (u64, u64)
     ensures second { result.1 ≡ mask_l (map (B.test b) bytes.now) }
 {
     let size = bytes.len();
-    if size >= 32 {
-        masks_of_ends::<32, A, B>(a, b, bytes)
-    } else if size >= 16 {
-        masks_of_ends::<16, A, B>(a, b, bytes)
+    // Nested, so that fewer than 16 bytes, as there often are, take one comparison less.
+    if size >= 16 {
+        if size >= 32 {
+            masks_of_ends::<32, A, B>(a, b, bytes)
+        } else {
+            masks_of_ends::<16, A, B>(a, b, bytes)
+        }
     } else if size >= 8 {
         masks_of_ends::<8, A, B>(a, b, bytes)
     } else if size >= 4 {
@@ -352,7 +355,22 @@ pub(crate) fn find_in_64<M: Needle>(needle: M, bytes: &[u8]) -> Option<usize>
     find_in_chunk::<64, M>(needle, bytes, 0)
 }
 
-// Finds the first match from `from` on. Out of line, since few matches are that far, or in so few bytes (`join`).
+// Finds the first match among fewer than 64 bytes. Out of line, so that the functions that `find_near` is inlined in
+// stay small.
+#[inline(never)]
+fn find_few<M: Needle>(needle: M, bytes: &[u8]) -> Option<usize>
+    requires { length bytes.now < 64 }
+    ensures { IsFirstByte (M.test needle) bytes.now result }
+{
+    let mask = masks_of(needle, needle, bytes).0;
+    if mask == 0 {
+        return None;
+    }
+    Some(mask.trailing_zeros() as usize)
+}
+
+// Finds the first match from `from` on. Out of line, since few matches are that far, or in so short a text.
+#[cold]
 #[inline(never)]
 fn find_later<M: Needle>(needle: M, bytes: &[u8], from: usize) -> Option<usize>
     requires within { from ≤ length bytes.now }
@@ -362,6 +380,9 @@ fn find_later<M: Needle>(needle: M, bytes: &[u8], from: usize) -> Option<usize>
     let window = MatchWindow::new(needle, bytes, from);
     if window.mask != 0 {
         return Some(from + window.mask.trailing_zeros() as usize);
+    }
+    if window.end == bytes.len() {
+        return None;
     }
     let at = needle.find(&bytes[window.end..])?;
     Some(window.end + at)
@@ -374,7 +395,7 @@ pub fn find_near<M: Needle>(needle: M, bytes: &[u8]) -> Option<usize>
     ensures { IsFirstByte (M.test needle) bytes.now result }
 {
     if bytes.len() < 16 {
-        return find_later(needle, bytes, 0);
+        return find_few(needle, bytes);
     }
     if let Some(at) = find_in_chunk::<16, M>(needle, bytes, 0) {
         return Some(at);
@@ -382,25 +403,21 @@ pub fn find_near<M: Needle>(needle: M, bytes: &[u8]) -> Option<usize>
     find_later(needle, bytes, 16)
 }
 
-/// Returns the index of the first match, like `memchr`. It is faster than `memchr` if the match is among the first 112
-/// bytes, as the end of a line often is, or if there are fewer bytes.
+/// Returns the index of the first match, like `memchr`. It is faster than `memchr` if the match is among the first 128
+/// of more bytes, as the end of a line often is.
 #[inline(always)]
 pub fn find_byte<M: Needle>(needle: M, bytes: &[u8]) -> Option<usize>
     ensures { IsFirstByte (M.test needle) bytes.now result }
 {
     let mut from = 0;
-    if bytes.len() >= 16 {
-        if let Some(at) = find_in_chunk::<16, M>(needle, bytes, 0) {
+    // If there are at most 128 bytes, all are left to `find_later`, so that no chunk has to be compared with the end.
+    // Chunks of 16 bytes would take fewer instructions, but their number would differ from one short line to the next,
+    // and jumps that depend on it are mispredicted (`comm` of words).
+    'chunks: while from <= 96 && bytes.len() > 128 {
+        if let Some(at) = find_in_chunk::<32, M>(needle, bytes, from) {
             return Some(at);
         }
-        from = 16;
-    }
-    // The rest of at most 112 bytes is left to `find_later`, so that no chunk has to be compared with the end.
-    'chunks: while from <= 96 && bytes.len() > 112 {
-        if let Some(at) = find_in_chunk::<16, M>(needle, bytes, from) {
-            return Some(at);
-        }
-        from += 16;
+        from += 32;
     }
     find_later(needle, bytes, from)
 }
@@ -450,7 +467,7 @@ impl<'a, M: Needle> Matches<'a, M> {
                 bytes,
                 mask: 0,
                 size: 0,
-                first_match: find_byte(needle, bytes),
+                first_match: find_near(needle, bytes),
             };
         }
         let window = MatchWindow::of_64(needle, bytes, 0);

@@ -4,8 +4,8 @@ use proofs.Common.{arith}
 use proofs.MatchMasks.{nowhere_trans}
 use proofs.scan.find_byte.Goals as goal
 
-pub returns-in-Some-find_in_chunk : goal.returns-in-Some-find_in_chunk
-returns-in-Some-find_in_chunk g c = grind (arith, nowhere_trans)
+pub returns-in-Some : goal.returns-in-Some
+returns-in-Some g c = grind (arith, nowhere_trans)
 
 pub chunks-preserved : goal.chunks-preserved
 chunks-preserved g c = grind (arith, nowhere_trans)

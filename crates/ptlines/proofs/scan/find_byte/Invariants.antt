@@ -11,4 +11,4 @@ invariant-chunks g l = record {
 }
 
 abbrev pub decreases-chunks : goal.decreases-chunks
-decreases-chunks g l = 112 - l.from
+decreases-chunks g l = 128 - l.from
