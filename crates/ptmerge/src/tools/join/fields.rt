@@ -220,8 +220,9 @@ fn first_piece_end(separator: Option<u8>, bytes: &[u8]) -> usize
 }
 
 // Returns the span of the field with this number, or an empty span if there is none. This is the general case of
-// `field_span`.
+// `field_span`, and out of line so that the usual one is short.
 #[cold]
+#[inline(never)]
 fn field_span_slow(separator: Option<u8>, number: u64, line: &[u8]) -> Span
     ensures { IsKeySpan line.now (nth_field number (remaining_fields separator (Some line.now))) result }
 {
