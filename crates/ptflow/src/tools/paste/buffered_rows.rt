@@ -40,14 +40,15 @@ fn copy_16(
 }
 
 // Copies the line at the start of `bytes` to `at`, as vectors of 16 bytes, each of which is searched for the
-// terminator. Returns its length; `None` if it does not end in a vector that is within `bytes` and the block. The first
-// vector, in which most lines end, is apart from the loop (`paste` of 2 files).
+// terminator. Returns its length; `None` if it does not end in a vector that is within `bytes` and the block, or if
+// fewer than 32 bytes are left in one of these. The first vector, in which most lines end, is apart from the loop
+// (`paste` of 2 files). A second one is within both, so the loop begins without a comparison.
 #[inline(always)]
 fn copy_by_16(terminator: u8, bytes: &[u8], into: &mut PaddedBlock, at: usize) -> Option<usize>
     ensures line { IfSome result (IsLineCopied terminator bytes.now at into.old into.new) }
     ensures none { IfNone result (take at into.new ≡ take at into.old) }
 {
-    if bytes.len() < 16 || at >= BLOCK - 16 {
+    if bytes.len() < 32 || at > BLOCK - 32 {
         return None;
     }
     if let Some(count) = copy_16(terminator, bytes, 0, into, at) {
