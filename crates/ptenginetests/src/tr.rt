@@ -4,6 +4,7 @@
 
 use crate::asserts::assert_for;
 use crate::one_input::{Case, Job, LONG, NO_FAILURE, SHORT, check_run};
+use ptfakes::texts::text_of;
 use ptflow::{FlowFault, translate};
 use ptlangs::{CharPlan, Form, Shifts};
 use ptlines::BLOCK;
@@ -280,4 +281,23 @@ fn each_length(rt: HostRuntime) {
         }
     }
     check_plan(&rt, rt.alloc(), BLOCK_EXAMPLE, true);
+}
+
+// One byte of the first 64 is deleted. They are followed by 64 bytes, which are stored with them, or by 63.
+#[test]
+fn one_byte_among_64(rt: HostRuntime) {
+    let plan = plan_of(&rt, (Form::Delete, false, b"\\r", None));
+    for after in 63..65 {
+        for index in 0..64 {
+            let lengths = [index, 63 - index + after];
+            let text = text_of(rt.alloc(), &lengths, b'\r', false).expect(&rt, "a text");
+            let all = expected_output(rt.alloc(), &plan, &text).expect(&rt, "an output");
+            let case = Case {
+                text: &text,
+                size: usize::MAX,
+                ..NO_FAILURE
+            };
+            check_run(&rt, rt.alloc(), (Job::Tr(&plan), &case), Ok(()), &all);
+        }
+    }
 }
