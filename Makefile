@@ -2,9 +2,9 @@
 # make try WORDS='cut -c 1' compiles the program and runs it on standard input, in a minute: nothing is proved
 # make check                while working: proves what changed since SINCE, what uses it, its tests, and the wrong bodies
 #                           of the changed crates (SINCE=COMMIT; origin/main where it is known, else HEAD~1)
-# make test                 the gate: every proof, most wrong bodies, all tests; then all tests of the program that it
-#                           built, and of the static program, the library, the Python module and the page, which are
-#                           built from what it proved (needs gcc and libc6-dev). It names what it leaves out
+# make test                 the gate: every proof, most wrong bodies, all tests; then all tests of the program, the
+#                           static one, the library, the Python module and the page, which are built from what it
+#                           proved (needs gcc and libc6-dev). It names what it leaves out
 # make must-fail            tries the wrong bodies that the gate leaves out: before a release
 # make check-program        all tests of a built program (PROGRAM=build/ptext): nothing is proved, and no toolchain needed
 # make static               build/ptext-static: the program as one file that needs no shared libraries, with musl where
@@ -94,7 +94,7 @@ endif
 
 # (The tests of a built program take build/ptext as it is.)
 ifndef PTEXT_AS_BUILT
-build/ptext: $(SOURCES)
+build/ptext: $(SOURCES) tools/builder/compiling.py
 	python3 tools/builder program
 endif
 

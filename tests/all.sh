@@ -1,7 +1,7 @@
 #!/bin/sh
-# The gate: every proof and most wrong bodies. Then the program that the gate built, and the static program, the library,
-# the Python module, the page and the one file, built from what it has just proved; and all tests of these. The last
-# line is the gate's; if more failed than the gate tried, that is counted there.
+# The gate: every proof and most wrong bodies. Then the program, the static one, the library, the Python module, the page
+# and the one file, built from what it has just proved; and all tests of these. The last line is the gate's; if more
+# failed than the gate tried, that is counted there.
 # usage: tests/all.sh
 set -eu
 cd "$(dirname "$0")/.."
@@ -38,17 +38,14 @@ if grep 'BAD EDIT\|says little of the contract' "$log"; then
     fail "a wrong body does not show that a contract refuses it"
 fi
 [ -x crates/ptext/out/ptext ] || fail "rt ci made no program"
-# The program appears in build/ whole, since an earlier one may be running. It is no older than its source.
-cp crates/ptext/out/ptext build/ptext.new
-mv build/ptext.new build/ptext
-# The object file is there only if the program was proved anew. An earlier one stays: `make static` takes it only if it
-# makes the same program.
-if [ -e crates/ptext/out/ptext.o ]; then
-    cp crates/ptext/out/ptext.o build/ptext.o.new
-    mv build/ptext.o.new build/ptext.o
-fi
 unset MAKEFLAGS MFLAGS MAKELEVEL
-for target in static lib page second $(has wasm-opt wasm2c && echo onefile); do
+# (By the script: make would keep a program of an earlier run that is newer than its source.)
+follow "$log" python3 tools/builder program || fail "make"
+# (The gate has judged what a program calls, of the one that it made.)
+[ "$(nm -D --undefined-only build/ptext)" = "$(nm -D --undefined-only crates/ptext/out/ptext)" ] ||
+    fail "build/ptext calls what the gate has not judged"
+follow "$log" python3 tools/builder static || fail "make static"
+for target in lib page second $(has wasm-opt wasm2c && echo onefile); do
     follow "$log" make --no-print-directory "$target" || fail "make $target"
 done
 ! has aarch64-linux-gnu-gcc || follow "$log" make --no-print-directory -j2 static lib TARGET=aarch64 ||

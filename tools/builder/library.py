@@ -11,6 +11,7 @@ import os
 import shutil
 import subprocess
 
+from compiling import find_toolchain
 from linking import FLAGS, GLIBC, MUSL
 from project import TOP, Failed, put, read_version, run, say, write_text
 from proving import Crates, describe_kept, prove
@@ -47,7 +48,7 @@ def make_words(kit, room, crates, kept, target):
     """The words with which the compiler proves the crate for a target and compiles it to an archive."""
     words = [*crates.make_words(kit, room, "src/lib.rt"), "--crate-type", "staticlib", "--target", target]
     words += ["--logic-built", f"{kit}/logic_built", "--jobs", "2", "--incremental", kept]
-    return [f"{kit}/bin/rattle", "build", *words, "--toolchain", f"{kit}/toolchain"]
+    return [f"{kit}/bin/rattle", "build", *words]
 
 
 def find_called(archive, processor):
@@ -121,6 +122,7 @@ def build(kit, place, processor, _):
         shutil.copytree(other, kept)
     os.makedirs(folder, exist_ok=True)
     words = make_words(kit, room, crates, kept, processor.triple)
+    words += ["--toolchain", find_toolchain(kit, place, processor)]
     run([*words, "-o", archive], f"{TOP}/crates/{CRATE}")
     bind(archive, processor, place)
     for libc, to in ((MUSL, f"{folder}/musl"), (GLIBC, folder)):

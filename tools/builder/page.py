@@ -23,6 +23,7 @@ import tempfile
 
 sys.path.append(os.path.join(os.path.dirname(os.path.dirname(os.path.dirname(os.path.realpath(__file__)))), "tests"))
 
+from compiling import make_toolchain
 from examples import find_examples
 from library import CRATE, KEPT, make_words
 from names import NAMES
@@ -39,8 +40,9 @@ TABLE, EXPORTS, ELEMENTS = 4, 7, 9
 FEATURES = ["bulk-memory", "multivalue", "mutable-globals", "nontrapping-float-to-int", "sign-ext", "simd"]
 # The programs that make a module with vectors.
 NEEDED = ["wasm-opt", "wasm2wat", "wat2wasm"]
-# Options of the compiler for it. It inlines a function into its only caller even if both are large, and V8 needs memory
-# by the largest function. All costs and limits are four times the usual ones, except the bonus for an only caller.
+# Options of clang for it. (The compiler hands none on.) It inlines a function into its only caller even if both are
+# large, and V8 needs memory by the largest function. All costs and limits are four times the usual ones, except the
+# bonus for an only caller.
 FOR_V8 = "-msimd128 -mllvm -inline-instr-cost=20 -mllvm -inline-threshold=1000 -mllvm -inlinehint-threshold=1300"
 # The loads and stores of vectors whose addresses wasm-opt 108 leaves at 64 bits, in the text of a module. The address
 # is the last operand; in those of one lane, the one before the vector.
@@ -162,8 +164,7 @@ def copy_crate(kit, place, room, crates):
 
 def compile_crate(kit, place, words, toolchain):
     """The bytes of a module with 64-bit addresses. (The second time its proof is kept.)"""
-    words = [toolchain if it == f"{kit}/toolchain" else it for it in words]
-    run([*words, "-o", f"{place}/ptext.a"], f"{place}/{CRATE}")
+    run([*words, "--toolchain", toolchain, "-o", f"{place}/ptext.a"], f"{place}/{CRATE}")
     link = ["--target", WASM, "--toolchain", toolchain, "--stack", str(STACK)]
     run([f"{kit}/bin/rattle-link", *link, "-o", f"{place}/ptext64.wasm", f"{place}/ptext.a"], place)
     with open(f"{place}/ptext64.wasm", "rb") as file:
@@ -183,26 +184,13 @@ def make_modules(kit, place, words):
         say("there is no wabt (on Debian: apt install binaryen wabt): the module has no vectors, and is slower")
         shutil.copy(to, f"{place}/ptext.wasm")
         return
-    vectors, to = compile_crate(kit, place, words, make_toolchain(kit, place)), f"{place}/ptext.wasm"
+    vectors, to = compile_crate(kit, place, words, make_toolchain(kit, place, FOR_V8)), f"{place}/ptext.wasm"
     write_bytes(to, reduce(vectors))
     wide = ["--enable-memory64", "--no-check"]
     run(["wasm2wat", *wide, to, "-o", f"{to}.wat"], place)
     write_text(f"{to}.wat", narrow_vectors(read_text(f"{to}.wat")))
     run(["wat2wasm", *wide, f"{to}.wat", "-o", to], place)
     lower(to)
-
-
-def make_toolchain(kit, place):
-    """Makes a toolchain whose clang compiles to vectors of WebAssembly. (The compiler has no option for them.)"""
-    made, of_kit = f"{place}/toolchain", f"{kit}/toolchain"
-    for folder in ("bin", "lib"):
-        os.makedirs(f"{made}/{folder}")
-        for name in os.listdir(f"{of_kit}/{folder}"):
-            os.symlink(f"{of_kit}/{folder}/{name}", f"{made}/{folder}/{name}")
-    os.remove(f"{made}/bin/clang")
-    write_text(f"{made}/bin/clang", f'#!/bin/sh\nexec {shlex.quote(of_kit)}/bin/clang "$@" {FOR_V8}\n')
-    os.chmod(f"{made}/bin/clang", 0o755)
-    return made
 
 
 def narrow_vectors(text):

@@ -5,7 +5,7 @@ on this machine is proved again, whether by `make`, by `make test` or in another
 One run of the gate gives each crate one processor while other crates wait to be proved. If the gate keeps what it
 proved, crates that do not depend on each other are therefore proved first, each in a run of its own, all at the same
 time, and each run uses two processors. If there are too few for that, the largest crate has two, and each of the others
-one. The last run proves the rest and builds the program. If the gate keeps nothing, one run does all.
+one. The last run proves the rest. If the gate keeps nothing, one run does all.
 
 In `make test`, whose gate has just proved all crates, they are not proved again, whatever the kit keeps.
 """
@@ -163,8 +163,8 @@ def run_gates(runs, room, progress):
 
 
 def prove(crates, place):
-    """Proves these crates in a room in this place, and builds the program there, if it is one of them. Returns the
-    room, which is this folder if the gate has just proved them in it."""
+    """Proves these crates in a room in this place. Returns the room, which is this folder if the gate has just proved
+    them in it."""
     if is_in_gate(crates):
         return TOP
     room, progress = f"{place}/room", Progress(len(crates.names))

@@ -4,17 +4,18 @@ It takes what the gate proved, checks the crate of the program once more, and co
 with the C of native/. Nobody is given this program, which is slower: tests/witness.py compares it with build/ptext, so
 that a fault of one compiler alone would be seen.
 """
+from compiling import compile_object, find_crates
 from linking import PROGRAM, SHARED
 from project import TOP, put, say
-from static import compile_object, find_room
+from proving import prove
 
 
 def build(kit, place, processor, _):
     processor.check_compiler("make second")
     say("making the program by Rattle's own compiler: some two minutes, once the libraries are proved")
-    crates, room = find_room(place)
+    crates = find_crates()
     made, linked = f"{place}/{PROGRAM}.o", f"{place}/{PROGRAM}-second"
-    compile_object(kit, place, room, crates, processor, made, "rattle")
+    compile_object(kit, place, prove(crates, place), crates, processor, made, "rattle")
     processor.link(SHARED, made, linked, place)
     put(linked, f"{TOP}/build/{PROGRAM}-second")
     return f"build/{PROGRAM}-second"

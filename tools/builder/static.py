@@ -6,17 +6,16 @@
   ptext-static.libc        the name of the C library that the static ones contain
   ptext                    the program with the shared C library, where the toolchain links none
 
-`make` and `make test` leave the object file as build/ptext.o if they proved the crate of the program. It is taken if
-the toolchain links it to the very bytes of build/ptext. Otherwise, and for another processor, it is made here: the gate
-puts the proved libraries into a copy of the repository, and there the crate of the program is checked once more, for
-that processor, and compiled.
+`make` and `make test` leave the object file as build/ptext.o. It is taken if the toolchain links it to the very bytes of
+build/ptext. Otherwise, and for another processor, it is made here.
 """
 import filecmp
 import os
 
+from compiling import compile_object, find_crates, link_by_toolchain
 from linking import GLIBC, PROGRAM, SHARED
-from project import ARCHIVES, TOP, Failed, put, run, say, write_text
-from proving import Crates, is_in_gate, prove
+from project import ARCHIVES, TOP, Failed, put, say, write_text
+from proving import prove
 
 
 def is_of_program(kit, place):
@@ -24,41 +23,17 @@ def is_of_program(kit, place):
     made, linked = f"{TOP}/build/{PROGRAM}.o", f"{place}/linked"
     if not os.path.exists(made):
         return False
-    words = ["--target", "x86_64-unknown-linux-gnu", "--toolchain", f"{kit}/toolchain", "-o", linked, made]
     try:
-        run([f"{kit}/bin/rattle-link", *words, *(f"{kit}/{name}" for name in ARCHIVES)], place)
+        link_by_toolchain(kit, place, made, linked)
     except Failed:
         return False
     return filecmp.cmp(linked, f"{TOP}/build/{PROGRAM}", shallow=False)
 
 
-def compile_object(kit, place, room, crates, processor, into, backend="llvm"):
-    """Checks the crate of the program in the room for a processor, once, and compiles it to an object file."""
-    words = [*crates.make_words(kit, room, "src/main.rt"), "--target", processor.triple]
-    checked, folder = f"{place}/checked-{processor.name}", f"{room}/crates/{PROGRAM}"
-    if not os.path.isdir(checked):
-        say(f"checking the crate of the program for {processor.name}")
-        how = ["--logic-built", f"{kit}/logic_built", "--jobs", "2", "-o", checked]
-        run([f"{kit}/bin/rattle", "check", *words, *how], folder)
-    words += ["--crate-checked", checked, "--toolchain", f"{kit}/toolchain", "--backend", backend, "-o", into]
-    run([f"{kit}/bin/rattle", "build", *words], folder)
-
-
-def find_room(place):
-    """The crates of the program, and a folder in which those below it are proved: this one, if the gate has just done
-    that in it, or a copy."""
-    libraries = Crates(PROGRAM, False)
-    crates = libraries if is_in_gate(libraries) else Crates(PROGRAM, True)
-    return crates, prove(crates, place)
-
-
 def make_object(kit, place, processor):
     """Makes the object file for a processor."""
-    crates, room = find_room(place)
-    made = f"{room}/crates/{PROGRAM}/out/{PROGRAM}.o"
-    if not processor.is_own or not os.path.exists(made):
-        made = f"{place}/{PROGRAM}.o"
-        compile_object(kit, place, room, crates, processor, made)
+    crates, made = find_crates(), f"{place}/{PROGRAM}.o"
+    compile_object(kit, place, prove(crates, place), crates, processor, made)
     put(made, f"{TOP}/{processor.folder}/{PROGRAM}.o")
 
 
