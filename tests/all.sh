@@ -1,7 +1,7 @@
 #!/bin/sh
-# The gate: every proof and most wrong bodies. Then the program, the static one, the library, the Python module, the page
-# and the one file, built from what it has just proved; and all tests of these. The last line is the gate's; if more
-# failed than the gate tried, that is counted there.
+# The gate: every proof and most wrong bodies. Then the program, the static one, the library, the Python module, the
+# page and the one file, built from what it has just proved; and all tests of these. The last line is the gate's; if
+# more failed than the gate tried, that is counted there.
 # usage: tests/all.sh
 set -eu
 cd "$(dirname "$0")/.."

@@ -2,7 +2,7 @@
 
 Intel's processors from Skylake to Cascade Lake decode code anew each time it is run, if a jump in it crosses a multiple
 of 32 bytes or ends there. So the time of a loop depended on how many bytes the code before it has. With an option clang
-moves such jumps. Rattle's compiler hands no options on, so a script that adds it stands in clang's place.
+moves such jumps. Rattle's compiler hands no options on, so it calls a script, which calls clang with that option.
 """
 import os
 import shlex
@@ -15,7 +15,7 @@ FOR_JUMPS = "-mbranches-within-32B-boundaries"
 
 
 def make_toolchain(kit, place, options):
-    """Makes a toolchain whose clang takes these options too, once for a place."""
+    """Makes a toolchain whose clang takes these options too, once in a folder."""
     made, of_kit = f"{place}/toolchain", f"{kit}/toolchain"
     for folder in ("bin", "lib"):
         os.makedirs(f"{made}/{folder}")

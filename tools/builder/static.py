@@ -6,8 +6,8 @@
   ptext-static.libc        the name of the C library that the static ones contain
   ptext                    the program with the shared C library, where the toolchain links none
 
-`make` and `make test` leave the object file as build/ptext.o. It is taken if the toolchain links it to the very bytes of
-build/ptext. Otherwise, and for another processor, it is made here.
+`make` and `make test` leave the object file as build/ptext.o. It is taken if the toolchain links it to the very bytes
+of build/ptext. Otherwise, and for another processor, it is made here.
 """
 import filecmp
 import os
