@@ -12,11 +12,11 @@ pub(crate) fn same_start(a: &[u8], b: &[u8], len: usize) -> bool
     ensures same { result ≡ true → take len a.now ≡ take len b.now }
     ensures within { result ≡ true → len ≤ length b.now }
 {
-    if b.len() < len.max(16) {
+    if b.len() < 16 {
         return false;
     }
     if len > 16 {
-        return is_equal_long(&a[..len], &b[..len]);
+        return len <= b.len() && is_equal_long(&a[..len], &b[..len]);
     }
     let (a, b) = (u8x16::from_slice(a), u8x16::from_slice(b));
     len <= a.simd_eq(b).to_bitmask().trailing_ones() as usize
@@ -68,12 +68,19 @@ pub(crate) fn is_equal(a: &[u8], b: &[u8]) -> bool
     if a.len() != b.len() {
         return false;
     }
+    // Nested, so that most lines take few comparisons.
+    if a.len() >= 4 {
+        if a.len() >= 8 {
+            if a.len() >= 16 {
+                return is_equal_long(a, b);
+            }
+            return is_equal_short::<8>(a, b);
+        }
+        return is_equal_short::<4>(a, b);
+    }
     match a.len() {
         0 => true,
         1 => a[0] == b[0],
-        2..=3 => is_equal_short::<2>(a, b),
-        4..=7 => is_equal_short::<4>(a, b),
-        8..=15 => is_equal_short::<8>(a, b),
-        _ => is_equal_long(a, b),
+        _ => is_equal_short::<2>(a, b),
     }
 }

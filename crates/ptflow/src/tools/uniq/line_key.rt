@@ -63,7 +63,10 @@ fn skip_fields_cold(fields: u64, bytes: &[u8], to: usize) -> &[u8]
 {
     let mut at = 0;
     let mut left = fields;
-    while at < to && bytes.len() - at >= 32 {
+    while at < to {
+        if bytes.len() - at < 32 {
+            return skip_fields_short(left, &bytes[at..to]);
+        }
         let ends = field_ends(bytes, at);
         let count = u64::from(ends.count_ones());
         if left <= count {
@@ -73,7 +76,7 @@ fn skip_fields_cold(fields: u64, bytes: &[u8], to: usize) -> &[u8]
         left -= count;
         at += 31;
     }
-    skip_fields_short(left, &bytes[at.min(to)..to])
+    &bytes[to..to]
 }
 
 // Skips `fields` fields of the line `bytes[..to]`.

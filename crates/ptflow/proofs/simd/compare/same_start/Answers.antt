@@ -45,5 +45,5 @@ returns-clause-same c same =
       take-take len 16 c.args.b.now few,
     )
 
-pub returns-then-len-gt16-clause-same : goal.returns-then-len-gt16-clause-same
-returns-then-len-gt16-clause-same c same = grind (usual, bytes_eq-Decides)
+pub returns-then-len-b-clause-same : goal.returns-then-len-b-clause-same
+returns-then-len-b-clause-same c same = grind (usual, bytes_eq-Decides)

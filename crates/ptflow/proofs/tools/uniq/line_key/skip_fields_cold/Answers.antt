@@ -1,10 +1,10 @@
 -- For `skip_fields_cold`: no index overflows. If the last of the fields ends among the next 31 bytes, the line after
 -- it is the result; otherwise the field ends among them were skipped (the step of its loop). The last bytes are left
--- to `skip_fields_short`.
+-- to `skip_fields_short`; after the end of the line there are none.
 use Rattle.ptflow.proofs
 use proofs.Common.{◌-◌, ◌+◌, ◌∙◌, take, drop, sym, ap, arith}
-use proofs.UniqLemmas.Keys.{ends_counted, key_after_window, key_in_window, near, nth_in_window, range_from, suffix_at}
-use proofs.UniqLemmas.Keys.{suffix_is}
+use proofs.UniqLemmas.Keys.{ends_counted, key_after_window, key_in_window, near, nth_in_window, suffix_at, suffix_is}
+use proofs.UniqLemmas.Keys.{suffix_none}
 use proofs.tools.uniq.line_key.skip_fields_cold.Goals as goal
 
 pub overflow_add-end : goal.overflow_add-end
@@ -41,15 +41,13 @@ loop-at-preserved c =
           ∙ key_after_window bytes at c.args.to (omega arith) (omega (arith, counted)) ∙ c.loop-at.invariant.3,
     )
 
+pub returns-then-bytes-at-lt32 : goal.returns-then-bytes-at-lt32
+returns-then-bytes-at-lt32 c = cc (
+  c.skip_fields_short.ensures,
+  suffix_is c.loop-at.left (take (c.args.to - c.loop-at.at) (drop c.loop-at.at c.args.bytes.now)),
+  c.loop-at.invariant.3,
+  suffix_is c.args.fields (take c.args.to c.args.bytes.now),
+)
+
 pub returns : goal.returns
-returns c =
-    let bytes = c.args.bytes.now in
-    let at = c.loop-at.at in
-    cc (
-      c.skip_fields_short.ensures,
-      suffix_is c.loop-at.left (take (c.args.to - at) (drop at bytes)),
-      range_from bytes at c.args.to,
-      c.min-2.ensures,
-      c.loop-at.invariant.3,
-      suffix_is c.args.fields (take c.args.to bytes),
-    )
+returns c = grind (arith, suffix_none, suffix_is)
