@@ -131,7 +131,7 @@ skip_ends (suc j) (suc (suc m)) n (b ∷ c ∷ bytes) few =
     ∙ ap (λ i. suffix_at (suc i) (drop j (c ∷ take m bytes))) same
 
 -- the range from an index that may be after its end
-pub range_from : (bytes : List ℕ) (at to : ℕ) → take (to - min at to) (drop (min at to) bytes)
+range_from : (bytes : List ℕ) (at to : ℕ) → take (to - min at to) (drop (min at to) bytes)
     ≡ take (to - at) (drop at bytes)
 range_from bytes at to = ⊎_elim
     (λ less. let same : min at to ≡ at = omega arith in ap (λ i. take (to - i) (drop i bytes)) same)

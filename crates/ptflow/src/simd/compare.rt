@@ -68,7 +68,7 @@ pub(crate) fn is_equal(a: &[u8], b: &[u8]) -> bool
     if a.len() != b.len() {
         return false;
     }
-    // Nested, so that most lines take few comparisons.
+    // Nested, so that 4 bytes or more take fewer comparisons than by a `match`.
     if a.len() >= 4 {
         if a.len() >= 8 {
             if a.len() >= 16 {

@@ -5,6 +5,7 @@
 ghost use Rattle.std.specs.Prelude.{◌≡◌, ◌<◌, ◌≤◌, ◌++◌, length, take, drop, true, IfOk, IfSome, OnErr};
 ghost use Rattle.ptlines.specs.Calls.Outputs.{PushEffect, PushPost};
 ghost use Rattle.ptlines.specs.Text.{complete_lines};
+ghost use Rattle.memchr.specs.Find.{IsFirstByte, is_byte};
 ghost use Rattle.ptlangs.specs.Jobs.{uniq_job};
 ghost use Rattle.ptflow.specs.Private.Passes.LineLoop.{IsLinesLength, ProcessLinesPre};
 ghost use Rattle.ptflow.specs.Private.Uniq.RunsFrom.{has_output, count_prefix, run_of, run_text};
@@ -15,7 +16,7 @@ use crate::simd::compare::{is_equal, same_start};
 use crate::tools::uniq::line_key::key;
 use itoa::Buffer;
 use ptlangs::jobs::{Show, UniqJob};
-use ptlines::{Out, Sink, WriteFault, find_byte};
+use ptlines::{Out, Sink, WriteFault, find_byte, find_in_chunk};
 
 // Checks whether a run of `count` lines is written.
 fn has_output(show: Show, count: u64) -> bool
@@ -68,6 +69,20 @@ pub(crate) struct CountedRun {
 pub(crate) struct LastRun {
     pub run: CountedRun,
     pub len: usize,
+}
+
+// Finds the end of the first line. The first 16 bytes are compared first, as the next line cannot be looked at before
+// the end of this one is known (`uniq` of lines of 8 bytes).
+#[inline(always)]
+fn find_end(terminator: u8, bytes: &[u8]) -> Option<usize>
+    ensures { IsFirstByte (is_byte terminator) bytes.now result }
+{
+    if bytes.len() >= 16 {
+        if let Some(at) = find_in_chunk::<16, u8>(terminator, bytes, 0) {
+            return Some(at);
+        }
+    }
+    find_byte(terminator, bytes)
 }
 
 // The lines that repeat the one before them: how many there are, and the bytes after them.
@@ -184,7 +199,7 @@ impl RunWriter<'_> {
         let mut pending = BlockRange { from: 0, to: 0 };
         let mut run_key = key(job, first, first.len());
         let mut rest = block;
-        'lines: while let Some(at) = find_byte(terminator, rest) {
+        'lines: while let Some(at) = find_end(terminator, rest) {
             let next = key(job, rest, at);
             if is_equal(run_key, next) {
                 let repeats = skip_repeats(rest, at + 1);

@@ -1,6 +1,6 @@
 -- For `skip_fields_cold`: no index overflows. If the last of the fields ends among the next 31 bytes, the line after
 -- it is the result; otherwise the field ends among them were skipped (the step of its loop). The last bytes are left
--- to `skip_fields_short`; after the end of the line there are none.
+-- to `skip_fields_short`; after the end of the line, the rest is empty.
 use Rattle.ptflow.proofs
 use proofs.Common.{◌-◌, ◌+◌, ◌∙◌, take, drop, sym, ap, arith}
 use proofs.UniqLemmas.Keys.{ends_counted, key_after_window, key_in_window, near, nth_in_window, suffix_at, suffix_is}
