@@ -82,22 +82,6 @@ stored_again at count k from into once twice low room room_once is_once is_twice
       append_assoc (take count into) (take k (chunk at 64 from)) (drop (k + 1) (chunk at 64 from)),
     )
 
--- those of a piece of the items after the first k
-pub select_more : {X : Type 0} (flags : List Bool) (k n : ℕ) (xs : List X) → k + n ≤ length flags
-    → select_by (take (k + n) flags) xs ≡ select_by (take k flags) xs
-    ++ select_by (take n (drop k flags)) (take n (drop k xs))
-select_more flags k n xs within =
-    let piece = take n (drop k flags) in
-    let long : length piece ≡ n = length-take-le n (drop k flags) (omega (arith, length-drop k flags)) in
-    let prefix : select_by piece (take n (drop k xs)) ≡ select_by piece (drop k xs) =
-    rw long at (select_by_prefix piece (drop k xs)) in
-    cc (
-      take-add k n flags,
-      select_by_append (take k flags) piece xs,
-      length-take-le k flags (omega arith),
-      prefix,
-    )
-
 -- ---- the mask of flags
 
 abbrev pub flags_of : ℕ → ℕ → List Bool
@@ -191,30 +175,6 @@ row_complete {count} {row} {flags} long masked begun =
     }
 
 pub ruleset row_steps = (row_next, row_complete)
-
--- ---- a mask of 64 flags in pieces of 16
-
-module _ (flags : List Bool) (k : ℕ) (within : k + 16 ≤ length flags) {rest : ℕ}
-    (is : rest ≡ mask_l (drop k flags)) where
-  pub piece_long : length (take 16 (drop k flags)) ≡ 16
-  piece_long = length-take-le 16 (drop k flags) (omega (arith, length-drop k flags))
-
-  pieces : mask_l (drop k flags) ≡ mask_l (take 16 (drop k flags)) + 65536 * mask_l (drop (k + 16) flags)
-  pieces = cc (
-    mask_append (take 16 (drop k flags)) (drop 16 (drop k flags)),
-    take-append-drop 16 (drop k flags),
-    piece_long,
-    drop-drop 16 k flags,
-  )
-
-  low : mask_l (take 16 (drop k flags)) < 65536
-  low = rw piece_long at (mask_l-lt (take 16 (drop k flags)))
-
-  pub piece_mask : bit_and rest 65535 ≡ mask_l (take 16 (drop k flags))
-  piece_mask = omega (arith, and_numeral, pieces, low)
-
-  pub other_pieces : rest / 65536 ≡ mask_l (drop (k + 16) flags)
-  other_pieces = omega (arith, pieces, low)
 
 -- ---- the halves of a mask and of lanes
 
@@ -315,6 +275,10 @@ module _ (test : ℕ → Bool) where
       pub is : take count into ++ kept_bytes test (drop at before) (drop at bytes) ≡ whole
       pub pre : FilterPre bytes at count
 
+    -- which bytes of a vector are kept
+    abbrev pub flags_at : ℕ → List Bool
+    flags_at k = keep_flags test (chunk k 16 before) (chunk k 16 bytes)
+
     -- which bytes of a vector are equal to what they are compared with
     abbrev pub equal_at : ℕ → List Bool
     equal_at k = zip2 eqb (chunk k 16 before) (chunk k 16 bytes)
@@ -333,6 +297,13 @@ module _ (test : ℕ → Bool) where
       module _ (at : ℕ) (room : at + 64 ≤ length bytes) where
         four : kept_at at 64 ≡ ((kept_at at 16 ++ kept_at (at + 16) 16) ++ kept_at (at + 32) 16) ++ kept_at (at + 48) 16
         four = cc (kept_two at 48 16 (omega arith), kept_two at 32 16 (omega arith), kept_two at 16 16 (omega arith))
+
+        -- what is kept of each vector in turn is what is kept of all
+        pub kept_in_four : (t : List ℕ) {a b c d : List ℕ} → a ≡ t ++ select_by (flags_at at) (chunk at 16 bytes)
+            → b ≡ a ++ select_by (flags_at (at + 16)) (chunk (at + 16) 16 bytes)
+            → c ≡ b ++ select_by (flags_at (at + 32)) (chunk (at + 32) 16 bytes)
+            → d ≡ c ++ select_by (flags_at (at + 48)) (chunk (at + 48) 16 bytes) → d ≡ t ++ kept_at at 64
+        kept_in_four t ea eb ec ed = grind (arith, append_assoc, four, select_kept)
 
         whole : kept_at at 16 ≡ chunk at 16 bytes → kept_at (at + 16) 16 ≡ chunk (at + 16) 16 bytes
             → kept_at (at + 32) 16 ≡ chunk (at + 32) 16 bytes → kept_at (at + 48) 16 ≡ chunk (at + 48) 16 bytes

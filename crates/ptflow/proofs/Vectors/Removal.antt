@@ -6,8 +6,13 @@ use proofs.Common.{length-chunk, length-map}
 use proofs.Common.{bit_or, bit_and, map-append}
 use proofs.Common.{zip2, top, eqb, cast_unsigned, w8, mask_of, keep_flags, length-zip2, mask_l-mod, mask_l-lt}
 use proofs.Common.{length-append}
-use proofs.Vectors.Compress.{chunk_parts}
-use Rattle.ptflow.specs.Private.Vectors.Compress.{removed_mask}
+use proofs.Common.{take, drop}
+use proofs.Vectors.Compress.{all_but_one, all_selected, chunk_parts}
+use Rattle.ptflow.specs.Private.Vectors.Compress.{removed_mask, select_by}
+use Rattle.std.specs.Int.{w64}
+use Rattle.std.specs.Int.Count.{count_trailing_zeros}
+use Rattle.std.proofs.lemmas.Nat.{one_shl}
+use Rattle.std.proofs.lemmas.Nat.Bits.{bit_at-trailing_zeros}
 use Rattle.ptlines.proofs.MatchMasks.{mask_append}
 use Rattle.std.proofs.lemmas.Grind.{or_before_shift}
 
@@ -48,11 +53,37 @@ module _ (fa fb fc fd : List Bool) (la : length fa ≡ 16) (lb : length fb ≡ 1
         (omega (arith, length-append (fa ++ fb) fc, length-append fa fb)) refl ed in
         omega (arith, two, three, four, ab, abc, abcd, ea)
 
--- which of 64 are kept
-pub kept_mask : (flags : List Bool) {m : ℕ} → length flags ≡ 64 → m ≡ removed_mask flags
-    → 18446744073709551615 - m ≡ mask_l flags
-kept_mask flags {m} long is =
+-- ---- which are kept
+
+-- all of 64, if none is removed
+pub none_removed : (flags : List Bool) (bytes : List ℕ) → length flags ≡ 64 → length bytes ≡ 64 → removed_mask flags ≡ 0
+    → select_by flags bytes ≡ bytes
+none_removed flags bytes long size none =
     let full : removed_mask flags + mask_l flags + 1 ≡ 2 ^ 64 = rw long at (both_full flags) in
+    all_selected flags bytes (omega arith) (rw long (omega arith))
+
+-- the index of the first one of 64 that is removed
+pub first_removed : (flags : List Bool) {m : ℕ} → length flags ≡ 64 → m ≡ removed_mask flags → 0 < m
+    → count_trailing_zeros 64 m < 64
+first_removed flags {m} long is some =
+    let full : removed_mask flags + mask_l flags + 1 ≡ 2 ^ 64 = rw long at (both_full flags) in
+    (bit_at-trailing_zeros w64 m some (omega arith)).0
+
+-- all but that one, if no other is removed
+pub one_removed : (flags : List Bool) (bytes : List ℕ) {m : ℕ} → length flags ≡ 64 → length bytes ≡ 64
+    → m ≡ removed_mask flags → 0 < m → m ≡ 1 * 2 ^ count_trailing_zeros 64 m % 2 ^ 64
+    → select_by flags bytes ≡ take (count_trailing_zeros 64 m) bytes ++ drop (count_trailing_zeros 64 m + 1) bytes
+one_removed flags bytes {m} long size is some one =
+    let index = count_trailing_zeros 64 m in
+    let full : removed_mask flags + mask_l flags + 1 ≡ 2 ^ 64 = rw long at (both_full flags) in
+    let low = first_removed flags long is some in
+    let power : m ≡ 2 ^ index = one ∙ one_shl index 64 low in
+    all_but_one flags bytes index (omega arith) (omega arith) (rw long (omega (arith, power)))
+
+-- those of 16, by their mask
+pub kept_16 : (flags : List Bool) {m : ℕ} → length flags ≡ 16 → m ≡ removed_mask flags → 65535 - m ≡ mask_l flags
+kept_16 flags {m} long is =
+    let full : removed_mask flags + mask_l flags + 1 ≡ 2 ^ 16 = rw long at (both_full flags) in
     omega (arith, is, full)
 
 -- ---- bytes of a filter

@@ -1,6 +1,6 @@
-//! Appends the selected bytes of a chunk of 64 bytes to an output buffer (`compress64`), or all of them (`copy_chunk`).
-//! `filter` uses these. The rows of the `CompressTable`, which `tr` makes, are byte shuffles that move the selected
-//! bytes of eight to the front.
+//! Appends the selected bytes of 16 to an output buffer (`compress16`), or 64 bytes (`copy_chunk`), or all of these but
+//! one (`copy_all_but`). `filter` uses these. The rows of the `CompressTable`, which `tr` makes, are byte shuffles that
+//! move the selected bytes of eight to the front.
 
 ghost use Rattle.std.specs.Prelude.{◌≡◌, ◌<◌, ◌≤◌, ◌+◌, ◌++◌, ℕ, List, Bool, length, take, drop};
 ghost use Rattle.std.specs.Simd.Lanes.{mask_l, chunk};
@@ -71,40 +71,6 @@ impl CompressTable {
         let rest = v.rotate_elements_left::<8>();
         self.compress8(rest, (keep >> 8 & 255) as u8, into, half)
     }
-
-    // Appends those of the 64 bytes at index `at` whose bit in `keep` is set to the first `count` bytes of `into`.
-    // Returns the new count.
-    #[inline(always)]
-    pub(crate) fn compress64(
-        &self,
-        from: &[u8],
-        at: usize,
-        keep: u64,
-        into: &mut PaddedBlock,
-        mut count: usize,
-    ) -> usize
-        requires { ChunkPre from.now at count }
-        ensures packed { (flags : List Bool) → length flags ≡ 64 → keep ≡ mask_l flags
-            → take result into.new ≡ take count into.old ++ select_by flags (chunk at 64 from.now) }
-        ensures end { result ≤ count + 64 }
-    {
-        if keep == u64::MAX {
-            return copy_chunk(from, at, into, count);
-        }
-        // One byte is often removed (`tr -d '\r'`). Then up to 64 bytes after the chunk are read as well.
-        let removed = !keep;
-        let index = removed.trailing_zeros() as usize;
-        if removed == 1 << index && from.len() - at >= 128 {
-            return copy_all_but(from, at, index, into, count);
-        }
-        let mut rest = keep;
-        for piece in 0..4 {
-            let v = u8x16::from_slice(&from[at + 16 * piece..]);
-            count = self.compress16(v, rest & 0xffff, into, count);
-            rest >>= 16;
-        }
-        count
-    }
 }
 
 // Appends the 64 bytes at index `at` to the first `count` bytes of `into`. Returns the new count.
@@ -124,7 +90,7 @@ pub(crate) fn copy_chunk(from: &[u8], at: usize, into: &mut PaddedBlock, count: 
 // `into`. Returns the new count. All are stored first; then 64 bytes from the one after the removed byte on are stored
 // over it.
 #[inline(always)]
-fn copy_all_but(
+pub(crate) fn copy_all_but(
     from: &[u8],
     at: usize,
     removed: usize,

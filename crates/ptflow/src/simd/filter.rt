@@ -7,7 +7,7 @@ ghost use Rattle.ptflow.specs.Private.Vectors.Compress.{ChunkPre, removed_mask};
 ghost use Rattle.ptflow.specs.Private.Tr.TrFrom.{squeeze_from};
 
 use crate::simd::byte_set::ByteTest;
-use crate::simd::compress::{CompressTable, copy_chunk};
+use crate::simd::compress::{CompressTable, copy_all_but, copy_chunk};
 use ptlines::{BLOCK, PaddedBlock};
 use std::simd::prelude::*;
 
@@ -54,7 +54,7 @@ impl Pairs<'_> {
 }
 
 // Appends those of the 64 bytes at index `at` that are kept. Returns the new count. If no byte is equal to the one that
-// it is compared with, which is tested first for the sake of squeezing, the chunk is copied whole.
+// it is compared with, which is tested first for the sake of squeezing, or none is removed, the chunk is copied whole.
 #[inline(always)]
 fn filter64<T: ByteTest>(
     by: &Filter<T>,
@@ -79,7 +79,23 @@ fn filter64<T: ByteTest>(
     let removed_c = pairs.removed16(by.set, at + 32);
     let removed_d = pairs.removed16(by.set, at + 48);
     let removed = removed_a | removed_b << 16 | removed_c << 32 | removed_d << 48;
-    by.table.compress64(from, at, !removed, into, count)
+    if removed == 0 {
+        return copy_chunk(from, at, into, count);
+    }
+    // One byte is often removed (`tr -d '\r'`). Then up to 64 bytes after the chunk are read as well.
+    let index = removed.trailing_zeros() as usize;
+    if removed == 1 << index && from.len() - at >= 128 {
+        return copy_all_but(from, at, index, into, count);
+    }
+    // Each 16 bytes by their own mask, which is known before that of all 64 (`tr -d 0-9`).
+    let a = u8x16::from_slice(&from[at..]);
+    let b = u8x16::from_slice(&from[at + 16..]);
+    let c = u8x16::from_slice(&from[at + 32..]);
+    let d = u8x16::from_slice(&from[at + 48..]);
+    let first = by.table.compress16(a, 0xffff - removed_a, into, count);
+    let second = by.table.compress16(b, 0xffff - removed_b, into, first);
+    let third = by.table.compress16(c, 0xffff - removed_c, into, second);
+    by.table.compress16(d, 0xffff - removed_d, into, third)
 }
 
 // Appends the bytes from index `start` on that are kept, one by one. Returns the new count.
