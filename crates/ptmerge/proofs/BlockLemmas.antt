@@ -3,13 +3,12 @@
 -- lines passed, and why both inputs can go on from there.
 use Rattle.ptmerge.proofs
 use Rattle.ptmerge.specs
-use proofs.Common.{◌≡◌, ◌⊎◌, inl, inr, ⊎_elim, ℕ, suc, ◌+◌, ◌-◌, ◌<◌, ◌≤◌, ◌^◌, List, [], ◌∷◌, ◌++◌, refl, sym, ◌∙◌}
-use proofs.Common.{ap, arith, subst}
-use proofs.Common.{Output, length, PushEffect, Some, None, Option, true, false, drop, length-append, append_assoc}
-use proofs.Common.{append-nil, unlines, IsLine, Side, First, Second, Lines, MergeTool, other, with_side, Cmp, Key, both}
-use proofs.Common.{Reader, Sorted, Head, budget, length-drop, usual, push_nothing, is_eq, is_gt, Less}
-use proofs.Common.{Err, IsErrAnd, MergeFault, Ok, Result, Write}
-use proofs.Common.{Bool, entries_by_key, entries_of_key, lines_with_key, unlines-append, push_trans}
+use proofs.Common.{◌≡◌, ◌⊎◌, inl, inr, ⊎_elim, ℕ, suc, ◌+◌, ◌-◌, ◌<◌, ◌≤◌, ◌^◌, List, [], ◌∷◌, ◌++◌, refl, sym, ◌∙◌, ap}
+use proofs.Common.{arith, subst, Output, length, PushEffect, Some, None, Option, true, false, drop, length-append}
+use proofs.Common.{append_assoc, append-nil, unlines, IsLine, Side, First, Second, Lines, MergeTool, other, with_side}
+use proofs.Common.{Cmp, Key, both, Reader, Sorted, Head, budget, length-drop, usual, push_nothing, is_eq, is_gt, Less}
+use proofs.Common.{Err, IsErrAnd, MergeFault, Ok, Result, Write, map, Bool, entries_by_key, entries_of_key}
+use proofs.Common.{lines_with_key, unlines-append, push_trans}
 use Rattle.std.specs.Prelude.{OnErr, take}
 use Rattle.std.specs.declared.cmp.Ordering.{Ordering}
 use Rattle.ptlines.specs.Calls.Readers.{IsSound}
@@ -19,15 +18,17 @@ use specs.declared.merging.cursor.Reached.{Reached}
 use proofs.MergeLemmas.{MergeInvariant, IsKeyOrder, Bound, AtLeast, AtMost, Above, Written, alone, output_of, all_keys}
 use proofs.MergeLemmas.{write_least_run, IsLeastKeyRun, IsLineByLine, Each-weaker, at_most_trans, greater_flips}
 use proofs.MergeLemmas.{less_flips, is_greater, lines_with_key-above, side_case, from_key, self_at_most, EachKey-append}
-use proofs.MergeLemmas.{put_same, put_other, EachKey, IsSortedFrom, entries_of_line, front_is}
+use proofs.MergeLemmas.{put_same, put_other, EachKey, IsSortedFrom, entries_of_line, front_is, Each-parts, MayFollow}
+use proofs.MergeLemmas.{IsUnder, may_follow_none}
+use Rattle.std.proofs.lemmas.List.{map-append}
 use Rattle.ptlines.proofs.TextLaws.{complete_lines_cons, complete_lines_none}
 use Rattle.ptlines.proofs.LineSearch.{line_before_terminator, line_if_not_found}
 use Rattle.ptlines.specs.Laws.Text.{AreLines}
 use Rattle.ptlines.specs.Text.{complete_lines}
 use Rattle.std.specs.declared.cmp.Ordering.TheVariants.{Equal}
 use Rattle.memchr.specs.Find.{IsFirstByte, is_byte}
-use specs.Private.BlockLines.{AreMerged, ArePassed, BlockRunPost, CanMerge, HasFailed, IsBlockTool, IsInBlock}
-use specs.Private.BlockLines.{HaveKey, IsInKey, IsMoved, IsNextLine, IsReached, IsStep, MayFollowHeads, entries_alone}
+use specs.Private.BlockLines.{AreMerged, ArePassed, BlockRunPost, CanMerge, HasFailed, IsBlockTool, IsInBlock, HaveKey}
+use specs.Private.BlockLines.{IsInKey, IsMoved, IsNextLine, IsReached, IsStep, MayFollowHeads, entries_alone}
 use specs.Private.BlockLines.{LineRunPost, in_order}
 use specs.MergeSpec.{Entries}
 use specs.declared.merging.block_lines.BlockRun.{BlockRun}
@@ -400,58 +401,57 @@ pairs_or_new false next law new = inr (elim [ First ↦ (new refl).0 | Second �
 
 -- ---- after the lines that were processed before
 
-each_last : (P : List ℕ → Type 0) (key : Key) (xs : Lines) (x : List ℕ) → EachKey P key (xs ++ x ∷ [])
-    → EachKey P key xs × P (key x)
-each_last P key [] x (h, _) = (tt, h)
-each_last P key (y ∷ xs) x (h, more) = let (a, b) = each_last P key xs x more in ((h, a), b)
+-- the lines `q` may follow at the bound `b`, and then those that may follow at `d`, which is no lower
+pub record LeadsTo (cmp : Cmp) (key : Key) (b d : Bound) (q : Lines) : Type 0 where
+  pub may_follow : (r : Lines) → MayFollow cmp key d r → MayFollow cmp key b (q ++ r)
+  pub under : (k : List ℕ) → IsUnder cmp b k → IsUnder cmp d k
 
--- no line passed, nor the current one, has a key below that of the first line
-pub record NoneBelow (cmp : Cmp) (key : Key) (old now : BlockLine) (q : Lines) : Type 0 where
-  pub passed : EachKey (AtMost cmp (key old.head.now)) key q
-  pub current : AtMost cmp (key old.head.now) (key now.head.now)
+pub leads_nowhere : {cmp : Cmp} {key : Key} {b : Bound} → LeadsTo cmp key b b []
+leads_nowhere = record { may_follow = λ r c. c; under = λ k u. u }
 
-module _ (cmp : Cmp) (o : IsKeyOrder cmp) (key : Key) where
-  pub none_below_first : {end : ℕ} {old now : BlockLine} {q : Lines} → ArePassed end cmp key old now q
-      → NoneBelow cmp key old now q
-  none_below_first {old = old} {now} (_, inl u) =
-      record { passed = rw u.none tt; current = rw u.same (self_at_most cmp o (key old.head.now)) }
-  none_below_first {old = old} {now} (_, inr m) =
-      let (a, b) = each_last _ key m.middle now.head.now (from_key cmp o key _ _ m.ordered) in
-      record { passed = rw m.lines (self_at_most cmp o (key old.head.now), a); current = b }
+pub leads_on : {end : ℕ} {cmp : Cmp} (o : IsKeyOrder cmp) (key : Key) {old now : BlockLine} {q : Lines}
+    → ArePassed end cmp key old now q → LeadsTo cmp key (AtLeast (key old.head.now)) (AtLeast (key now.head.now)) q
+leads_on o key (_, inl u) = rw (u.none, u.same) leads_nowhere
+leads_on {cmp = cmp} o key {old} {now} (_, inr m) =
+    let first = key old.head.now in
+    let (a, (least, _)) = Each-parts _ (map key m.middle) (key now.head.now ∷ [])
+    (rw map-append at (from_key cmp o key first _ m.ordered)) in
+    record {
+      may_follow = λ r c. rw m.lines (self_at_most cmp o first, EachKey-append _ key m.middle r a
+          (Each-weaker _ _ (λ y h. at_most_trans cmp o first (key now.head.now) y least h) _ c));
+      under = λ k u. at_most_trans cmp o k first _ u least;
+    }
 
-  pub follows_first : {old now : BlockLine} {q : Lines} → NoneBelow cmp key old now q → (r : Lines)
-      → EachKey (AtMost cmp (key now.head.now)) key r → EachKey (AtMost cmp (key old.head.now)) key (q ++ r)
-  follows_first {old} {now} n r c =
-      EachKey-append _ key _ _ n.passed
-      (Each-weaker _ _ (λ y h. at_most_trans cmp o (key old.head.now) (key now.head.now) y n.current h) _ c)
+pub lines_after : {tool : MergeTool} {b d : Side → Bound} {p q : Side → Lines} {start was is : Output}
+    → MergeInvariant tool b p start was → was.write_failed ≡ false → MergeInvariant tool d q was is
+    → ((side : Side) → LeadsTo tool.cmp (tool.key side) (b side) (d side) (q side))
+    → MergeInvariant tool d (λ side. p side ++ q side) start is
+lines_after {tool} {d = d} {p} {q} m clean n leads =
+    let parts : (w : List ℕ → Bool) → entries_by_key tool w (λ side. p side ++ q side)
+    ≡ entries_by_key tool w p ++ entries_by_key tool w q =
+    λ w. m.splits w q (λ side. rw append-nil at
+    ((leads side).may_follow [] (may_follow_none tool.cmp (tool.key side) (d side)))) in
+    record {
+      splits = λ w r c.
+          (λ i. entries_by_key tool w (λ side. append_assoc (p side) (q side) (r side) i))
+          ∙ m.splits w (λ side. q side ++ r side) (λ side. (leads side).may_follow (r side) (c side))
+          ∙ ap (λ e. entries_by_key tool w p ++ e) (n.splits w r c)
+          ∙ sym (append_assoc (entries_by_key tool w p) (entries_by_key tool w q) (entries_by_key tool w r))
+          ∙ ap (λ e. e ++ entries_by_key tool w r) (sym (parts w));
+      under = λ of side. EachKey-append _ (tool.key side) _ _
+          (Each-weaker _ _ (leads of).under _ (m.under of side)) (n.under of side);
+      wrote = rw (ap (unlines tool.terminator) (parts all_keys) ∙ unlines-append tool.terminator
+          (entries_by_key tool all_keys p) (entries_by_key tool all_keys q))
+          (push_trans _ _ _ _ _ clean m.wrote n.wrote);
+    }
 
-module _ (tool : MergeTool) (o : IsKeyOrder tool.cmp) where
-  open tool use {cmp, key}
-
-  pub merged_on : {old now : Side → BlockLine} {p : Side → Lines} {start was mid : Output}
-      → MergeInvariant tool (at_heads tool old) p start was → was.write_failed ≡ false
-      → (a : AreMerged tool old now was mid)
-      → MergeInvariant tool (at_heads tool now) (λ side. p side ++ a.q side) start mid
-  merged_on {old} {now} {p} m clean a =
-      let n : (side : Side) → NoneBelow cmp (key side) (old side) (now side) (a.q side) =
-      λ side. none_below_first cmp o (key side) (a.passed side) in
-      let both_parts : (w : List ℕ → Bool) → entries_by_key tool w (λ side. p side ++ a.q side)
-      ≡ entries_by_key tool w p ++ entries_by_key tool w a.q =
-      λ w. m.splits w a.q (λ side. (n side).passed) in
-      record {
-        splits = λ w r c.
-            (λ i. entries_by_key tool w (λ side. append_assoc (p side) (a.q side) (r side) i))
-            ∙ m.splits w (λ side. a.q side ++ r side)
-            (λ side. follows_first cmp o (key side) (n side) (r side) (c side))
-            ∙ ap (λ e. entries_by_key tool w p ++ e) (a.first w r c)
-            ∙ sym (append_assoc (entries_by_key tool w p) (entries_by_key tool w a.q) (entries_by_key tool w r))
-            ∙ ap (λ e. e ++ entries_by_key tool w r) (sym (both_parts w));
-        under = λ of side. EachKey-append _ (key side) _ _
-            (Each-weaker _ _ (λ k u. at_most_trans cmp o k _ _ u (n of).current) _ (m.under of side)) (a.under of side);
-        wrote = rw (ap (unlines tool.terminator) (both_parts all_keys) ∙ unlines-append tool.terminator
-            (entries_by_key tool all_keys p) (entries_by_key tool all_keys a.q))
-            (push_trans _ _ _ _ _ clean m.wrote a.wrote);
-      }
+pub merged_on : {tool : MergeTool} → IsKeyOrder tool.cmp → {old now : Side → BlockLine} {p : Side → Lines}
+    {start was mid : Output} → MergeInvariant tool (at_heads tool old) p start was → was.write_failed ≡ false
+    → (a : AreMerged tool old now was mid)
+    → MergeInvariant tool (at_heads tool now) (λ side. p side ++ a.q side) start mid
+merged_on {tool} o m clean a =
+    lines_after m clean (record { splits = a.first; under = a.under; wrote = a.wrote })
+    (λ side. leads_on o (tool.key side) (a.passed side))
 
 -- ---- the results
 

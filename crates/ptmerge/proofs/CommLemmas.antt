@@ -6,10 +6,9 @@ use proofs.Common.{rules, unlines, Side, First, Second, Sorted, Lines, MergeTool
 use proofs.Common.{MergeRunPre, MergeState, merge_state, Cmp, Key, both, with_side, HaveEqualKeys, HasOnlyLeastKey, suc}
 use proofs.Common.{append-nil, Bool, Head}
 use proofs.MergeLemmas.{BetweenSteps, between_next, advance_pre, EndsIfFails, LoopInvariant, advance_ok, goes_merging}
-use proofs.MergeLemmas.{passing_now, runs_on, read_facts_current, iteration_fails, wrote_alone, alone_breaks}
-use proofs.MergeLemmas.{place_is, wrote_and_sent, IsKeyOrder, Written, MergeInvariant, line_is_least_run}
-use proofs.MergeLemmas.{lag_invariant_starts, write_least_run, at_current_line, state_by_side, IsOpenMerge}
-use proofs.MergeLemmas.{Kept, entries_of_pair, open_merge}
+use proofs.MergeLemmas.{passing_now, runs_on, read_facts_current, iteration_fails, wrote_alone, alone_breaks, place_is}
+use proofs.MergeLemmas.{wrote_and_sent, IsKeyOrder, Written, MergeInvariant, line_is_least_run, lag_invariant_starts}
+use proofs.MergeLemmas.{write_least_run, at_current_line, state_by_side, IsOpenMerge, Kept, entries_of_pair, open_merge}
 use Rattle.ptmerge.specs.Calls.Comm.{comm_tool, comm_with}
 use Rattle.ptmerge.specs.Comm.{entries, column_entries}
 use Rattle.ptmerge.specs.Private.BlockLines.{entries_alone}

@@ -2,8 +2,7 @@
 -- of `join`, and keeps the invariant of its loop.
 use Rattle.ptmerge.proofs
 use Rattle.ptmerge.specs
-use proofs.Common.{◌≡◌, ℕ, List, refl, sym, subst, Side, Cmp, Key, both, MergeFault, MergeState, merge_state, Ok}
-use proofs.Common.{Reader, Output, Result, Slots, Sorted}
+use proofs.Common.{◌≡◌, ℕ, List, refl, sym, subst, Side, Cmp, Key, both, MergeFault, MergeState, Ok, Result, Sorted}
 use Rattle.ptlangs.specs.Jobs.{Join}
 use proofs.MergeLemmas.{kept_order}
 use proofs.JoinLemmas.{BetweenGroups, LoopOfJoin}
@@ -28,10 +27,9 @@ blocks_joined job {cmp} {key} {cursor} {next} {was} {is} {result} keys post =
 
 pub joined_by_blocks : {O : Type 0} (cmp : O → Cmp) (key : O → Side → Key) {job : Join} {old was : MergeState}
     {one two : Sorted} {a b start : O} → LoopOfJoin job cmp key old BetweenGroups was one two a start
-    → {first second : Reader} {out : Output} {after : Slots} {one2 two2 : Sorted} {u : Unit {0}}
-    → BlocksPost (join_with job (cmp a) (key a)) (both one two) (both one2 two2) was
-    (merge_state first second out after) (Ok u) → b ≡ a → AreValidCursors (key b) one2 two2 after
-    → LoopOfJoin job cmp key old BetweenGroups (merge_state first second out after) one2 two2 b start
+    → {is : MergeState} {one2 two2 : Sorted} {u : Unit {0}}
+    → BlocksPost (join_with job (cmp a) (key a)) (both one two) (both one2 two2) was is (Ok u) → b ≡ a
+    → AreValidCursors (key b) one2 two2 is.store → LoopOfJoin job cmp key old BetweenGroups is one2 two2 b start
 joined_by_blocks cmp key k post same valid =
     let t = k.iteration in
     let (here, between) = blocks_on t.here t.between post (rw same at valid) in

@@ -2,17 +2,20 @@
 -- of the store hold again. So the merge of two blocks keeps the loop invariant of a merge and that of `comm`, and
 -- never adds to the reads that are left; or a write has failed, and the call ends.
 use Rattle.ptmerge.proofs
-use proofs.Common.{◌≡◌, ℕ, ◌-◌, false, List, [], ◌∷◌, ◌++◌, refl, sym, ◌∙◌, ap, subst, arith, length, drop}
-use proofs.Common.{Some, unlines, unlines-append, IsLine, AreLines, Lines, Cmp, Key, Reader, length-append, length_push}
-use proofs.Common.{advance_ok_trans, append_assoc, usual, push_nothing, entries_by_key}
-use proofs.MergeLemmas.{IsSortedUpTo, IsSortedFrom, LinesRead, is_disordered, unlines_push}
-use proofs.Common.{◌<◌, Side, MergeTool, Sorted, Slots, Head, line, inl, inr, line_of_with_line, length-set}
-use proofs.MergeLemmas.{IsKeyOrder, Bound, AtLeast, SideInvariant, IsAtCurrentLine, at_current_line, reads_nothing}
-use proofs.MergeLemmas.{after_from, self_at_most, low_slot, GroupStore, Extends, group_store_line, side_extends}
-use proofs.MergeLemmas.{put_same, ReadFacts, HasBegun, extends_itself, extends_on, extends, AllExtend, FitsIn}
-use proofs.Common.{◌≤◌, HasSlots, with_line, with_side, max_length}
+use proofs.Common.{◌≡◌, ℕ, ◌-◌, false, List, [], ◌∷◌, ◌++◌, refl, sym, ◌∙◌, ap, subst, arith, length, drop, Some}
+use proofs.Common.{unlines, unlines-append, IsLine, AreLines, Lines, Cmp, Key, Reader, length-append, length_push}
+use proofs.Common.{advance_ok_trans, append_assoc, usual, push_nothing, ◌<◌, Side, MergeTool, Sorted, Slots, Head, line}
+use proofs.Common.{inl, inr, line_of_with_line, length-set, ◌≤◌, HasSlots, with_side, budget, length-drop, other}
+use proofs.Common.{MergeState, both, Comm, First, Second, Result, Err, MergeFault, MergePost, Memory, Write, true}
+use proofs.Common.{⊎_elim, append-nil, Output, Ok}
+use proofs.MergeLemmas.{IsSortedUpTo, IsSortedFrom, LinesRead, is_disordered, unlines_push, Bound, AtLeast}
+use proofs.MergeLemmas.{SideInvariant, IsAtCurrentLine, at_current_line, reads_nothing, after_from, self_at_most}
+use proofs.MergeLemmas.{low_slot, GroupStore, Extends, group_store_line, side_extends, NothingMore, put_same, ReadFacts}
+use proofs.MergeLemmas.{HasBegun, extends_itself, extends_on, extends, AllExtend, FitsIn, CursorsInvariant, IsOpenMerge}
+use proofs.MergeLemmas.{side_case, put_other, slots_apart, line_other, max_length-append, MergeInvariant, bounds_change}
+use proofs.MergeLemmas.{same_bound, reads_ahead, none_failed, exit_behind, IsFaultBehind, state_by_side, kept_order}
+use proofs.MergeLemmas.{LoopInvariant, BetweenSteps, LagInvariant, AllWritten, IsLineByLine, lag_invariant_starts}
 use Rattle.ptlines.specs.Calls.Readers.{IsSound}
-use Rattle.ptlines.specs.Calls.Slots.{with_denied}
 use Rattle.ptlines.specs.Readers.{IsDone}
 use Rattle.ptmerge.specs.Calls.MergeSteps.{AreValidCursors, IsReaderOf}
 use Rattle.ptmerge.specs.Private.BlockLines.{AreMerged, ArePassed, IsMoved, IsUnmoved, IsReached, HasFailed}
@@ -22,14 +25,8 @@ use Rattle.ptmerge.specs.Private.Passed.{IsNotResumed, NoneResumed}
 use Rattle.ptmerge.specs.declared.merging.cursor.Reached.{Reached}
 use Rattle.ptmerge.specs.Calls.Comm.{comm_with}
 use Rattle.std.specs.List.{slice_range}
-use proofs.Common.{budget, length-drop, other, MergeState, merge_state, both, Comm, First, Second, Result, Err}
-use proofs.Common.{MergeFault, MergePost, Memory, Write, true, ⊎_elim, append-nil, Output, Ok}
-use proofs.MergeLemmas.{CursorsInvariant, IsOpenMerge, side_case, put_other, slots_apart, line_other, max_length-append}
-use proofs.MergeLemmas.{MergeInvariant, bounds_change, same_bound, reads_ahead, none_failed, exit_behind, IsFaultBehind}
-use proofs.MergeLemmas.{state_by_side, kept_order, LoopInvariant, BetweenSteps, LagInvariant, AllWritten}
-use proofs.MergeLemmas.{IsLineByLine, lag_invariant_starts}
 use proofs.BlockLemmas.{at_heads, merged_on, step_written, passed_more, passed_one}
-use proofs.AloneLemmas.{line_added_to, line_written, passed_on, set_back, set_twice}
+use proofs.AloneLemmas.{at_line, line_written, only_push, passed_on}
 use proofs.CommLemmas.{LoopOfComm}
 use Rattle.ptmerge.specs.declared.merging.block_lines.BlockLine.{BlockLine}
 use Rattle.ptmerge.specs.declared.merging.block_lines.BlockRun.{BlockRun}
@@ -42,7 +39,7 @@ module _ (cmp : Cmp) (key : Key) where
       → is_disordered cmp (Some k) (key x) ≡ false → IsSortedUpTo cmp key (q ++ x ∷ []) (Some (key x))
   sorted_one = grind (arith, append_assoc, length_push)
 
-  pub sorted_on : (q : Lines) (k : List ℕ) (xs : Lines) (x : List ℕ) → IsSortedUpTo cmp key q (Some k)
+  sorted_on : (q : Lines) (k : List ℕ) (xs : Lines) (x : List ℕ) → IsSortedUpTo cmp key q (Some k)
       → IsSortedFrom cmp key (Some k) (xs ++ x ∷ []) → IsSortedUpTo cmp key (q ++ (xs ++ x ∷ [])) (Some (key x))
   sorted_on q k [] x s (h, _) = sorted_one x s h
   sorted_on q k (y ∷ xs) x s (h, more) =
@@ -56,7 +53,7 @@ passed_bytes : (end : ℕ) (middle : Lines) (head rest : List ℕ)
     → unlines end middle ++ (head ++ (end ∷ rest)) ≡ unlines end (middle ++ head ∷ []) ++ rest
 passed_bytes end middle head rest = rw (unlines_push end middle head) (simp append_assoc)
 
-pub lines_passed : {end : ℕ} {old was is : Reader} {ls : Lines} (middle : Lines) (head rest : List ℕ)
+lines_passed : {end : ℕ} {old was is : Reader} {ls : Lines} (middle : Lines) (head rest : List ℕ)
     → LinesRead end old was ls → was.buffered ≡ unlines end middle ++ (head ++ (end ∷ rest)) → AreLines end middle
     → IsLine end head → is ≡ record was { buffered = drop (length was.buffered - length rest) was.buffered }
     → LinesRead end old is (ls ++ (middle ++ head ∷ []))
@@ -90,58 +87,6 @@ sound_consumed was now sound =
       unfailed = sound.unfailed;
     }
 
--- one input is at its current line in the block, and the lines before it are processed
-module _ (tool : MergeTool) (o : IsKeyOrder tool.cmp) (s : Side) {old was : Reader} {cursor : Sorted} {store : Slots}
-    {ls p : Lines} {b : Bound} (i : SideInvariant tool s old was cursor store ls p b) (head : cursor.status ≡ Head)
-    {first now : BlockLine} {q : Lines} (at_head : first.head.now ≡ line store cursor.current_slot)
-    (at_rest : first.rest.now ≡ was.buffered) (m : IsMoved tool.terminator tool.cmp (tool.key s) first now q) where
-  abbrev current : List ℕ
-  current = now.head.now
-
-  h : IsAtCurrentLine tool.cmp (tool.key s) cursor.number (line store cursor.current_slot) ls p b
-  h = at_current_line i head
-
-  pub all_lines : ls ++ (m.middle ++ current ∷ []) ≡ (p ++ q) ++ current ∷ []
-  all_lines = rw (h.all, m.lines, at_head) (simp append_assoc)
-
-  sorted_here : IsSortedUpTo tool.cmp (tool.key s) ((p ++ q) ++ current ∷ []) (Some (tool.key s current))
-  sorted_here = rw all_lines at (sorted_on tool.cmp (tool.key s) ls _ m.middle current h.sorted_up_to
-      (rw at_head at m.ordered))
-
-  pub facts_moved : {is : Reader} → is ≡ consumed was now → IsSound is
-      → ReadFacts tool s old is is [] ((p ++ q) ++ current ∷ []) (p ++ q) (AtLeast (tool.key s current))
-  facts_moved {is} reader sound = record {
-    lines_read = rw all_lines at (lines_passed m.middle current now.rest.now i.lines_read (sym at_rest ∙ m.bytes)
-        m.whole.0 m.whole.1 reader);
-    reads = reads_nothing is;
-    line = tt;
-    sound = sound;
-    processed_nearly = inr (current, refl, refl);
-    processed_prefix = grind (arith, append_assoc, after_from, sorted_here, self_at_most);
-    nothing_follows = grind arith;
-  }
-
-  pub side_moved : {is : Reader} {next : Sorted} {after : Slots} → first.passed ≡ 0 → is ≡ consumed was now → IsSound is
-      → IsPassed now.passed now.head.now cursor next store after
-      → SideInvariant tool s old is next after ((p ++ q) ++ current ∷ []) (p ++ q) (AtLeast (tool.key s current))
-  side_moved none reader sound passed = record {
-    facts = facts_moved reader sound;
-    begun = inr (omega (arith, length_push (p ++ q) current));
-    number = omega (
-      arith,
-      ap (λ c. c.number) passed.cursor,
-      m.passed,
-      none,
-      i.number,
-      ap length all_lines,
-      length-append ls (m.middle ++ current ∷ []),
-      length_push m.middle current,
-    );
-    status_is = grind (arith, line_of_with_line, low_slot s cursor i.slots, i.four, passed, sorted_here, length_push);
-    slots = grind (arith, passed, i.slots);
-    four = grind (arith, passed, length-set, i.four);
-  }
-
 -- the slots in the order in which the next line is read: the one of the current line is replaced
 abbrev exchange : Sorted → Sorted
 exchange cursor = record cursor { current_slot = cursor.previous_slot; previous_slot = cursor.current_slot }
@@ -149,17 +94,8 @@ exchange cursor = record cursor { current_slot = cursor.previous_slot; previous_
 exchanged : (s : Side) (cursor : Sorted) → HasSlots s cursor → HasSlots s (exchange cursor)
 exchanged = grind arith
 
--- the store holds the current line instead of the line before
-pub store_moved : {tool : MergeTool} {before store after : Slots} {ls : Side → Lines} {g : Lines} (s : Side)
-    (cursor : Sorted) → HasSlots s cursor → GroupStore tool before store ls g → (now_ls : Lines) → Extends (ls s) now_ls
-    → (x : List ℕ) → length x ≤ max_length now_ls → after ≡ with_line store cursor.current_slot x
-    → GroupStore tool before after (with_side s now_ls ls) g
-store_moved {ls = ls} s cursor slots keeps now_ls up x fits is =
-    group_store_line s (exchange cursor) (exchanged s cursor slots) x keeps (side_extends s ls up)
-    (rw (put_same s now_ls ls) fits) is
-
-put_back : {X : Type 0} (s : Side) (f : Side → X) (side : Side) → with_side s (f s) f side ≡ f side
-put_back s f = side_case _ s (put_same s _ f) (put_other s _ f)
+put_back : {X : Type 0} (s : Side) (f : Side → X) (side : Side) → f side ≡ with_side s (f s) f side
+put_back s f = side_case _ s (sym (put_same s _ f)) (sym (put_other s _ f))
 
 head_of_block : (end : ℕ) (bytes front head rest : List ℕ) → bytes ≡ front ++ (head ++ (end ∷ rest))
     → slice_range bytes (length bytes - length rest - 1 - length head) (length bytes - length rest - 1) ≡ head
@@ -169,21 +105,8 @@ nothing_used : (r is : Reader) (left : ℕ) → left ≡ length r.buffered
     → is ≡ record r { buffered = drop (length r.buffered - left) r.buffered } → is ≡ r
 nothing_used = grind usual
 
--- one input is at the line reached, and the other one stays where it was
-pub record HasPassed (tool : MergeTool) (old : MergeState) (s : Side) (apart next : Sorted) (was is : Reader)
-    (before after : Slots) (ls : Side → Lines) (p : Lines) (head : List ℕ) : Type 0 where
-  pub now_ls : Lines
-  pub side : SideInvariant tool s (old.reader s) is next after now_ls p (AtLeast (tool.key s head))
-  pub status_is : next.status ≡ Head
-  pub line_is : line after next.current_slot ≡ head
-  pub current : line after apart.current_slot ≡ line before apart.current_slot
-  pub previous : line after apart.previous_slot ≡ line before apart.previous_slot
-  pub up : Extends (ls s) now_ls
-  pub keeps : GroupStore tool old.store after (with_side s now_ls ls) []
-  pub reads : budget is ≤ budget was
-
--- The lines `p` of one input are processed, and the reader `virtual` has consumed them and the line after them. The real
--- reader may not have: then these bytes are still buffered.
+-- The lines `p` of one input are processed, and the reader `virtual` has consumed them and the line after them. For the
+-- real reader these bytes may still be buffered.
 pub record IsAhead (tool : MergeTool) (old : MergeState) (s : Side) (real virtual : Reader) (ls p : Lines) (b : Bound)
     : Type 0 where
   pub now_ls : Lines
@@ -192,150 +115,163 @@ pub record IsAhead (tool : MergeTool) (old : MergeState) (s : Side) (real virtua
   pub up : Extends ls now_ls
   pub back : virtual ≡ record real { buffered = virtual.buffered }
 
-module _ {tool : MergeTool} {old : MergeState} {w : IsOpenMerge tool old} {reader : Side → Reader}
-    {cursor : Side → Sorted} {store : Slots} {ls p : Side → Lines} {b : Side → Bound}
-    (a : CursorsInvariant w reader cursor store ls p b) (s : Side) (head : (cursor s).status ≡ Head)
-    {first now : BlockLine} {q : Lines} (at_head : first.head.now ≡ line store (cursor s).current_slot)
-    (at_rest : first.rest.now ≡ (reader s).buffered)
-    (passed : ArePassed tool.terminator tool.cmp (tool.key s) first now q) where
-  abbrev Ahead : Type 0
-  Ahead = IsAhead tool old s (reader s) (consumed (reader s) now) (ls s) (p s ++ q) (AtLeast (tool.key s now.head.now))
-
-  ahead_unmoved : IsUnmoved first now q → Ahead
-  ahead_unmoved u =
-      let same : consumed (reader s) now ≡ reader s = nothing_used (reader s) _ (length now.rest.now)
-      (ap (λ l. length l.rest.now) u.same ∙ ap length at_rest) refl in
-      let head_is : now.head.now ≡ line store (cursor s).current_slot = ap (λ l. l.head.now) u.same ∙ at_head in
-      record {
-        now_ls = ls s;
-        facts = rw (same, u.none, append-nil (p s), head_is, ← (at_current_line (a.sides s) head).bound)
-            (a.sides s).facts;
-        begun = rw same (a.sides s).begun;
-        up = extends_itself (ls s);
-        back = refl;
-      }
-
-  ahead_moved : IsMoved tool.terminator tool.cmp (tool.key s) first now q → Ahead
-  ahead_moved m = record {
-    now_ls = (p s ++ q) ++ now.head.now ∷ [];
-    facts = facts_moved tool w.o s (a.sides s) head at_head at_rest m refl
-        (sound_consumed (reader s) now (a.sides s).facts.sound);
-    begun = inr (omega (arith, length_push (p s ++ q) now.head.now));
-    up = record {
-      more = m.middle ++ now.head.now ∷ [];
-      is = sym (all_lines tool w.o s (a.sides s) head at_head at_rest m);
-    };
-    back = refl;
-  }
-
-  pub goes_ahead : Ahead
-  goes_ahead = ⊎_elim ahead_unmoved ahead_moved passed.1
+stays_ahead : {tool : MergeTool} {old : MergeState} {s : Side} {reader : Reader} {cursor : Sorted} {store : Slots}
+    {ls p : Lines} {b : Bound} → SideInvariant tool s (old.reader s) reader cursor store ls p b
+    → IsAhead tool old s reader reader ls p b
+stays_ahead {ls = ls} i =
+    record { now_ls = ls; facts = i.facts; begun = i.begun; up = extends_itself ls; back = refl }
 
 module _ {tool : MergeTool} {old : MergeState} {w : IsOpenMerge tool old} {reader : Side → Reader}
     {cursor : Side → Sorted} {store : Slots} {ls p : Side → Lines} {b : Side → Bound}
-    (a : CursorsInvariant w reader cursor store ls p b) (s : Side) (head : (cursor s).status ≡ Head)
-    {first now : BlockLine} {q : Lines} {reached : Reached} {next : Sorted} {is : Reader} {after : Slots}
-    (at_head : first.head.now ≡ line store (cursor s).current_slot) (at_rest : first.rest.now ≡ (reader s).buffered)
-    (passed : ArePassed tool.terminator tool.cmp (tool.key s) first now q) (reached_is : IsReached now reached)
-    (resumed : IsResumed reached (cursor s) next (reader s) is store after) where
-  abbrev Goal : Type 0
-  Goal = HasPassed tool old s (cursor (other s)) next (reader s) is store after ls (p s ++ q) now.head.now
+    (a : CursorsInvariant w reader cursor store ls p b) (s : Side) where
+  -- the input is at the line reached, and the other one stays where it was
+  pub record HasPassed (next : Sorted) (is : Reader) (after : Slots) (now : BlockLine) (q : Lines) : Type 0 where
+    pub now_ls : Lines
+    pub side : SideInvariant tool s (old.reader s) is next after now_ls (p s ++ q) (AtLeast (tool.key s now.head.now))
+    pub status_is : next.status ≡ Head
+    pub current : line after (cursor (other s)).current_slot ≡ line store (cursor (other s)).current_slot
+    pub previous : line after (cursor (other s)).previous_slot ≡ line store (cursor (other s)).previous_slot
+    pub keeps : GroupStore tool old.store after (with_side s now_ls ls) []
+    pub reads : budget is ≤ budget (reader s)
 
-  reads_on : budget is ≤ budget (reader s)
-  reads_on = rw resumed.reader
-      (omega (arith, length-drop (length (reader s).buffered - reached.left) (reader s).buffered))
+  module _ {next : Sorted} {is : Reader} {after : Slots} {now : BlockLine} {q : Lines}
+      (n : HasPassed next is after now q) where
+    other_stays : SideInvariant tool (other s) (old.reader (other s)) (reader (other s)) (cursor (other s)) after
+        (ls (other s)) (p (other s)) (b (other s))
+    other_stays = grind (arith, a.sides (other s), n.current, n.previous, n.side.four)
 
-  by_unmoved : IsUnmoved first now q → Goal
-  by_unmoved u =
-      let none : reached.passed ≡ 0 = reached_is.passed ∙ ap (λ l. l.passed) u.same ∙ passed.0 in
-      let left : reached.left ≡ length (reader s).buffered =
-      reached_is.left ∙ ap (λ l. length l.rest.now) u.same ∙ ap length at_rest in
-      let same = nothing_used (reader s) is reached.left left resumed.reader in
-      let (cursor_is, store_is) = resumed.unmoved none in
-      let head_is : now.head.now ≡ line store (cursor s).current_slot = ap (λ l. l.head.now) u.same ∙ at_head in
-      record {
-        now_ls = ls s;
-        side = rw (
-          same,
-          cursor_is,
-          store_is,
-          u.none,
-          append-nil (p s),
-          head_is,
-          ← (at_current_line (a.sides s) head).bound,
-        ) (a.sides s);
-        status_is = rw cursor_is head;
-        line_is = rw (cursor_is, store_is, head_is) refl;
-        current = rw store_is refl;
-        previous = rw store_is refl;
-        up = extends_itself (ls s);
-        keeps = rw store_is
-            (subst (λ l. GroupStore tool old.store store l []) (λ i side. sym (put_back s ls side) i) a.keeps);
-        reads = reads_on;
+    cursors_on : CursorsInvariant w (with_side s is reader) (with_side s next cursor) after (with_side s n.now_ls ls)
+        (with_side s (p s ++ q) p) (with_side s (AtLeast (tool.key s now.head.now)) b)
+    cursors_on =
+        record { sides = side_case _ s (simp put_same n.side) (simp put_other other_stays); keeps = n.keeps }
+
+  module _ (head : (cursor s).status ≡ Head) {first now : BlockLine} {q : Lines}
+      (at_head : first.head.now ≡ line store (cursor s).current_slot) (at_rest : first.rest.now ≡ (reader s).buffered)
+      (passed : ArePassed tool.terminator tool.cmp (tool.key s) first now q) where
+    h : IsAtCurrentLine tool.cmp (tool.key s) (cursor s).number (line store (cursor s).current_slot) (ls s) (p s) (b s)
+    h = at_current_line (a.sides s) head
+
+    module _ (u : IsUnmoved first now q) where
+      all_left : length now.rest.now ≡ length (reader s).buffered
+      all_left = ap (λ l. length l.rest.now) u.same ∙ ap length at_rest
+
+      side_stays : SideInvariant tool s (old.reader s) (reader s) (cursor s) store (ls s) (p s ++ q)
+          (AtLeast (tool.key s now.head.now))
+      side_stays = rw (u.none, append-nil (p s), ap (λ l. l.head.now) u.same ∙ at_head, ← h.bound) (a.sides s)
+
+    module _ (m : IsMoved tool.terminator tool.cmp (tool.key s) first now q) where
+      abbrev here : Lines
+      here = (p s ++ q) ++ now.head.now ∷ []
+
+      all_lines : ls s ++ (m.middle ++ now.head.now ∷ []) ≡ here
+      all_lines = rw (h.all, m.lines, at_head) (simp append_assoc)
+
+      up : Extends (ls s) here
+      up = record { more = m.middle ++ now.head.now ∷ []; is = sym all_lines }
+
+      sorted_here : IsSortedUpTo tool.cmp (tool.key s) here (Some (tool.key s now.head.now))
+      sorted_here = rw all_lines at (sorted_on tool.cmp (tool.key s) (ls s) _ m.middle now.head.now h.sorted_up_to
+          (rw at_head at m.ordered))
+
+      facts_moved : {is : Reader} → is ≡ consumed (reader s) now → IsSound is
+          → ReadFacts tool s (old.reader s) is is [] here (p s ++ q) (AtLeast (tool.key s now.head.now))
+      facts_moved {is} used sound = record {
+        lines_read = rw all_lines at (lines_passed m.middle now.head.now now.rest.now (a.sides s).lines_read
+            (sym at_rest ∙ m.bytes) m.whole.0 m.whole.1 used);
+        reads = reads_nothing is;
+        line = tt;
+        sound = sound;
+        processed_nearly = inr (now.head.now, refl, refl);
+        processed_prefix = grind (arith, append_assoc, after_from, sorted_here, self_at_most);
+        nothing_follows = grind arith;
       }
 
-  by_moved : IsMoved tool.terminator tool.cmp (tool.key s) first now q → Goal
-  by_moved m =
-      let x = now.head.now in
-      let some : 0 < reached.passed = omega (arith, reached_is.passed, m.passed) in
-      let bytes = sym at_rest ∙ m.bytes in
-      let on : IsPassed now.passed x (cursor s) next store after =
-      rw (reached_is.left, reached_is.size, reached_is.passed, head_of_block _ _ _ _ _ bytes) at (resumed.moved some) in
-      let at_slot = low_slot s (cursor s) (a.sides s).slots in
-      let apart = slots_apart s (exchange (cursor s)) (cursor (other s))
-      (exchanged s (cursor s) (a.sides s).slots) (a.sides (other s)).slots in
-      let up : Extends (ls s) ((p s ++ q) ++ x ∷ []) = record {
-        more = m.middle ++ x ∷ [];
-        is = sym (all_lines tool w.o s (a.sides s) head at_head at_rest m);
-      } in
-      record {
-        now_ls = (p s ++ q) ++ x ∷ [];
-        side = side_moved tool w.o s (a.sides s) head at_head at_rest m passed.0 (rw reached_is.left at resumed.reader)
-            resumed.sound on;
-        status_is = ap (λ c. c.status) on.cursor ∙ head;
-        line_is = rw (on.cursor, on.store)
-            (line_of_with_line store _ x (omega (arith, at_slot.current, (a.sides s).four)));
-        current = rw on.store (line_other store _ _ x apart.0);
-        previous = rw on.store (line_other store _ _ x apart.1);
-        up = up;
-        keeps = store_moved s (cursor s) (a.sides s).slots a.keeps _ up x
-            (omega (arith, max_length-append (p s ++ q) (x ∷ []))) on.store;
-        reads = reads_on;
-      }
+      begun_here : {is : Reader} → HasBegun is here
+      begun_here = inr (omega (arith, length_push (p s ++ q) now.head.now))
 
-  pub has_passed : Goal
-  has_passed = ⊎_elim by_unmoved by_moved passed.1
+    goes_ahead : IsAhead tool old s (reader s) (consumed (reader s) now) (ls s) (p s ++ q)
+        (AtLeast (tool.key s now.head.now))
+    goes_ahead = ⊎_elim
+        (λ u. rw (nothing_used (reader s) _ (length now.rest.now) (all_left u) refl) (stays_ahead (side_stays u)))
+        (λ m. record {
+          now_ls = here m;
+          facts = facts_moved m refl (sound_consumed (reader s) now (a.sides s).sound);
+          begun = begun_here m;
+          up = up m;
+          back = refl;
+        })
+        passed.1
 
-  pub cursors_on : (n : Goal) → CursorsInvariant w (with_side s is reader) (with_side s next cursor) after
-      (with_side s n.now_ls ls) (with_side s (p s ++ q) p) (with_side s (AtLeast (tool.key s now.head.now)) b)
-  cursors_on n = record {
-    sides = side_case _ s (simp put_same n.side) (simp put_other
-        (grind (arith, a.sides (other s), n.current, n.previous, n.side.four)));
-    keeps = n.keeps;
-  }
+    module _ {reached : Reached} {next : Sorted} {is : Reader} {after : Slots} (reached_is : IsReached now reached)
+        (resumed : IsResumed reached (cursor s) next (reader s) is store after) where
+      by_unmoved : IsUnmoved first now q → HasPassed next is after now q
+      by_unmoved u =
+          let same = nothing_used (reader s) is reached.left (reached_is.left ∙ all_left u) resumed.reader in
+          let (cursor_is, store_is) =
+          resumed.unmoved (reached_is.passed ∙ ap (λ l. l.passed) u.same ∙ passed.0) in
+          rw (same, cursor_is, store_is) (record {
+            now_ls = ls s;
+            side = side_stays u;
+            status_is = head;
+            current = refl;
+            previous = refl;
+            keeps = subst (λ l. GroupStore tool old.store store l []) (λ i side. put_back s ls side i) a.keeps;
+            reads = omega arith;
+          })
 
--- ---- the merge of two blocks
+      by_moved : IsMoved tool.terminator tool.cmp (tool.key s) first now q → HasPassed next is after now q
+      by_moved m =
+          let x = now.head.now in
+          let slots = (a.sides s).slots in
+          let four = (a.sides s).four in
+          let bytes = sym at_rest ∙ m.bytes in
+          let on : IsPassed now.passed x (cursor s) next store after =
+          rw (reached_is.left, reached_is.size, reached_is.passed, head_of_block _ _ _ _ _ bytes) at
+          (resumed.moved (omega (arith, reached_is.passed, m.passed))) in
+          let apart = slots_apart s (exchange (cursor s)) (cursor (other s)) (exchanged s (cursor s) slots)
+          (a.sides (other s)).slots in
+          let used = rw reached_is.left at resumed.reader in
+          record {
+            now_ls = here m;
+            side = record {
+              facts = facts_moved m used resumed.sound;
+              begun = begun_here m;
+              number = omega (
+                arith,
+                ap (λ c. c.number) on.cursor,
+                m.passed,
+                passed.0,
+                (a.sides s).number,
+                ap length (all_lines m),
+                length-append (ls s) (m.middle ++ x ∷ []),
+                length_push m.middle x,
+              );
+              status_is = grind (
+                arith,
+                line_of_with_line,
+                low_slot s (cursor s) slots,
+                four,
+                on,
+                sorted_here m,
+                length_push,
+              );
+              slots = grind (arith, on, slots);
+              four = grind (arith, on, length-set, four);
+            };
+            status_is = ap (λ c. c.status) on.cursor ∙ head;
+            current = rw on.store (line_other store _ _ x apart.0);
+            previous = rw on.store (line_other store _ _ x apart.1);
+            keeps = group_store_line s (exchange (cursor s)) (exchanged s (cursor s) slots) x a.keeps
+                (side_extends s ls (up m)) (rw put_same (omega (arith, max_length-append (p s ++ q) (x ∷ []))))
+                on.store;
+            reads = rw used (omega (arith, length-drop (length (reader s).buffered - length now.rest.now)
+                (reader s).buffered));
+          }
 
--- A call fails while processed lines are still buffered.
-fails_behind : {tool : MergeTool} {old : MergeState} (w : IsOpenMerge tool old) {real virtual : Side → Reader}
-    {ls p : Side → Lines} {b : Side → Bound}
-    → ((side : Side) → IsAhead tool old side (real side) (virtual side) (ls side) (p side) (b side))
-    → {out : Output} {after : Slots} {done : Lines} → LagInvariant tool b p old.out out done
-    → ((all : Side → Lines) → AllExtend ls all → FitsIn tool old.store after all)
-    → (fault : MergeFault) → IsFaultBehind real out after fault
-    → MergePost tool old (state_by_side real out after) (Err fault)
-fails_behind w {real} {virtual} a {out} {after} lag fits fault ends =
-    exit_behind w (state_by_side virtual out after) (λ side. (a side).facts) lag
-    (λ all holds. fits all (λ side. extends_on (a side).up (extends (holds side)))) (λ side. (a side).begun) real
-    (λ side. (a side).back) fault ends
+      has_passed : HasPassed next is after now q
+      has_passed = ⊎_elim by_unmoved by_moved passed.1
 
--- the slot of the current line is emptied
-emptied_fits : {tool : MergeTool} {before store : Slots} {ls : Side → Lines} (s : Side) (cursor : Sorted)
-    → HasSlots s cursor → GroupStore tool before store ls [] → (all : Side → Lines) → AllExtend ls all
-    → FitsIn tool before (with_denied (with_line store cursor.current_slot [])) all
-emptied_fits s cursor slots keeps all up =
-    (group_store_line s (exchange cursor) (exchanged s cursor slots) [] keeps (λ side. extends_itself _) (omega arith)
-    refl).fits all up
+-- ---- faults
 
 -- the line reached is still buffered
 still_there : {end : ℕ} {cmp : Cmp} {key : Key} {old now : BlockLine} {q : Lines} {reached : Reached} {reader : Reader}
@@ -352,20 +288,66 @@ still_there {end} {now = now} rest (none, inr m) at some done =
       length-append now.head.now (end ∷ now.rest.now),
     ))
 
+-- A call fails while processed lines are still buffered.
+module _ {tool : MergeTool} {old : MergeState} {w : IsOpenMerge tool old} {reader : Side → Reader}
+    {cursor : Side → Sorted} {store : Slots} {ls p q : Side → Lines} {b d : Side → Bound}
+    (a : CursorsInvariant w reader cursor store ls p b) {out : Output} {done : Lines}
+    (lag : LagInvariant tool d q old.out out done) {virtual : Side → Reader}
+    (ahead : (side : Side) → IsAhead tool old side (reader side) (virtual side) (ls side) (q side) (d side)) where
+  unfailed : (side : Side) → (reader side).failed ≡ false
+  unfailed side = none_failed a side ∙ w.unfailed side
+
+  fails_behind : {after : Slots} → ((all : Side → Lines) → AllExtend ls all → FitsIn tool old.store after all)
+      → (fault : MergeFault) → IsFaultBehind reader out after fault
+      → MergePost tool old (state_by_side reader out after) (Err fault)
+  fails_behind {after} fits fault ends =
+      exit_behind w (state_by_side virtual out after) (λ side. (ahead side).facts) lag
+      (λ all holds. fits all (λ side. extends_on (ahead side).up (extends (holds side))))
+      (λ side. (ahead side).begun) reader (λ side. (ahead side).back) fault ends
+
+  write_fails : out.write_failed ≡ true → MergePost tool old (state_by_side reader out store) (Err Write)
+  write_fails failed = fails_behind a.keeps.fits Write
+      (record { write_failed = failed; unfailed = unfailed; not_denied = a.keeps.denied })
+
+  -- the line reached could not be stored: the slot of the current line is emptied
+  not_resumed : out.write_failed ≡ false → (s : Side) → (IsDone (reader s) → ⊥) → {at : Reached} {is : Side → Reader}
+      {after : Slots} → IsNotResumed at (cursor s) (reader s) (is s) store after → is (other s) ≡ reader (other s)
+      → MergePost tool old (state_by_side is out after) (Err Memory)
+  not_resumed clean s left {is = is} {after} r others =
+      let slots = (a.sides s).slots in
+      subst (λ f. MergePost tool old (state_by_side f out after) (Err Memory))
+      (λ i side. side_case (λ t. reader t ≡ is t) s (sym r.unread) (sym others) side i)
+      (rw r.store (fails_behind
+      (group_store_line s (exchange (cursor s)) (exchanged s (cursor s) slots) [] a.keeps
+      (λ side. extends_itself _) (omega arith) refl).fits Memory
+      (record { denied = refl; unfailed = unfailed; clean = clean; side = s; left = left })))
+
+-- ---- both inputs go on
+
+-- the loop goes on, and no reads were added to those that are left
+record GoesOn {tool : MergeTool} {old was : MergeState} {cursor : Side → Sorted} {w : IsOpenMerge tool old}
+    (loop : LoopInvariant w was cursor) (is : MergeState) (next : Side → Sorted) : Type 0 where
+  loop_invariant : LoopInvariant w is next
+  own_reader : (side : Side) → IsReaderOf (next side) (is.reader side)
+  clean : is.out.write_failed ≡ false
+  reads : reads_ahead is.reader (next First) (next Second) ≤ reads_ahead was.reader (cursor First) (cursor Second)
+
+fewer : (f g : Side → Reader) (c d : Side → Sorted)
+    → ((side : Side) → ((d side).status ≡ (c side).status) × (budget (g side) ≤ budget (f side)))
+    → reads_ahead g (d First) (d Second) ≤ reads_ahead f (c First) (c Second)
+fewer f g c d less = rw ((less First).0, (less Second).0) (omega (arith, (less First).1, (less Second).1))
+
 module _ {tool : MergeTool} {old was : MergeState} {one two : Sorted} {w : IsOpenMerge tool old}
-    (loop : LoopInvariant w was (both one two)) (between : BetweenSteps tool.key was one two) where
+    (loop : LoopInvariant w was (both one two)) (between : BetweenSteps tool.key was one two)
+    {is : MergeState} {one2 two2 : Sorted} where
   open tool use {cmp, key, terminator}
   open loop use {ls, p, b, sides, merge_invariant, cursors as before}
 
-  unfailed_before : (side : Side) → (was.reader side).failed ≡ false
-  unfailed_before side = none_failed before side ∙ w.unfailed side
-
-  module _ {first second : Reader} {out : Output} {after : Slots} {one2 two2 : Sorted}
-      {result : Result (Unit {0}) MergeFault} (m : AreBlocksMerged tool (both one two) (both one2 two2) was
-      (merge_state first second out after) result) where
+  module _ {result : Result (Unit {0}) MergeFault}
+      (m : AreBlocksMerged tool (both one two) (both one2 two2) was is result) where
     merged_all : {at : Side → BlockLine} {mid : Output} → (a : AreMerged tool m.old at was.out mid)
         → MergeInvariant tool (at_heads tool at) (λ side. p side ++ a.q side) old.out mid
-    merged_all = merged_on tool w.o (bounds_change
+    merged_all = merged_on w.o (bounds_change
         (λ side. rw ((at_current_line (sides side) (m.head side)).bound, m.head_is side) same_bound) merge_invariant)
         between.clean
 
@@ -375,236 +357,174 @@ module _ {tool : MergeTool} {old was : MergeState} {one two : Sorted} {w : IsOpe
         (AtLeast (key side (now side).head.now))
     ahead passed side = goes_ahead before side (m.head side) (m.head_is side) (m.rest_is side) (passed side)
 
-    pub write_fails : HasFailed tool m.old was.out out
-        → MergePost tool old (state_by_side was.reader out was.store) (Err Write)
-    write_fails f =
-        let (_, lag) = step_written tool w.o w.alone.none f.step f.merged.clean (merged_all f.merged) in
-        fails_behind w (ahead (passed_more f.step f.merged.passed))
-        (subst (λ (l : Side → Lines). AllWritten tool (at_heads tool f.now) l old.out out)
-        (λ i side. append_assoc (p side) (f.merged.q side) (f.step.f side) i) lag)
-        before.keeps.fits Write
-        (record { write_failed = f.failed; unfailed = unfailed_before; not_denied = before.keeps.denied })
+    merge_fails : HasFailed tool m.old was.out is.out
+        → MergePost tool old (state_by_side was.reader is.out was.store) (Err Write)
+    merge_fails f = write_fails before
+        (subst (λ (l : Side → Lines). AllWritten tool (at_heads tool f.now) l old.out is.out)
+        (λ i side. append_assoc (p side) (f.merged.q side) (f.step.f side) i)
+        (step_written tool w.o w.alone.none f.step f.merged.clean (merged_all f.merged)).1)
+        (ahead (passed_more f.step f.merged.passed)) f.failed
 
-    module _ {run : BlockRun} (post : BlockRunPost tool m.old run was.out out) where
+    module _ {run : BlockRun} (post : BlockRunPost tool m.old run was.out is.out) where
       open post use {now, merged, merged.{q}}
 
-      written : LagInvariant tool (at_heads tool now) (λ side. p side ++ q side) old.out out
-          (entries_by_key tool (λ k. true) (λ side. p side ++ q side))
-      written = lag_invariant_starts w.o (merged_all merged) merged.clean (push_nothing out)
+      written : AllWritten tool (at_heads tool now) (λ side. p side ++ q side) old.out is.out
+      written = lag_invariant_starts w.o (merged_all merged) merged.clean (push_nothing is.out)
 
-      pub none_resumed : NoneResumed run (both one two) was.reader (both first second) was.store after
-          → MergePost tool old (merge_state first second out after) (Err Memory)
+      left : {side : Side} → 0 < (both run.first run.second side).passed → IsDone (was.reader side) → ⊥
+      left {side} some = still_there (m.rest_is side) (merged.passed side) (post.reached side) some
+
+      none_resumed : NoneResumed run (both one two) was.reader is.reader was.store is.store
+          → MergePost tool old is (Err Memory)
       none_resumed r =
-          let same : both first second ≡ was.reader =
-          λ i side. side_case (λ t. both first second t ≡ was.reader t) First r.first.unread r.second side i in
-          subst (λ reader. MergePost tool old (state_by_side reader out after) (Err Memory)) (sym same)
-          (rw r.first.store (fails_behind w (ahead merged.passed) written
-          (emptied_fits First one (sides First).slots before.keeps) Memory (record {
-            denied = refl;
-            unfailed = unfailed_before;
-            clean = merged.clean;
-            side = First;
-            left = still_there (m.rest_is First) (merged.passed First) (post.reached First) r.first.some;
-          })))
+          not_resumed before written (ahead merged.passed) merged.clean First (left r.first.some) r.first r.second
 
       module _ {next : Sorted} {mid : Slots}
-          (on : IsResumed run.first one next (was.reader First) first was.store mid) where
-        step1 : HasPassed tool old First two next (was.reader First) first was.store mid ls (p First ++ q First)
-            (now First).head.now
+          (on : IsResumed run.first one next (was.reader First) (is.reader First) was.store mid) where
+        step1 : HasPassed before First next (is.reader First) mid (now First) (q First)
         step1 = has_passed before First (m.head First) (m.head_is First) (m.rest_is First) (merged.passed First)
             (post.reached First) on
 
-        half : CursorsInvariant w (with_side First first was.reader) (with_side First next (both one two)) mid
-            (with_side First step1.now_ls ls) (with_side First (p First ++ q First) p)
-            (with_side First (AtLeast (key First (now First).head.now)) b)
-        half = cursors_on before First (m.head First) (m.head_is First) (m.rest_is First) (merged.passed First)
-            (post.reached First) on step1
-
-        head2 : (m.old Second).head.now ≡ line mid two.current_slot
-        head2 = m.head_is Second ∙ sym step1.current
-
-        pub second_not_resumed : IsNotResumed run.second two (was.reader Second) second mid after
-            → MergePost tool old (merge_state first second out after) (Err Memory)
+        second_not_resumed : IsNotResumed run.second two (was.reader Second) (is.reader Second) mid is.store
+            → MergePost tool old is (Err Memory)
         second_not_resumed r =
-            rw (r.unread, r.store) (fails_behind w {real = both first (was.reader Second)}
-            {virtual = both first (consumed (was.reader Second) (now Second))} {ls = with_side First step1.now_ls ls}
-            {p = λ side. p side ++ q side} {b = at_heads tool now} (elim [
-              | First ↦ record {
-                now_ls = step1.now_ls;
-                facts = step1.side.facts;
-                begun = step1.side.begun;
-                up = extends_itself step1.now_ls;
-                back = refl;
-              }
-              | Second ↦ ahead merged.passed Second
-            ])
-            written (emptied_fits Second two (sides Second).slots step1.keeps) Memory (record {
-              denied = refl;
-              unfailed = elim [ First ↦ none_failed half First ∙ w.unfailed First | Second ↦ unfailed_before Second ];
+            not_resumed (cursors_on before First step1) written
+            {virtual = both (is.reader First) (consumed (was.reader Second) (now Second))}
+            (elim [ First ↦ stays_ahead step1.side | Second ↦ ahead merged.passed Second ])
+            merged.clean Second (left r.some) r refl
+
+        merged_goes_on : IsResumed run.second two two2 (was.reader Second) (is.reader Second) mid is.store
+            → GoesOn loop is (both next two2)
+        merged_goes_on on2 =
+            let half = cursors_on before First step1 in
+            let step2 = has_passed half Second (m.head Second) (m.head_is Second ∙ sym step1.current) (m.rest_is Second)
+            (merged.passed Second) (post.reached Second) on2 in
+            let c = cursors_on half Second step2 in
+            record {
+              loop_invariant = record {
+                ls = both step1.now_ls step2.now_ls;
+                p = λ side. p side ++ q side;
+                b = at_heads tool now;
+                cursors = record {
+                  sides = elim [ First ↦ c.sides First | Second ↦ c.sides Second ];
+                  keeps = c.keeps;
+                };
+                merge_invariant = merged_all merged;
+              };
+              own_reader = elim [ First ↦ on.own_reader | Second ↦ on2.own_reader ];
               clean = merged.clean;
-              side = Second;
-              left = still_there (m.rest_is Second) (merged.passed Second) (post.reached Second) r.some;
-            }))
+              reads = fewer was.reader is.reader (both one two) (both next two2) (elim [
+                | First ↦ (step1.status_is ∙ sym (m.head First), step1.reads)
+                | Second ↦ (step2.status_is ∙ sym (m.head Second), step2.reads)
+              ]);
+            }
 
-        module _ (on2 : IsResumed run.second two two2 (was.reader Second) second mid after) where
-          step2 : HasPassed tool old Second next two2 (was.reader Second) second mid after
-              (with_side First step1.now_ls ls) (p Second ++ q Second) (now Second).head.now
-          step2 = has_passed half Second (m.head Second) head2 (m.rest_is Second) (merged.passed Second)
-              (post.reached Second) on2
-
-          pub merged_reads : reads_ahead (both first second) next two2 ≤ reads_ahead was.reader one two
-          merged_reads = rw (step1.status_is, step2.status_is, m.head First, m.head Second)
-              (omega (arith, step1.reads, step2.reads))
-
-          pub merged_goes_on : AreValidCursors key next two2 after
-              → LoopInvariant w (merge_state first second out after) (both next two2)
-              × BetweenSteps key (merge_state first second out after) next two2
-          merged_goes_on valid =
-              let c = cursors_on half Second (m.head Second) head2 (m.rest_is Second) (merged.passed Second)
-              (post.reached Second) on2 step2 in (
-                record {
-                  ls = both step1.now_ls step2.now_ls;
-                  p = λ side. p side ++ q side;
-                  b = at_heads tool now;
-                  cursors = record {
-                    sides = elim [ First ↦ c.sides First | Second ↦ c.sides Second ];
-                    keeps = c.keeps;
-                  };
-                  merge_invariant = merged_all merged;
-                },
-                record {
-                  valid_cursors = valid;
-                  own_reader = elim [ First ↦ on.own_reader | Second ↦ on2.own_reader ];
-                  clean = merged.clean;
-                },
-              )
-
--- ---- the lines of one block
-
-fewer : (s : Side) (f : Side → Reader) (first second : Reader) (one two one2 two2 : Sorted)
-    → both first second (other s) ≡ f (other s) → both one2 two2 (other s) ≡ both one two (other s)
-    → (both one2 two2 s).status ≡ (both one two s).status → budget (both first second s) ≤ budget (f s)
-    → reads_ahead (both first second) one2 two2 ≤ reads_ahead f one two
-fewer First f first second one two one2 two2 reader cursor status less =
-    rw (reader, cursor, status) (omega (arith, less))
-fewer Second f first second one two one2 two2 reader cursor status less =
-    rw (reader, cursor, status) (omega (arith, less))
-
-by_other : (s : Side) (one two one2 two2 : Sorted) (first second : Reader) (reader : Side → Reader)
-    → both first second (other s) ≡ reader (other s) → both one2 two2 (other s) ≡ both one two (other s)
-    → IsReaderOf (both one two (other s)) (reader (other s)) → IsReaderOf (both one2 two2 s) (both first second s)
-    → (side : Side) → IsReaderOf (both one2 two2 side) (both first second side)
-by_other s one two one2 two2 first second reader readers cursors others own =
-    side_case _ s own (rw (readers, cursors) others)
-
-placed : {tool : MergeTool} {old : MergeState} {w : IsOpenMerge tool old} (s : Side) (reader : Side → Reader)
-    (cursor : Side → Sorted) {first second : Reader} {one two : Sorted} {after : Slots} {ls p : Side → Lines}
-    {b : Side → Bound} → both first second (other s) ≡ reader (other s) → both one two (other s) ≡ cursor (other s)
-    → CursorsInvariant w (with_side s (both first second s) reader) (with_side s (both one two s) cursor) after ls p b
-    → CursorsInvariant w (both first second) (both one two) after ls p b
-placed {w = w} s reader cursor {first} {second} {one} {two} {after} {ls} {p} {b} readers cursors c =
-    subst (λ r. CursorsInvariant w r (both one two) after ls p b) (set_back s reader first second readers)
-    (subst (λ at. CursorsInvariant w (with_side s (both first second s) reader) at after ls p b)
-    (set_back s cursor one two cursors) c)
-
-module _ {tool : MergeTool} {old was : MergeState} {one two : Sorted} {w : IsOpenMerge tool old}
-    (loop : LoopInvariant w was (both one two)) (between : BetweenSteps tool.key was one two) where
-  open tool use {cmp, key, terminator}
-  open loop use {ls, p, b, sides, merge_invariant, cursors as before}
-
-  module _ {first second : Reader} {out : Output} {after : Slots} {one2 two2 : Sorted}
-      {result : Result (Unit {0}) MergeFault} (m : IsOtherPassed tool (both one two) (both one2 two2) was
-      (merge_state first second out after) result) where
+  -- the other input has ended
+  module _ {result : Result (Unit {0}) MergeFault}
+      (m : IsOtherPassed tool (both one two) (both one2 two2) was is result) where
     open m use {s, passed}
     open passed use {head}
 
-    unfailed_passed : (side : Side) → (was.reader side).failed ≡ false
-    unfailed_passed side = none_failed before side ∙ w.unfailed side
+    no_more : b (other s) ≡ NothingMore
+    no_more = (rw m.ended at (sides (other s)).status_is).0
 
-    -- the other input has ended
     ahead_alone : {now : BlockLine} {q : Lines} → ArePassed terminator cmp (key s) passed.old now q → (side : Side)
         → IsAhead tool old side (was.reader side) (with_side s (consumed (was.reader s) now) was.reader side) (ls side)
-        (with_side s (p s ++ q) p side) (with_side s (AtLeast (key s now.head.now)) b side)
+        (p side ++ only s q side) (at_line tool s now side)
     ahead_alone by = side_case _ s
         (simp put_same (goes_ahead before s head passed.head_is passed.rest_is by))
-        (simp put_other (record {
-          now_ls = ls (other s);
-          facts = (sides (other s)).facts;
-          begun = (sides (other s)).begun;
-          up = extends_itself (ls (other s));
-          back = refl;
-        }))
+        (simp (put_other, append-nil) (rw no_more at (stays_ahead {old = old} (sides (other s)))))
 
     passed_all : {at : BlockLine} {mid : Output} → (a : ArePassedAlone tool s passed.old at was.out mid)
-        → MergeInvariant tool (with_side s (AtLeast (key s at.head.now)) b) (with_side s (p s ++ a.q) p) old.out mid
-    passed_all = passed_on tool w.o w.alone s merge_invariant
-        ((at_current_line (sides s) head).bound ∙ ap (λ x. AtLeast (key s x)) (sym passed.head_is))
-        (rw m.ended at (sides (other s)).status_is).0 between.clean
+        → MergeInvariant tool (at_line tool s at) (λ side. p side ++ only s a.q side) old.out mid
+    passed_all = passed_on tool w.o s merge_invariant
+        ((at_current_line (sides s) head).bound ∙ ap (λ x. AtLeast (key s x)) (sym passed.head_is)) no_more
+        between.clean
 
-    pub write_alone_fails : HasFailedAlone tool s passed.old was.out out
-        → MergePost tool old (state_by_side was.reader out was.store) (Err Write)
-    write_alone_fails f =
-        let x = f.before.head.now in
-        let m1 = f.merged in
-        let (_, lag) = line_written tool w.o w.alone s f.now.head.now (put_same s _ b)
-        (put_other s _ b ∙ (rw m.ended at (sides (other s)).status_is).0) f.next.ordered m1.clean (passed_all m1)
-        f.wrote in
-        fails_behind w (ahead_alone (passed_one cmp (key s) m1.passed f.next))
-        (subst (λ (l : Side → Lines). AllWritten tool (with_side s (AtLeast (key s f.now.head.now)) b) l old.out out)
-        (line_added_to s p m1.q x)
-        (subst (λ (d : Side → Bound). AllWritten tool d
-        (λ side. with_side s (p s ++ m1.q) p side ++ only s (x ∷ []) side) old.out out) (set_twice s _ _ b) lag))
-        before.keeps.fits Write
-        (record { write_failed = f.failed; unfailed = unfailed_passed; not_denied = before.keeps.denied })
+    alone_fails : HasFailedAlone tool s passed.old was.out is.out
+        → MergePost tool old (state_by_side was.reader is.out was.store) (Err Write)
+    alone_fails f =
+        let x = f.before.head.now ∷ [] in
+        write_fails before
+        (subst (λ (l : Side → Lines). AllWritten tool (at_line tool s f.now) l old.out is.out)
+        (λ i side. (append_assoc (p side) (only s f.merged.q side) (only s x side)
+        ∙ ap (λ (l : Side → Lines). p side ++ l side) (only_push s f.merged.q x)) i)
+        (line_written tool w.o s w.alone f.before f.now f.next.ordered f.merged.clean (passed_all f.merged) f.wrote).1)
+        (ahead_alone (passed_one cmp (key s) f.merged.passed f.next)) f.failed
 
-    module _ {at : Reached} (post : LineRunPost tool s passed.old at was.out out) where
+    module _ {at : Reached} (post : LineRunPost tool s passed.old at was.out is.out) where
       open post use {now, passed as a, reached}
 
-      pub alone_not_resumed : IsNotResumed at (both one two s) (was.reader s) (both first second s) was.store after
-          → MergePost tool old (merge_state first second out after) (Err Memory)
+      alone_not_resumed : IsNotResumed at (both one two s) (was.reader s) (is.reader s) was.store is.store
+          → MergePost tool old is (Err Memory)
       alone_not_resumed r =
-          let same : both first second ≡ was.reader =
-          λ i side. side_case (λ t. both first second t ≡ was.reader t) s r.unread m.reader side i in
-          subst (λ reader. MergePost tool old (state_by_side reader out after) (Err Memory)) (sym same)
-          (rw r.store (fails_behind w (ahead_alone a.passed)
-          (lag_invariant_starts w.o (passed_all a) a.clean (push_nothing out))
-          (emptied_fits s (both one two s) (sides s).slots before.keeps) Memory (record {
-            denied = refl;
-            unfailed = unfailed_passed;
-            clean = a.clean;
-            side = s;
-            left = still_there passed.rest_is a.passed reached r.some;
-          })))
+          not_resumed before (lag_invariant_starts w.o (passed_all a) a.clean (push_nothing is.out))
+          (ahead_alone a.passed) a.clean s (still_there passed.rest_is a.passed reached r.some) r m.reader
 
-      module _ (on : IsResumed at (both one two s) (both one2 two2 s) (was.reader s) (both first second s) was.store
-          after) where
-        step : HasPassed tool old s (both one two (other s)) (both one2 two2 s) (was.reader s) (both first second s)
-            was.store after ls (p s ++ a.q) now.head.now
-        step = has_passed before s head passed.head_is passed.rest_is a.passed reached on
-
-        pub passed_reads : reads_ahead (both first second) one2 two2 ≤ reads_ahead was.reader one two
-        passed_reads = fewer s was.reader first second one two one2 two2 m.reader m.others
-            (step.status_is ∙ sym head) step.reads
-
-        pub passed_goes_on : AreValidCursors key one2 two2 after
-            → LoopInvariant w (merge_state first second out after) (both one2 two2)
-            × BetweenSteps key (merge_state first second out after) one2 two2
-        passed_goes_on valid = (
+      alone_goes_on : IsResumed at (both one two s) (both one2 two2 s) (was.reader s) (is.reader s) was.store
+          is.store → GoesOn loop is (both one2 two2)
+      alone_goes_on on =
+          let n : HasPassed before s (both one2 two2 s) (is.reader s) is.store now a.q =
+          has_passed before s head passed.head_is passed.rest_is a.passed reached on in
           record {
-            ls = _;
-            p = _;
-            b = _;
-            cursors = placed s was.reader (both one two) m.reader m.others
-                (cursors_on before s head passed.head_is passed.rest_is a.passed reached on step);
-            merge_invariant = passed_all a;
-          },
-          record {
-            valid_cursors = valid;
-            own_reader = by_other s one two one2 two2 first second was.reader m.reader m.others
-                (between.own_reader (other s)) on.own_reader;
+            loop_invariant = record {
+              ls = with_side s n.now_ls ls;
+              p = λ side. p side ++ only s a.q side;
+              b = at_line tool s now;
+              cursors = record {
+                sides = side_case _ s (simp put_same n.side)
+                    (simp (put_other, append-nil) (rw (m.reader, m.others) (rw no_more at (other_stays before s n))));
+                keeps = n.keeps;
+              };
+              merge_invariant = passed_all a;
+            };
+            own_reader = side_case _ s on.own_reader (rw (m.reader, m.others) (between.own_reader (other s)));
             clean = a.clean;
-          },
-        )
+            reads = fewer was.reader is.reader (both one two) (both one2 two2)
+                (side_case _ s (n.status_is ∙ sym head, n.reads) (rw (m.reader, m.others) (refl, omega arith)));
+          }
+
+  goes_on : {u : Unit {0}} → BlocksPost tool (both one two) (both one2 two2) was is (Ok u)
+      → GoesOn loop is (both one2 two2)
+  goes_on {u} post =
+      ⊎_elim
+      (λ e. subst (λ c. GoesOn loop is c) (sym e.0) (subst (λ now. GoesOn loop now (both one two)) (sym e.1)
+      (record { loop_invariant = loop; own_reader = between.own_reader; clean = between.clean; reads = omega arith })))
+      (⊎_elim
+      (λ m. ⊎_elim (λ f. (let never : Ok u ≡ Err Write = f.1.fault in cc))
+      (λ h. merged_goes_on m h.post h.resumed.first h.resumed.second) m.ends)
+      (λ m. ⊎_elim (λ f. (let never : Ok u ≡ Err Write = f.1 in cc)) (λ h. alone_goes_on m h.post h.resumed)
+      m.passed.ends))
+      post
+
+  pub blocks_on : {u : Unit {0}} → BlocksPost tool (both one two) (both one2 two2) was is (Ok u)
+      → AreValidCursors key one2 two2 is.store → LoopInvariant w is (both one2 two2) × BetweenSteps key is one2 two2
+  blocks_on post valid =
+      let on = goes_on post in
+      (on.loop_invariant, record { valid_cursors = valid; own_reader = on.own_reader; clean = on.clean })
+
+  pub blocks_read : {u : Unit {0}} → BlocksPost tool (both one two) (both one2 two2) was is (Ok u)
+      → reads_ahead is.reader one2 two2 ≤ reads_ahead was.reader one two
+  blocks_read post = (goes_on post).reads
+
+  pub blocks_fail : {fault : MergeFault} → BlocksPost tool (both one two) (both one2 two2) was is (Err fault)
+      → MergePost tool old is (Err fault)
+  blocks_fail {fault} post =
+      ⊎_elim
+      (λ e. (let never : Err fault ≡ Ok tt = e.2 in cc))
+      (⊎_elim
+      (λ m. ⊎_elim
+      (λ f. subst (λ reader. MergePost tool old (state_by_side reader is.out is.store) (Err fault)) (sym f.1.reader)
+      (rw (f.1.fault, f.1.store) (merge_fails m f.0)))
+      (λ h. rw h.resumed.0 (⊎_elim (none_resumed m h.post) (λ r. second_not_resumed m h.post r.first r.second)
+      h.resumed.1))
+      m.ends)
+      (λ m. ⊎_elim
+      (λ f. subst (λ reader. MergePost tool old (state_by_side reader is.out is.store) (Err fault))
+      (λ i side. side_case (λ t. was.reader t ≡ is.reader t) m.s (sym f.2) (sym m.reader) side i)
+      (rw (f.1, f.3) (alone_fails m f.0)))
+      (λ h. rw h.resumed.0 (alone_not_resumed m h.post h.resumed.1)) m.passed.ends))
+      post
 
 module _ {tool : MergeTool} {old was : MergeState} {one two : Sorted} {w : IsOpenMerge tool old}
     (loop : LoopInvariant w was (both one two)) (between : BetweenSteps tool.key was one two) where
@@ -619,79 +539,17 @@ module _ {tool : MergeTool} {old was : MergeState} {one two : Sorted} {w : IsOpe
     clean = between.clean;
   }
 
-module _ {tool : MergeTool} {old was : MergeState} {one two : Sorted} {w : IsOpenMerge tool old}
-    (loop : LoopInvariant w was (both one two)) (between : BetweenSteps tool.key was one two) {first second : Reader}
-    {out : Output} {after : Slots} {one2 two2 : Sorted} where
-  pub blocks_on : {u : Unit {0}}
-      → BlocksPost tool (both one two) (both one2 two2) was (merge_state first second out after) (Ok u)
-      → AreValidCursors tool.key one2 two2 after
-      → LoopInvariant w (merge_state first second out after) (both one2 two2)
-      × BetweenSteps tool.key (merge_state first second out after) one2 two2
-  blocks_on {u} post valid =
-      ⊎_elim
-      (λ e. rw (ap (λ (c : Side → Sorted). c First) e.0, ap (λ (c : Side → Sorted). c Second) e.0)
-      (subst (λ state. LoopInvariant w state (both one two) × BetweenSteps tool.key state one two) (sym e.1)
-      (loop, between)))
-      (⊎_elim
-      (λ m. ⊎_elim (λ f. (let never : Ok u ≡ Err Write = f.1.fault in cc))
-      (λ h. merged_goes_on loop between m h.post h.resumed.first h.resumed.second valid) m.ends)
-      (λ m. ⊎_elim (λ f. (let never : Ok u ≡ Err Write = f.1 in cc))
-      (λ h. passed_goes_on loop between m h.post h.resumed valid) m.passed.ends))
-      post
-
-  pub blocks_read : {u : Unit {0}}
-      → BlocksPost tool (both one two) (both one2 two2) was (merge_state first second out after) (Ok u)
-      → reads_ahead (both first second) one2 two2 ≤ reads_ahead was.reader one two
-  blocks_read {u} post =
-      ⊎_elim
-      (λ e. rw (
-        ap (λ (c : Side → Sorted). c First) e.0,
-        ap (λ (c : Side → Sorted). c Second) e.0,
-        ap (λ (state : MergeState). state.reader) e.1,
-      ) (omega arith))
-      (⊎_elim
-      (λ m. ⊎_elim (λ f. (let never : Ok u ≡ Err Write = f.1.fault in cc))
-      (λ h. merged_reads loop between m h.post h.resumed.first h.resumed.second) m.ends)
-      (λ m. ⊎_elim (λ f. (let never : Ok u ≡ Err Write = f.1 in cc))
-      (λ h. passed_reads loop between m h.post h.resumed) m.passed.ends))
-      post
-
-  pub blocks_fail : {fault : MergeFault}
-      → BlocksPost tool (both one two) (both one2 two2) was (merge_state first second out after) (Err fault)
-      → MergePost tool old (merge_state first second out after) (Err fault)
-  blocks_fail {fault} post =
-      ⊎_elim
-      (λ e. (let never : Err fault ≡ Ok tt = e.2 in cc))
-      (⊎_elim
-      (λ m. ⊎_elim
-      (λ f. subst (λ reader. MergePost tool old (state_by_side reader out after) (Err fault)) (sym f.1.reader)
-      (rw (f.1.fault, f.1.store) (write_fails loop between m f.0)))
-      (λ h. rw h.resumed.0 (⊎_elim (λ r. none_resumed loop between m h.post r)
-      (λ r. second_not_resumed loop between m h.post r.first r.second) h.resumed.1)) m.ends)
-      (λ m. ⊎_elim
-      (λ f. (let same : both first second ≡ was.reader =
-      λ i side. side_case (λ t. both first second t ≡ was.reader t) m.s f.2 m.reader side i in
-      rw (f.1, f.3) (subst (λ reader. MergePost tool old (state_by_side reader out was.store) (Err Write)) (sym same)
-      (write_alone_fails loop between m f.0))))
-      (λ h. rw h.resumed.0 (alone_not_resumed loop between m h.post h.resumed.1)) m.passed.ends))
-      post
-
 -- the invariant of the loop of `comm`, in whatever order
 pub kept_by_blocks : {O : Type 0} (cmp : O → Cmp) (key : O → Side → Key) {job : Comm} {old was : MergeState}
     {one two : Sorted} {a b start : O} → LoopOfComm job cmp key old was one two a start
-    → {first second : Reader} {out : Output} {after : Slots} {one2 two2 : Sorted} {u : Unit {0}}
-    → BlocksPost (comm_with job (cmp a) (key a)) (both one two) (both one2 two2) was
-    (merge_state first second out after) (Ok u) → b ≡ a → AreValidCursors (key b) one2 two2 after
-    → LoopOfComm job cmp key old (merge_state first second out after) one2 two2 b start
+    → {is : MergeState} {one2 two2 : Sorted} {u : Unit {0}}
+    → BlocksPost (comm_with job (cmp a) (key a)) (both one two) (both one2 two2) was is (Ok u) → b ≡ a
+    → AreValidCursors (key b) one2 two2 is.store → LoopOfComm job cmp key old is one2 two2 b start
 kept_by_blocks cmp key k post same valid =
     let t = k.iteration in
     let (loop, between) = blocks_on t.loop_invariant t.between post (rw same at valid) in
-    kept_order same k.order (record {
-      w = t.w;
-      whole_line_keys = t.whole_line_keys;
-      loop_invariant = loop;
-      between = between;
-    })
+    kept_order same k.order
+    (record { w = t.w; whole_line_keys = t.whole_line_keys; loop_invariant = loop; between = between })
 
 -- the remaining work of the loop decreases
 pub reads_once : {a b c : ℕ} → a < b → b ≤ c → a < c

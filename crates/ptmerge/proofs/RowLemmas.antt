@@ -2,8 +2,8 @@
 -- first input with each of the second one. So it is for `join`.
 use Rattle.ptmerge.proofs
 use Rattle.ptmerge.specs
-use proofs.Common.{◌≡◌, List, ℕ, [], ◌∷◌, Bool, true, false, refl, arith, append-nil, unlines-append}
-use proofs.Common.{Key, Lines, Ok, Output, PushEffect, flat_map, map, unlines}
+use proofs.Common.{◌≡◌, List, ℕ, [], ◌∷◌, Bool, true, false, refl, arith, append-nil, unlines-append, Key, Lines, Ok}
+use proofs.Common.{Output, PushEffect, flat_map, map, unlines}
 use proofs.JoinLemmas.Fields.{PartialWrite, partial_ends, partial_fails, partial_more, partial_starts}
 use proofs.JoinLemmas.Group.{pair_of}
 use Rattle.ptlangs.specs.Jobs.{Join}
