@@ -83,7 +83,7 @@ module _ (tool : MergeTool) (o : IsKeyOrder tool.cmp) (s : Side) where
         write_least_run o k _ (alone s now.head.now)
         (side_case _ s (simp put_same (line_run tool o s _ _ (refl, tt) refl more)) (simp put_other ended_run))
         (λ side. refl) (by_line.none k)
-        (λ r c. alone_splits tool o by_line s _ _ (λ side. lines_with_key (key side) (r side) k)
+        (λ r c. alone_splits by_line s _ _ (λ side. lines_with_key (key side) (r side) k)
         (ap (λ l. lines_with_key (key (other s)) l k) (rw put_other at (c (other s)))))
         clean m wrote
 

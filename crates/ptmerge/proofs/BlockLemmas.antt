@@ -7,20 +7,21 @@ use proofs.Common.{◌≡◌, ◌⊎◌, inl, inr, ⊎_elim, ℕ, suc, ◌+◌, 
 use proofs.Common.{arith, subst, Output, length, PushEffect, Some, None, Option, true, false, drop, length-append}
 use proofs.Common.{append_assoc, append-nil, unlines, IsLine, Side, First, Second, Lines, MergeTool, other, with_side}
 use proofs.Common.{Cmp, Key, both, Reader, Sorted, Head, budget, length-drop, usual, push_nothing, is_eq, is_gt, Less}
-use proofs.Common.{Err, IsErrAnd, MergeFault, Ok, Result, Write, map, Bool, entries_by_key, entries_of_key}
-use proofs.Common.{lines_with_key, unlines-append, push_trans}
+use proofs.Common.{Err, IsErrAnd, MergeFault, Ok, Result, Write, map, Bool, entries_by_key, lines_with_key}
+use proofs.Common.{unlines-append, push_trans}
 use Rattle.std.specs.Prelude.{OnErr, take}
 use Rattle.std.specs.declared.cmp.Ordering.{Ordering}
 use Rattle.ptlines.specs.Calls.Readers.{IsSound}
 use specs.Calls.MergeSteps.{IsReaderOf}
 use specs.Private.Passed.{CanResume}
 use specs.declared.merging.cursor.Reached.{Reached}
-use proofs.MergeLemmas.{MergeInvariant, IsKeyOrder, Bound, AtLeast, AtMost, Above, Written, alone, output_of, all_keys}
+use proofs.MergeLemmas.{MergeInvariant, IsKeyOrder, Bound, AtLeast, AtMost, Written, alone, output_of, all_keys}
 use proofs.MergeLemmas.{write_least_run, IsLeastKeyRun, IsLineByLine, Each-weaker, at_most_trans, greater_flips}
 use proofs.MergeLemmas.{less_flips, is_greater, lines_with_key-above, side_case, from_key, self_at_most, EachKey-append}
 use proofs.MergeLemmas.{put_same, put_other, EachKey, IsSortedFrom, entries_of_line, front_is, Each-parts, MayFollow}
-use proofs.MergeLemmas.{IsUnder, may_follow_none}
+use proofs.MergeLemmas.{IsUnder, may_follow_none, IsLater}
 use Rattle.std.proofs.lemmas.List.{map-append}
+use Rattle.std.proofs.Math.Seq.{take-append_seam}
 use Rattle.ptlines.proofs.TextLaws.{complete_lines_cons, complete_lines_none}
 use Rattle.ptlines.proofs.LineSearch.{line_before_terminator, line_if_not_found}
 use Rattle.ptlines.specs.Laws.Text.{AreLines}
@@ -28,8 +29,7 @@ use Rattle.ptlines.specs.Text.{complete_lines}
 use Rattle.std.specs.declared.cmp.Ordering.TheVariants.{Equal}
 use Rattle.memchr.specs.Find.{IsFirstByte, is_byte}
 use specs.Private.BlockLines.{AreMerged, ArePassed, BlockRunPost, CanMerge, HasFailed, IsBlockTool, IsInBlock, HaveKey}
-use specs.Private.BlockLines.{IsInKey, IsMoved, IsNextLine, IsReached, IsStep, MayFollowHeads, entries_alone}
-use specs.Private.BlockLines.{LineRunPost, in_order}
+use specs.Private.BlockLines.{IsInKey, IsMoved, IsNextLine, IsReached, IsStep, entries_alone, LineRunPost, in_order}
 use specs.MergeSpec.{Entries}
 use specs.declared.merging.block_lines.BlockRun.{BlockRun}
 use specs.declared.merging.block_lines.BlockLine.{BlockLine}
@@ -135,18 +135,19 @@ complete_lines_of end (line ∷ ls) bytes (first, others) =
 take_some : (n : ℕ) (x : List ℕ) (xs : Lines) → 0 < n → take n (x ∷ xs) ≡ x ∷ take (n - 1) xs
 take_some = grind usual
 
-take_front : (xs ys : Lines) → take (length xs) (xs ++ ys) ≡ xs
-take_front = grind usual
+moved_bytes : {end : ℕ} {cmp : Cmp} {key : Key} {old now : BlockLine} {q : Lines}
+    → (m : IsMoved end cmp key old now q)
+    → length old.rest.now ≡ length (unlines end m.middle) + (length now.head.now + suc (length now.rest.now))
+moved_bytes {end} {now = now} m = omega (
+  arith,
+  ap length m.bytes,
+  length-append (unlines end m.middle) (now.head.now ++ (end ∷ now.rest.now)),
+  length-append now.head.now (end ∷ now.rest.now),
+)
 
 pub fewer_left : {end : ℕ} {cmp : Cmp} {key : Key} {first now : BlockLine} {f : Lines}
     → IsMoved end cmp key first now f → length now.rest.now < length first.rest.now
-fewer_left {end} {now = now} m =
-    omega (
-      arith,
-      ap length m.bytes,
-      length-append (unlines end m.middle) (now.head.now ++ (end ∷ now.rest.now)),
-      length-append now.head.now (end ∷ now.rest.now),
-    )
+fewer_left m = omega (arith, moved_bytes m)
 
 -- the lines between two lines of the block
 pub lines_are_between : {end : ℕ} {cmp : Cmp} {key : Key} {first now : BlockLine} {f : Lines} (more : ℕ)
@@ -155,7 +156,7 @@ pub lines_are_between : {end : ℕ} {cmp : Cmp} {key : Key} {first now : BlockLi
 lines_are_between {end} {first = first} {now} more m count =
     let same : more ≡ length m.middle = omega (arith, count, m.passed) in
     rw (m.lines, m.bytes, complete_lines_of end m.middle (now.head.now ++ (end ∷ now.rest.now)) m.whole.0, same)
-    (ap (λ l. first.head.now ∷ l) (take_front m.middle _))
+    (ap (λ l. first.head.now ∷ l) (take-append_seam m.middle _))
 
 pub next_of_key : (end : ℕ) (rest : List ℕ) (more size : ℕ) → 0 < more → IsFirstByte (is_byte end) rest (Some size)
     → take more (complete_lines end rest)
@@ -195,6 +196,13 @@ module _ {tool : MergeTool} {now next : Side → BlockLine} {mid is : Output} (s
 abbrev pub at_heads : MergeTool → (Side → BlockLine) → Side → Bound
 at_heads tool now side = AtLeast (tool.key side (now side).head.now)
 
+later_key : (cmp : Cmp) (o : IsKeyOrder cmp) {key : Key} (a b : List ℕ) → AtMost cmp a b
+    → IsLater cmp key (AtLeast a) (AtLeast b)
+later_key cmp o a b h = record {
+  may_follow = λ r c. Each-weaker _ _ (λ y more. at_most_trans cmp o a b y h more) _ c;
+  under = λ j u. at_most_trans cmp o j a b u h;
+}
+
 less_of : (r : Ordering) → is_gt r ≡ false → is_eq r ≡ false → r ≡ Less
 less_of = grind arith
 
@@ -204,28 +212,24 @@ module _ (tool : MergeTool) (o : IsKeyOrder tool.cmp) where
   at_most_of : (a k : List ℕ) → is_gt (cmp a k) ≡ true → AtMost cmp k a
   at_most_of a k gt = ap is_gt (greater_flips cmp o a k (is_greater _ gt))
 
-  above_of : (a k y : List ℕ) → is_gt (cmp a k) ≡ true → AtMost cmp a y → Above cmp k y
-  above_of a k y gt h = grind (arith, at_most_trans cmp o a y k h)
-
   none_follows : (side : Side) (r : Lines) (a k : List ℕ) → is_gt (cmp a k) ≡ true → EachKey (AtMost cmp a) (key side) r
       → lines_with_key (key side) r k ≡ []
   none_follows side r a k gt c =
-      lines_with_key-above tool o (key side) k r (Each-weaker _ _ (λ y h. above_of a k y gt h) _ c)
+      lines_with_key-above tool o (key side) k r
+      (Each-weaker _ _ (λ y h. (grind (arith, at_most_trans cmp o a y k h))) _ c)
 
   pub line_run : (side : Side) (a b : List ℕ) {k : List ℕ} {f : Lines} → HaveKey (key side) a f → a ≡ k
       → AtMost cmp a b → IsLeastKeyRun cmp (key side) (AtLeast a) (AtLeast b) k f
-  line_run side a b {k} own same h = record {
-    own = rw same at own;
-    may_follow = λ r c.
-        EachKey-append _ (key side) _ _ (Each-weaker _ _ (λ y e. rw e (self_at_most cmp o a)) _ own)
-        (Each-weaker _ _ (λ y more. at_most_trans cmp o a b y h more) _ c);
-    own_under = rw (sym same) (self_at_most cmp o a);
-    under = λ j u. at_most_trans cmp o j a b u h;
-    later = rw (sym same) (record {
-      may_follow = λ r c. Each-weaker _ _ (λ y more. at_most_trans cmp o a b y h more) _ c;
-      under = λ j u. at_most_trans cmp o j a b u h;
-    });
-  }
+  line_run side a b own same h =
+      let later = later_key cmp o {key = key side} a b h in
+      record {
+        own = rw same at own;
+        may_follow = λ r c. EachKey-append _ (key side) _ _
+            (Each-weaker _ _ (λ y e. rw e (self_at_most cmp o a)) _ own) (later.may_follow r c);
+        own_under = rw (sym same) (self_at_most cmp o a);
+        under = later.under;
+        later = rw (sym same) later;
+      }
 
   no_run : (side : Side) (a k : List ℕ) → is_gt (cmp a k) ≡ true
       → IsLeastKeyRun cmp (key side) (AtLeast a) (AtLeast a) k []
@@ -234,10 +238,7 @@ module _ (tool : MergeTool) (o : IsKeyOrder tool.cmp) where
     may_follow = λ r c. c;
     own_under = at_most_of a k gt;
     under = λ j u. u;
-    later = record {
-      may_follow = λ r c. Each-weaker _ _ (λ y more. at_most_trans cmp o k a y (at_most_of a k gt) more) _ c;
-      under = λ j u. at_most_trans cmp o j k a u (at_most_of a k gt);
-    };
+    later = later_key cmp o k a (at_most_of a k gt);
   }
 
   module _ (none : (k : List ℕ) → tool.entries k [] [] ≡ []) {now next : Side → BlockLine} {mid is : Output}
@@ -282,71 +283,12 @@ module _ (tool : MergeTool) (o : IsKeyOrder tool.cmp) where
     key_is = λ side. (can side).key_is;
   }
 
-  line_alone : (s : Side) (x : List ℕ) {first now : BlockLine} → IsInKey terminator cmp (key s) first now (x ∷ [])
-      → IsInKey terminator cmp (key s) first now (alone s x s)
-  line_alone First x i = i
-  line_alone Second x i = i
-
-  -- one input has the least key
-  module _ (by_line : IsLineByLine tool.entries) where
-    pub alone_splits : (s : Side) (k x : List ℕ) (g : Side → Lines) → g (other s) ≡ []
-        → tool.entries k (alone s x First ++ g First) (alone s x Second ++ g Second)
-        ≡ tool.entries k (alone s x First) (alone s x Second) ++ tool.entries k (g First) (g Second)
-    alone_splits First k x g none = rw none (by_line.first k x (g First))
-    alone_splits Second k x g none = rw none (by_line.second k x (g Second))
-
-    pub alone_step : (s : Side) {now : Side → BlockLine} {next : BlockLine} {mid is : Output}
-        → is_gt (cmp (key (other s) (now (other s)).head.now) (key s (now s).head.now)) ≡ true
-        → IsInKey terminator cmp (key s) (now s) next ((now s).head.now ∷ [])
-        → PushEffect mid is (output_of tool (alone s (now s).head.now)) → IsStep tool now (with_side s next now) mid is
-    alone_step s {now} {next} gt n wrote = record {
-      k = key s (now s).head.now;
-      f = alone s (now s).head.now;
-      passes = side_case _ s (inl (refl, rw (put_same s next now) (line_alone s _ n)))
-          (inr (put_other s _ _, gt, put_other s next now));
-      first = λ r c. alone_splits s _ _ (λ side. lines_with_key (key side) (r side) (key s (now s).head.now))
-          (none_follows (other s) _ _ _ gt (rw (put_other s next now) at (c (other s))));
-      wrote = wrote;
-    }
-
-  -- both inputs have the least key
-  pub pair_step : {now next : Side → BlockLine} {mid is : Output} {f g : Lines}
-      → let k = key First (now First).head.now in key Second (now Second).head.now ≡ k
-      → ((side : Side) → IsInKey terminator cmp (key side) (now side) (next side) (both f g side))
-      → ((r : Side → Lines) → MayFollowHeads tool next r
-      → tool.entries k (f ++ lines_with_key (key First) (r First) k) (g ++ lines_with_key (key Second) (r Second) k)
-      ≡ tool.entries k f g ++ entries_of_key tool r k)
-      → PushEffect mid is (output_of tool (both f g)) → IsStep tool now next mid is
-  pair_step {now} {f = f} {g} same n first wrote = record {
-    k = key First (now First).head.now;
-    f = both f g;
-    passes = elim [ First ↦ inl (refl, n First) | Second ↦ inl (same, n Second) ];
-    first = first;
-    wrote = wrote;
-  }
-
-  pub key_output : (k : List ℕ) (f : Side → Lines) → tool.entries k [] [] ≡ []
-      → ((side : Side) → HaveKey (key side) k (f side))
-      → output_of tool f ≡ unlines terminator (tool.entries k (f First) (f Second))
-  key_output k f none own =
-      ap (unlines terminator) (simp append-nil at (front_is tool o all_keys k none f (λ side. []) own (λ side. tt)))
-
-  -- the keys that follow are greater
-  pub pair_splits : ((k : List ℕ) → tool.entries k [] [] ≡ []) → {now next : Side → BlockLine} (k : List ℕ)
-      (one two : Lines) → ((side : Side) → key side (now side).head.now ≡ k)
-      → ((side : Side) → IsInKey terminator cmp (key side) (now side) (next side) (both one two side))
-      → ((side : Side) → (next side).same ≡ false) → (r : Side → Lines) → MayFollowHeads tool next r
-      → tool.entries k (one ++ lines_with_key (key First) (r First) k) (two ++ lines_with_key (key Second) (r Second) k)
-      ≡ tool.entries k one two ++ entries_of_key tool r k
-  pair_splits none {now} {next} k one two has n new r c =
-      let gone : (side : Side) → lines_with_key (key side) (r side) k ≡ [] =
-      λ side. none_follows side (r side) (key side (next side).head.now) k
-      (ap is_gt (rw (has side) at (less_flips cmp o (key side (now side).head.now) (key side (next side).head.now)
-      (less_of _ (n side).ordered (sym (n side).same ∙ new side))))) (c side) in
-      (λ i. tool.entries k (one ++ gone First i) (two ++ gone Second i))
-      ∙ (λ i. tool.entries k (append-nil one i) (append-nil two i))
-      ∙ sym (append-nil (tool.entries k one two))
-      ∙ ap (λ e. tool.entries k one two ++ e) (sym ((λ i. tool.entries k (gone First i) (gone Second i)) ∙ none k))
+-- one input has the least key
+pub alone_splits : {entries : Entries} → IsLineByLine entries → (s : Side) (k x : List ℕ) (g : Side → Lines)
+    → g (other s) ≡ [] → entries k (alone s x First ++ g First) (alone s x Second ++ g Second)
+    ≡ entries k (alone s x First) (alone s x Second) ++ entries k (g First) (g Second)
+alone_splits by_line First k x g none = rw none (by_line.first k x (g First))
+alone_splits by_line Second k x g none = rw none (by_line.second k x (g Second))
 
 -- ---- the steps of a tool in an order of its keys
 
@@ -356,36 +298,62 @@ SplitsOff entries f g =
     (k : List ℕ) (q r : Lines) → entries k (f ++ q) (g ++ r) ≡ entries k f g ++ entries k q r
 
 module _ (tool : MergeTool) (cmp : Cmp) (key : Side → Key) (o : IsKeyOrder cmp) (by : IsBlockTool tool key) where
+  open tool use {entries, terminator}
+
   abbrev ordered : MergeTool
   ordered = in_order tool cmp key
 
   pub line_pushed : (s : Side) {x k : List ℕ} {mid is : Output} → k ≡ key s x
-      → PushEffect mid is (unlines tool.terminator (entries_alone tool.entries s k x))
+      → PushEffect mid is (unlines terminator (entries_alone entries s k x))
       → PushEffect mid is (output_of ordered (alone s x))
   line_pushed s own pushed = rw (entries_of_line ordered s _) (rw own at pushed)
 
   pub alone_passes : (s : Side) {now : Side → BlockLine} {next : BlockLine} {mid is : Output} {k l : List ℕ}
       → k ≡ key s (now s).head.now → l ≡ key (other s) (now (other s)).head.now → is_gt (cmp l k) ≡ true
-      → PushEffect mid is (unlines tool.terminator (entries_alone tool.entries s k (now s).head.now))
-      → IsInBlock (now s) → IsNextLine tool.terminator cmp (key s) (now s) next
+      → PushEffect mid is (unlines terminator (entries_alone entries s k (now s).head.now))
+      → IsInBlock (now s) → IsNextLine terminator cmp (key s) (now s) next
       → IsStep ordered now (with_side s next now) mid is
-  alone_passes s own others gt pushed fits n =
-      alone_step ordered o by.alone s (rw (own, others) at gt) (one_in_key cmp (key s) n fits)
-      (line_pushed s own pushed)
+  alone_passes s {now} {next} own others gt pushed fits n =
+      let k = key s (now s).head.now in
+      let above = rw (own, others) at gt in
+      record {
+        k = k;
+        f = alone s (now s).head.now;
+        passes = side_case _ s (inl (refl, simp put_same (one_in_key cmp (key s) n fits)))
+            (inr (put_other s _ _, above, put_other s next now));
+        first = λ r c. alone_splits by.alone s _ _ (λ side. lines_with_key (key side) (r side) k)
+            (none_follows ordered o (other s) _ _ _ above (rw (put_other s next now) at (c (other s))));
+        wrote = line_pushed s own pushed;
+      }
 
   pub pair_passes : {now next : Side → BlockLine} {mid is : Output} {k l : List ℕ} {f g : Lines}
       → k ≡ key First (now First).head.now → l ≡ key Second (now Second).head.now → k ≡ l
-      → PushEffect mid is (unlines tool.terminator (tool.entries k f g))
-      → ((side : Side) → IsInKey tool.terminator cmp (key side) (now side) (next side) (both f g side))
-      → SplitsOff tool.entries f g ⊎ ((side : Side) → (next side).same ≡ false) → IsStep ordered now next mid is
-  pair_passes {now} {f = f} {g} own others equal pushed n first =
-      let same : key Second (now Second).head.now ≡ key First (now First).head.now =
-      sym others ∙ sym equal ∙ own in
-      pair_step ordered o same n
-      (⊎_elim (λ law r c. law _ _ _)
-      (λ new. pair_splits ordered o by.alone.none _ f g (elim [ First ↦ refl | Second ↦ same ]) n new) first)
-      (rw (key_output ordered o _ (both f g) (by.alone.none _)
-      (elim [ First ↦ (n First).own | Second ↦ rw same at (n Second).own ])) (rw own at pushed))
+      → PushEffect mid is (unlines terminator (entries k f g))
+      → ((side : Side) → IsInKey terminator cmp (key side) (now side) (next side) (both f g side))
+      → SplitsOff entries f g ⊎ ((side : Side) → (next side).same ≡ false) → IsStep ordered now next mid is
+  pair_passes {now} {next} {f = f} {g} own others equal pushed n first =
+      let k = key First (now First).head.now in
+      let same : (side : Side) → key side (now side).head.now ≡ k =
+      elim [ First ↦ refl | Second ↦ sym others ∙ sym equal ∙ own ] in
+      let have : (side : Side) → HaveKey (key side) k (both f g side) = elim [
+        | First ↦ (n First).own
+        | Second ↦ rw (same Second) at (n Second).own
+      ] in
+      record {
+        k = k;
+        f = both f g;
+        passes = λ side. inl (same side, n side);
+        first = λ r c. ⊎_elim (λ law. law k _ _)
+            -- the keys that follow are greater
+            (λ new. (let gone : (side : Side) → lines_with_key (key side) (r side) k ≡ [] =
+            λ side. none_follows ordered o side (r side) (key side (next side).head.now) k
+            (ap is_gt (rw (same side) at (less_flips cmp o _ _
+            (less_of _ (n side).ordered (sym (n side).same ∙ new side))))) (c side) in
+            rw (gone First, gone Second, append-nil f, append-nil g, by.alone.none k) (sym (append-nil _)))) first;
+        wrote = rw (ap (unlines terminator) (simp append-nil at
+            (front_is ordered o all_keys k (by.alone.none k) (both f g) (λ side. []) have (λ side. tt))))
+            (rw own at pushed);
+      }
 
 -- the lines have the key by the keys of the tool, too
 pub have_keys : {key own : Key} {k l : List ℕ} (f : Lines) → HaveKey key k f → ((x : List ℕ) → key x ≡ own x) → k ≡ l
@@ -416,10 +384,11 @@ leads_on {cmp = cmp} o key {old} {now} (_, inr m) =
     let first = key old.head.now in
     let (a, (least, _)) = Each-parts _ (map key m.middle) (key now.head.now ∷ [])
     (rw map-append at (from_key cmp o key first _ m.ordered)) in
+    let later = later_key cmp o {key = key} first (key now.head.now) least in
     record {
-      may_follow = λ r c. rw m.lines (self_at_most cmp o first, EachKey-append _ key m.middle r a
-          (Each-weaker _ _ (λ y h. at_most_trans cmp o first (key now.head.now) y least h) _ c));
-      under = λ k u. at_most_trans cmp o k first _ u least;
+      may_follow = λ r c.
+          rw m.lines (self_at_most cmp o first, EachKey-append _ key m.middle r a (later.may_follow r c));
+      under = later.under;
     }
 
 pub lines_after : {tool : MergeTool} {b d : Side → Bound} {p q : Side → Lines} {start was is : Output}
@@ -481,32 +450,27 @@ each_ends : (end : ℕ) (ls : Lines) → length ls ≤ length (unlines end ls)
 each_ends end [] = omega arith
 each_ends end (x ∷ ls) = grind (usual, each_ends end ls)
 
+-- where the input is, in its block: each line passed has bytes there, and so has the line reached
+pub within_block : {end : ℕ} {cmp : Cmp} {key : Key} {old now : BlockLine} {q : Lines} {reached : Reached}
+    {bytes : List ℕ} → old.rest.now ≡ bytes → ArePassed end cmp key old now q → IsReached now reached
+    → (reached.left + reached.passed ≤ length bytes)
+    × (0 < reached.passed → reached.left + (reached.size + 1) ≤ length bytes)
+within_block rest (none, inl u) at =
+    let count = at.passed ∙ ap (λ l. l.passed) u.same ∙ none in (
+      omega (arith, at.left, count, ap (λ l. length l.rest.now) u.same, ap length rest),
+      λ some. absurd (omega (arith, count)),
+    )
+within_block {end} rest (none, inr m) at = (
+  omega (arith, at.left, at.passed, m.passed, none, ap length rest, moved_bytes m, each_ends end m.middle),
+  λ some. omega (arith, at.left, at.size, ap length rest, moved_bytes m),
+)
+
 pub can_resume : {end : ℕ} {cmp : Cmp} {key : Key} {old now : BlockLine} {q : Lines} {reached : Reached}
     {cursor : Sorted} {reader : Reader} → old.rest.now ≡ reader.buffered → ArePassed end cmp key old now q
     → IsReached now reached → cursor.status ≡ Head → IsReaderOf cursor reader → CanResume reached cursor reader
-can_resume rest (none, inl u) at head own = record {
-  head = head;
-  own_reader = own;
-  within = omega (
-    arith,
-    at.left,
-    at.passed,
-    ap (λ l. l.passed) u.same,
-    none,
-    ap (λ l. length l.rest.now) u.same,
-    ap length rest,
-  );
-  line = λ some. absurd (omega (arith, at.passed, ap (λ l. l.passed) u.same, none));
-}
-can_resume {end} {now = now} rest (none, inr m) at head own =
-    let size = ap length m.bytes ∙ length-append (unlines end m.middle) (now.head.now ++ (end ∷ now.rest.now)) in
-    let more = length-append now.head.now (end ∷ now.rest.now) in
-    record {
-      head = head;
-      own_reader = own;
-      within = omega (arith, at.left, at.passed, m.passed, none, ap length rest, size, more, each_ends end m.middle);
-      line = λ some. omega (arith, at.left, at.size, ap length rest, size, more);
-    }
+can_resume rest passed at head own =
+    let (within, line) = within_block rest passed at in
+    record { head = head; own_reader = own; within = within; line = line }
 
 pub can_resume_both : {tool : MergeTool} {old : Side → BlockLine} {run : BlockRun} {was is : Output}
     → BlockRunPost tool old run was is → {cursor : Side → Sorted} {reader : Side → Reader}

@@ -5,9 +5,9 @@ use Rattle.ptmerge.proofs
 use proofs.Common.{◌≡◌, ℕ, ◌-◌, false, List, [], ◌∷◌, ◌++◌, refl, sym, ◌∙◌, ap, subst, arith, length, drop, Some}
 use proofs.Common.{unlines, unlines-append, IsLine, AreLines, Lines, Cmp, Key, Reader, length-append, length_push}
 use proofs.Common.{advance_ok_trans, append_assoc, usual, push_nothing, ◌<◌, Side, MergeTool, Sorted, Slots, Head, line}
-use proofs.Common.{inl, inr, line_of_with_line, length-set, ◌≤◌, HasSlots, with_side, budget, length-drop, other}
-use proofs.Common.{MergeState, both, Comm, First, Second, Result, Err, MergeFault, MergePost, Memory, Write, true}
-use proofs.Common.{⊎_elim, append-nil, Output, Ok}
+use proofs.Common.{inr, line_of_with_line, length-set, ◌≤◌, HasSlots, with_side, budget, length-drop, other, MergeState}
+use proofs.Common.{both, Comm, First, Second, Result, Err, MergeFault, MergePost, Memory, Write, true, ⊎_elim}
+use proofs.Common.{append-nil, Output, Ok}
 use proofs.MergeLemmas.{IsSortedUpTo, IsSortedFrom, LinesRead, is_disordered, unlines_push, Bound, AtLeast}
 use proofs.MergeLemmas.{SideInvariant, IsAtCurrentLine, at_current_line, reads_nothing, after_from, self_at_most}
 use proofs.MergeLemmas.{low_slot, GroupStore, Extends, group_store_line, side_extends, NothingMore, put_same, ReadFacts}
@@ -25,7 +25,7 @@ use Rattle.ptmerge.specs.Private.Passed.{IsNotResumed, NoneResumed}
 use Rattle.ptmerge.specs.declared.merging.cursor.Reached.{Reached}
 use Rattle.ptmerge.specs.Calls.Comm.{comm_with}
 use Rattle.std.specs.List.{slice_range}
-use proofs.BlockLemmas.{at_heads, merged_on, step_written, passed_more, passed_one}
+use proofs.BlockLemmas.{within_block, at_heads, merged_on, step_written, passed_more, passed_one}
 use proofs.AloneLemmas.{at_line, line_written, only_push, passed_on}
 use proofs.CommLemmas.{LoopOfComm}
 use Rattle.ptmerge.specs.declared.merging.block_lines.BlockLine.{BlockLine}
@@ -277,16 +277,8 @@ module _ {tool : MergeTool} {old : MergeState} {w : IsOpenMerge tool old} {reade
 still_there : {end : ℕ} {cmp : Cmp} {key : Key} {old now : BlockLine} {q : Lines} {reached : Reached} {reader : Reader}
     → old.rest.now ≡ reader.buffered → ArePassed end cmp key old now q → IsReached now reached → 0 < reached.passed
     → IsDone reader → ⊥
-still_there rest (none, inl u) at some done = absurd (omega (arith, at.passed, ap (λ l. l.passed) u.same, none))
-still_there {end} {now = now} rest (none, inr m) at some done =
-    let size = ap length m.bytes ∙ length-append (unlines end m.middle) (now.head.now ++ (end ∷ now.rest.now)) in
-    absurd (omega (
-      arith,
-      ap length rest,
-      ap length done.buffered,
-      size,
-      length-append now.head.now (end ∷ now.rest.now),
-    ))
+still_there rest passed at some done =
+    absurd (omega (arith, (within_block rest passed at).1 some, ap length done.buffered))
 
 -- A call fails while processed lines are still buffered.
 module _ {tool : MergeTool} {old : MergeState} {w : IsOpenMerge tool old} {reader : Side → Reader}
