@@ -308,52 +308,53 @@ module _ (tool : MergeTool) (cmp : Cmp) (key : Side → Key) (o : IsKeyOrder cmp
       → PushEffect mid is (output_of ordered (alone s x))
   line_pushed s own pushed = rw (entries_of_line ordered s _) (rw own at pushed)
 
-  pub alone_passes : (s : Side) {now : Side → BlockLine} {next : BlockLine} {mid is : Output} {k l : List ℕ}
-      → k ≡ key s (now s).head.now → l ≡ key (other s) (now (other s)).head.now → is_gt (cmp l k) ≡ true
-      → PushEffect mid is (unlines terminator (entries_alone entries s k (now s).head.now))
-      → IsInBlock (now s) → IsNextLine terminator cmp (key s) (now s) next
-      → IsStep ordered now (with_side s next now) mid is
-  alone_passes s {now} {next} own others gt pushed fits n =
-      let k = key s (now s).head.now in
-      let above = rw (own, others) at gt in
-      record {
-        k = k;
-        f = alone s (now s).head.now;
-        passes = side_case _ s (inl (refl, simp put_same (one_in_key cmp (key s) n fits)))
-            (inr (put_other s _ _, above, put_other s next now));
-        first = λ r c. alone_splits by.alone s _ _ (λ side. lines_with_key (key side) (r side) k)
-            (none_follows ordered o (other s) _ _ _ above (rw (put_other s next now) at (c (other s))));
-        wrote = line_pushed s own pushed;
-      }
+  module _ {old now : Side → BlockLine} {was mid is : Output} (i : AreMerged ordered old now was mid) {end : ℕ}
+      (ends : end ≡ terminator) where
+    pub alone_passes : (s : Side) {next : BlockLine} → is_gt (cmp (now (other s)).key.now (now s).key.now) ≡ true
+        → PushEffect mid is (unlines end (entries_alone entries s (now s).key.now (now s).head.now))
+        → IsNextLine end cmp (key s) (now s) next → IsStep ordered now (with_side s next now) mid is
+    alone_passes s {next} gt pushed n =
+        let k = key s (now s).head.now in
+        let above = rw (i.key_is s, i.key_is (other s)) at gt in
+        record {
+          k = k;
+          f = alone s (now s).head.now;
+          passes = side_case _ s (inl (refl, simp put_same (rw ends at (one_in_key cmp (key s) n (i.in_block s)))))
+              (inr (put_other s _ _, above, put_other s next now));
+          first = λ r c. alone_splits by.alone s _ _ (λ side. lines_with_key (key side) (r side) k)
+              (none_follows ordered o (other s) _ _ _ above (rw (put_other s next now) at (c (other s))));
+          wrote = line_pushed s (i.key_is s) (rw ends at pushed);
+        }
 
-  pub pair_passes : {now next : Side → BlockLine} {mid is : Output} {k l : List ℕ} {f g : Lines}
-      → k ≡ key First (now First).head.now → l ≡ key Second (now Second).head.now → k ≡ l
-      → PushEffect mid is (unlines terminator (entries k f g))
-      → ((side : Side) → IsInKey terminator cmp (key side) (now side) (next side) (both f g side))
-      → SplitsOff entries f g ⊎ ((side : Side) → (next side).same ≡ false) → IsStep ordered now next mid is
-  pair_passes {now} {next} {f = f} {g} own others equal pushed n first =
-      let k = key First (now First).head.now in
-      let same : (side : Side) → key side (now side).head.now ≡ k =
-      elim [ First ↦ refl | Second ↦ sym others ∙ sym equal ∙ own ] in
-      let have : (side : Side) → HaveKey (key side) k (both f g side) = elim [
-        | First ↦ (n First).own
-        | Second ↦ rw (same Second) at (n Second).own
-      ] in
-      record {
-        k = k;
-        f = both f g;
-        passes = λ side. inl (same side, n side);
-        first = λ r c. ⊎_elim (λ law. law k _ _)
-            -- the keys that follow are greater
-            (λ new. (let gone : (side : Side) → lines_with_key (key side) (r side) k ≡ [] =
-            λ side. none_follows ordered o side (r side) (key side (next side).head.now) k
-            (ap is_gt (rw (same side) at (less_flips cmp o _ _
-            (less_of _ (n side).ordered (sym (n side).same ∙ new side))))) (c side) in
-            rw (gone First, gone Second, append-nil f, append-nil g, by.alone.none k) (sym (append-nil _)))) first;
-        wrote = rw (ap (unlines terminator) (simp append-nil at
-            (front_is ordered o all_keys k (by.alone.none k) (both f g) (λ side. []) have (λ side. tt))))
-            (rw own at pushed);
-      }
+    pub pair_passes : {next : Side → BlockLine} {f g : Lines} → cmp (now First).key.now (now Second).key.now ≡ Equal
+        → PushEffect mid is (unlines end (entries (now First).key.now f g))
+        → ((side : Side) → IsInKey end cmp (key side) (now side) (next side) (both f g side))
+        → SplitsOff entries f g ⊎ ((side : Side) → (next side).same ≡ false) → IsStep ordered now next mid is
+    pair_passes {next} {f} {g} equal pushed n first =
+        let k = key First (now First).head.now in
+        let same : (side : Side) → key side (now side).head.now ≡ k = elim [
+          | First ↦ refl
+          | Second ↦ sym (i.key_is Second) ∙ sym (o.exact _ _ equal) ∙ i.key_is First
+        ] in
+        let have : (side : Side) → HaveKey (key side) k (both f g side) = elim [
+          | First ↦ (n First).own
+          | Second ↦ rw (same Second) at (n Second).own
+        ] in
+        record {
+          k = k;
+          f = both f g;
+          passes = λ side. inl (same side, rw ends at (n side));
+          first = λ r c. ⊎_elim (λ law. law k _ _)
+              -- the keys that follow are greater
+              (λ new. (let gone : (side : Side) → lines_with_key (key side) (r side) k ≡ [] =
+              λ side. none_follows ordered o side (r side) (key side (next side).head.now) k
+              (ap is_gt (rw (same side) at (less_flips cmp o _ _
+              (less_of _ (n side).ordered (sym (n side).same ∙ new side))))) (c side) in
+              rw (gone First, gone Second, append-nil f, append-nil g, by.alone.none k) (sym (append-nil _)))) first;
+          wrote = rw (ap (unlines terminator) (simp append-nil at
+              (front_is ordered o all_keys k (by.alone.none k) (both f g) (λ side. []) have (λ side. tt))))
+              (rw (ends, i.key_is First) at pushed);
+        }
 
 -- the lines have the key by the keys of the tool, too
 pub have_keys : {key own : Key} {k l : List ℕ} (f : Lines) → HaveKey key k f → ((x : List ℕ) → key x ≡ own x) → k ≡ l

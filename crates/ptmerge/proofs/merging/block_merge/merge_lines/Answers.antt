@@ -1,24 +1,14 @@
 -- Answers for `merge_lines`: its loop at the start, after each arm, which passes one line or one of each input, and at
 -- its exits, where no line ends in its block or a write has failed.
 use Rattle.ptmerge.proofs
-use proofs.Common.{◌≡◌, ℕ, sym, ◌∙◌, ap, arith, [], ◌∷◌, inr, is_gt, subst, First, Second, both, unlines}
-use proofs.Common.{Cmp, Key, Lines, Output, PushEffect}
-use Rattle.ptmerge.specs.declared.merging.block_lines.BlockLine.{BlockLine}
+use proofs.Common.{sym, ◌∙◌, ap, arith, [], ◌∷◌, inr, is_gt, First, Second, both}
 use proofs.MergeLemmas.{less_flips, IsKeyOrder}
 use proofs.BlockLemmas.{alone_passes, fewer_left, have_keys, merge_starts, one_in_key, pair_passes, pairs_or_new}
 use proofs.BlockLemmas.{run_failed, step_on}
-use Rattle.ptmerge.specs.Private.BlockLines.{IsInKey, IsStep, further_lines, in_order, key_lines}
+use Rattle.ptmerge.specs.Private.BlockLines.{IsStep, further_lines, in_order, key_lines}
 use proofs.merging.block_merge.merge_lines.Given as given
 use Rattle.ptmerge.proofs.merging.block_merge.merge_lines.Goals.{After-write_both, After-write_rows}
 use proofs.merging.block_merge.merge_lines.Goals as goal
-
-with_terminator : {a b : ℕ} {cmp : Cmp} {key : Key} {first now : BlockLine} {f : Lines} → a ≡ b
-    → IsInKey a cmp key first now f → IsInKey b cmp key first now f
-with_terminator {cmp = cmp} {key} {first} {now} {f} same i = subst (λ t. IsInKey t cmp key first now f) same i
-
-rows_pushed : {a b : ℕ} {mid is : Output} {xs ys : Lines} → a ≡ b → ys ≡ xs → PushEffect mid is (unlines a xs)
-    → PushEffect mid is (unlines b ys)
-rows_pushed same rows pushed = rw (sym same, rows) pushed
 
 module _ (g : given.Over) where
   key_order : (order : g.row.K.Denot) → IsKeyOrder (g.K.KeyOrder.order order)
@@ -29,12 +19,11 @@ module _ (g : given.Over) where
       (both c.in-Some-next-2.next1 c.in-Some-next-3.next2) c.lines.out c.write_both.new.out
   both_pass c =
       let i = c.lines.invariant in
-      pair_passes _ _ _ (key_order c.args.order.now) c.requires.tool {f = c.lines.one.head.now ∷ []}
-      {g = c.lines.two.head.now ∷ []} (i.key_is First) (i.key_is Second)
-      (g.met.K.KeyOrder.exact c.args.order.now _ _ (grind arith)) (rw c.requires.ends at c.write_both.ensures.wrote)
+      pair_passes _ _ _ (key_order _) c.requires.tool i c.requires.ends {f = c.lines.one.head.now ∷ []}
+      {g = c.lines.two.head.now ∷ []} (grind arith) c.write_both.ensures.wrote
       (elim [
-        | First ↦ one_in_key _ _ (rw c.requires.ends at c.in-Some-next-2.ensures) (i.in_block First)
-        | Second ↦ one_in_key _ _ (rw c.requires.ends at c.in-Some-next-3.ensures) (i.in_block Second)
+        | First ↦ one_in_key _ _ c.in-Some-next-2.ensures (i.in_block First)
+        | Second ↦ one_in_key _ _ c.in-Some-next-3.ensures (i.in_block Second)
       ])
       (pairs_or_new c.is_pair_by_pair-by_pairs.result (both c.in-Some-next-2.next1 c.in-Some-next-3.next2)
       (λ t k q r. c.is_pair_by_pair-by_pairs.ensures.by_pairs t k _ _ q r) (λ none. (grind arith, grind arith)))
@@ -43,18 +32,14 @@ module _ (g : given.Over) where
       (g.K.KeyOrder.order c.args.order.now) (g.K.KeyOrder.key_of c.args.order.now)) (both c.lines.one c.lines.two)
       (both c.in-Some-whole_key.firsts.after c.in-Some-whole_key-2.seconds.after) c.lines.out c.write_rows.new.out
   rows_pass c =
-      let i = c.lines.invariant in
       let end = c.args.terminator in
       let one = c.in-Some-whole_key.firsts.lines in
       let two = c.in-Some-whole_key-2.seconds.lines in
-      pair_passes _ _ _ (key_order c.args.order.now) c.requires.tool {f = key_lines end one} {g = key_lines end two}
-      (i.key_is First) (i.key_is Second) (g.met.K.KeyOrder.exact c.args.order.now _ _ (grind arith))
-      (rows_pushed c.requires.ends (c.is_pair_by_pair-by_pairs.ensures.by_rows (grind arith) c.lines.one.key.now
-      one.line.now two.line.now (further_lines end one) (further_lines end two)) c.write_rows.ensures.wrote)
-      (elim [
-        | First ↦ with_terminator c.requires.ends c.in-Some-whole_key.ensures.passed
-        | Second ↦ with_terminator c.requires.ends c.in-Some-whole_key-2.ensures.passed
-      ])
+      pair_passes _ _ _ (key_order _) c.requires.tool c.lines.invariant c.requires.ends {f = key_lines end one}
+      {g = key_lines end two} (grind arith)
+      (rw (c.is_pair_by_pair-by_pairs.ensures.by_rows (grind arith) c.lines.one.key.now one.line.now two.line.now
+      (further_lines end one) (further_lines end two)) c.write_rows.ensures.wrote)
+      (elim [ First ↦ c.in-Some-whole_key.ensures.passed | Second ↦ c.in-Some-whole_key-2.ensures.passed ])
       (inr (elim [ First ↦ c.in-Some-whole_key.ensures.new | Second ↦ c.in-Some-whole_key-2.ensures.new ]))
 
 pub lines-init : goal.lines-init
@@ -102,38 +87,32 @@ pub lines-preserved-in-Less : goal.lines-preserved-in-Less
 lines-preserved-in-Less g c =
     let i = c.lines.invariant in
     step_on _ (key_order g _) c.requires.tool.alone.none
-    (alone_passes _ _ _ (key_order g _) c.requires.tool First {now = both c.lines.one c.lines.two}
-    (i.key_is First) (i.key_is Second) (ap is_gt (less_flips _ (key_order g _) _ _ (grind arith)))
-    (rw c.requires.ends at c.write_alone.ensures.wrote) (i.in_block First) (rw c.requires.ends at c.in-Some.ensures))
+    (alone_passes _ _ _ (key_order g _) c.requires.tool i c.requires.ends First
+    (ap is_gt (less_flips _ (key_order g _) _ _ (grind arith))) c.write_alone.ensures.wrote c.in-Some.ensures)
     i (c.in_ok-write_alone-in-Less.ensures.clean i.clean)
 
 pub returns-in_err-write_alone-in-Less-clause-failed : goal.returns-in_err-write_alone-in-Less-clause-failed
 returns-in_err-write_alone-in-Less-clause-failed g c =
     let i = c.lines.invariant in
     run_failed _ i
-    (alone_passes _ _ _ (key_order g _) c.requires.tool First {now = both c.lines.one c.lines.two}
-    (i.key_is First) (i.key_is Second) (ap is_gt (less_flips _ (key_order g _) _ _ (grind arith)))
-    (rw c.requires.ends at c.write_alone.ensures.wrote) (i.in_block First) (rw c.requires.ends at c.in-Some.ensures))
+    (alone_passes _ _ _ (key_order g _) c.requires.tool i c.requires.ends First
+    (ap is_gt (less_flips _ (key_order g _) _ _ (grind arith))) c.write_alone.ensures.wrote c.in-Some.ensures)
     c.in_err-write_alone-in-Less.ensures.fault
 
 pub lines-preserved-in-Greater : goal.lines-preserved-in-Greater
 lines-preserved-in-Greater g c =
     let i = c.lines.invariant in
     step_on _ (key_order g _) c.requires.tool.alone.none
-    (alone_passes _ _ _ (key_order g _) c.requires.tool Second {now = both c.lines.one c.lines.two}
-    (i.key_is Second) (i.key_is First) (grind arith)
-    (rw c.requires.ends at c.write_alone-in-Greater.ensures.wrote) (i.in_block Second)
-    (rw c.requires.ends at c.in-Some-next.ensures))
+    (alone_passes _ _ _ (key_order g _) c.requires.tool i c.requires.ends Second (grind arith)
+    c.write_alone-in-Greater.ensures.wrote c.in-Some-next.ensures)
     i (c.in_ok-write_alone-in-Greater.ensures.clean i.clean)
 
 pub returns-in_err-write_alone-in-Greater-clause-failed : goal.returns-in_err-write_alone-in-Greater-clause-failed
 returns-in_err-write_alone-in-Greater-clause-failed g c =
     let i = c.lines.invariant in
     run_failed _ i
-    (alone_passes _ _ _ (key_order g _) c.requires.tool Second {now = both c.lines.one c.lines.two}
-    (i.key_is Second) (i.key_is First) (grind arith)
-    (rw c.requires.ends at c.write_alone-in-Greater.ensures.wrote) (i.in_block Second)
-    (rw c.requires.ends at c.in-Some-next.ensures))
+    (alone_passes _ _ _ (key_order g _) c.requires.tool i c.requires.ends Second (grind arith)
+    c.write_alone-in-Greater.ensures.wrote c.in-Some-next.ensures)
     c.in_err-write_alone-in-Greater.ensures.fault
 
 pub whole_key-requires-clause-passed : goal.whole_key-requires-clause-passed
@@ -163,29 +142,24 @@ lines-smaller g c =
 
 pub lines-preserved : goal.lines-preserved
 lines-preserved g c =
-    let i = c.lines.invariant in
-    step_on _ (key_order g _) c.requires.tool.alone.none
-    (rows_pass g (goal.at.lines-preserved g c).After-write_rows)
-    i (c.in_ok-write_rows-in-Equal.ensures.clean i.clean)
+    step_on _ (key_order g _) c.requires.tool.alone.none (rows_pass g (goal.at.lines-preserved g c).After-write_rows)
+    c.lines.invariant (c.in_ok-write_rows-in-Equal.ensures.clean c.lines.invariant.clean)
 
 pub returns-in_err-write_rows-in-Equal-clause-failed : goal.returns-in_err-write_rows-in-Equal-clause-failed
 returns-in_err-write_rows-in-Equal-clause-failed g c =
-    let i = c.lines.invariant in
-    run_failed _ i
+    run_failed _ c.lines.invariant
     (rows_pass g (goal.at.returns-in_err-write_rows-in-Equal-clause-failed g c).After-write_rows)
     c.in_err-write_rows-in-Equal.ensures.fault
 
 pub lines-preserved-then-by_pairs : goal.lines-preserved-then-by_pairs
 lines-preserved-then-by_pairs g c =
-    let i = c.lines.invariant in
     step_on _ (key_order g _) c.requires.tool.alone.none
     (both_pass g (goal.at.lines-preserved-then-by_pairs g c).After-write_both)
-    i (c.in_ok-write_both-in-Equal.ensures.clean i.clean)
+    c.lines.invariant (c.in_ok-write_both-in-Equal.ensures.clean c.lines.invariant.clean)
 
 pub returns-in_err-write_both-in-Equal-clause-failed : goal.returns-in_err-write_both-in-Equal-clause-failed
 returns-in_err-write_both-in-Equal-clause-failed g c =
-    let i = c.lines.invariant in
-    run_failed _ i
+    run_failed _ c.lines.invariant
     (both_pass g (goal.at.returns-in_err-write_both-in-Equal-clause-failed g c).After-write_both)
     c.in_err-write_both-in-Equal.ensures.fault
 
