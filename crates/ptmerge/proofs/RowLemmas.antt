@@ -2,7 +2,7 @@
 -- first input with each of the second one. So it is for `join`.
 use Rattle.ptmerge.proofs
 use Rattle.ptmerge.specs
-use proofs.Common.{◌≡◌, List, ℕ, [], ◌∷◌, Bool, true, false, refl, arith, append-nil, unlines-append, Key, Lines, Ok}
+use proofs.Common.{◌≡◌, cond, List, ℕ, [], ◌∷◌, true, false, refl, arith, append-nil, unlines-append, Key, Lines, Ok}
 use proofs.Common.{Output, PushEffect, flat_map, map, unlines}
 use proofs.JoinLemmas.Fields.{PartialWrite, partial_ends, partial_fails, partial_more, partial_starts}
 use proofs.JoinLemmas.Group.{pair_of}
@@ -52,27 +52,15 @@ module _ {end : ℕ} {h : List ℕ → Lines} {key : Key} {k : List ℕ} {all no
 -- ---- `join`
 
 module _ (job : Join) (k : List ℕ) where
-  row_is : job.pairs ≡ true → (x : List ℕ) (g : Lines) → row (join_entries job) k x g ≡ map (pair_of job k x) g
-  row_is pairs x [] = refl
-  row_is pairs x (y ∷ g) = grind (arith, pairs, row_is pairs x g)
+  row_is : (x : List ℕ) (g : Lines)
+      → row (join_entries job) k x g ≡ cond job.pairs (map (pair_of job k x) g) []
+  row_is x [] = grind arith
+  row_is x (y ∷ g) = grind (arith, row_is x g)
 
-  rows_are : job.pairs ≡ true → (f g : Lines)
-      → rows (join_entries job) k f g ≡ flat_map (λ x. map (pair_of job k x) g) f
-  rows_are pairs [] g = refl
-  rows_are pairs (x ∷ f) g = grind (arith, row_is pairs x g, rows_are pairs f g)
-
-  no_row : job.pairs ≡ false → (x : List ℕ) (g : Lines) → row (join_entries job) k x g ≡ []
-  no_row pairs x [] = refl
-  no_row pairs x (y ∷ g) = grind (arith, pairs, no_row pairs x g)
-
-  no_rows : job.pairs ≡ false → (f g : Lines) → rows (join_entries job) k f g ≡ []
-  no_rows pairs [] g = refl
-  no_rows pairs (x ∷ f) g = grind (arith, no_row pairs x g, no_rows pairs f g)
-
-  rows_by : (p : Bool) → job.pairs ≡ p → (x y : List ℕ) (f g : Lines)
-      → join_entries job k (x ∷ f) (y ∷ g) ≡ rows (join_entries job) k (x ∷ f) (y ∷ g)
-  rows_by true pairs x y f g = grind (arith, pairs, rows_are pairs (x ∷ f) (y ∷ g))
-  rows_by false pairs x y f g = grind (arith, pairs, no_rows pairs (x ∷ f) (y ∷ g))
+  rows_are : (f g : Lines)
+      → rows (join_entries job) k f g ≡ cond job.pairs (flat_map (λ x. map (pair_of job k x) g) f) []
+  rows_are [] g = grind arith
+  rows_are (x ∷ f) g = grind (arith, row_is x g, rows_are f g)
 
 pub each_with_each : (job : Join) → IsEachWithEach (join_entries job)
-each_with_each job k x y f g = rows_by job k job.pairs refl x y f g
+each_with_each job k x y f g = grind (arith, rows_are job k (x ∷ f) (y ∷ g))
