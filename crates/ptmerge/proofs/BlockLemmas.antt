@@ -28,10 +28,9 @@ use Rattle.ptlines.specs.Laws.Text.{AreLines}
 use Rattle.ptlines.specs.Text.{complete_lines}
 use Rattle.std.specs.declared.cmp.Ordering.TheVariants.{Equal}
 use Rattle.memchr.specs.Find.{IsFirstByte, is_byte}
-use specs.Private.BlockLines.{AreMerged, ArePassed, BlockRunPost, CanMerge, HasFailed, IsBlockTool, IsInBlock, HaveKey}
-use specs.Private.BlockLines.{IsInKey, IsMoved, IsNextLine, IsReached, IsStep, entries_alone, LineRunPost, in_order}
+use specs.Private.BlockLines.{AreMerged, ArePassed, CanMerge, HasFailed, IsBlockTool, IsInBlock, HaveKey, IsInKey}
+use specs.Private.BlockLines.{IsMoved, IsNextLine, IsReached, IsStep, entries_alone, in_order}
 use specs.MergeSpec.{Entries}
-use specs.declared.merging.block_lines.BlockRun.{BlockRun}
 use specs.declared.merging.block_lines.BlockLine.{BlockLine}
 
 -- ---- the next line of a block
@@ -472,16 +471,3 @@ pub can_resume : {end : ℕ} {cmp : Cmp} {key : Key} {old now : BlockLine} {q : 
 can_resume rest passed at head own =
     let (within, line) = within_block rest passed at in
     record { head = head; own_reader = own; within = within; line = line }
-
-pub can_resume_both : {tool : MergeTool} {old : Side → BlockLine} {run : BlockRun} {was is : Output}
-    → BlockRunPost tool old run was is → {cursor : Side → Sorted} {reader : Side → Reader}
-    → ((side : Side) → (old side).rest.now ≡ (reader side).buffered) → ((side : Side) → (cursor side).status ≡ Head)
-    → ((side : Side) → IsReaderOf (cursor side) (reader side))
-    → (side : Side) → CanResume (both run.first run.second side) (cursor side) (reader side)
-can_resume_both p rest head own side =
-    can_resume (rest side) (p.merged.passed side) (p.reached side) (head side) (own side)
-
-pub can_resume_line : {tool : MergeTool} {s : Side} {old : BlockLine} {at : Reached} {was is : Output}
-    → LineRunPost tool s old at was is → {cursor : Sorted} {reader : Reader} → old.rest.now ≡ reader.buffered
-    → cursor.status ≡ Head → IsReaderOf cursor reader → CanResume at cursor reader
-can_resume_line p rest head own = can_resume rest p.passed.passed p.reached head own

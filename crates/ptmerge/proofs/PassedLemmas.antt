@@ -78,14 +78,7 @@ consumed was now = record was { buffered = drop (length was.buffered - length no
 
 sound_consumed : (was : Reader) (now : BlockLine) → IsSound was → IsSound (consumed was now)
 sound_consumed was now sound =
-    let less = length-drop (length was.buffered - length now.rest.now) was.buffered in
-    record {
-      buffered = omega (arith, less, sound.buffered);
-      count = omega (arith, less, sound.count);
-      end = sound.end;
-      long = sound.long;
-      unfailed = sound.unfailed;
-    }
+    grind (arith, length-drop (length was.buffered - length now.rest.now) was.buffered)
 
 -- the slots in the order in which the next line is read: the one of the current line is replaced
 abbrev exchange : Sorted → Sorted

@@ -2,7 +2,7 @@
 -- contract, which is put together from those of the calls.
 use Rattle.ptmerge.proofs
 use proofs.Common.{◌∙◌, First, Second, inl, inr, refl}
-use proofs.BlockLemmas.{can_resume_both, is_write_fault}
+use proofs.BlockLemmas.{can_resume, is_write_fault}
 use proofs.merging.block_merge.merge_blocks.Goals as goal
 
 pub block_line-one-requires-clause-status_is : goal.block_line-one-requires-clause-status_is
@@ -23,9 +23,13 @@ merge_lines-requires-clause-tool g c = rw c.order.ensures c.requires.blocks.tool
 
 pub resume_both-requires-clause-fits : goal.resume_both-requires-clause-fits
 resume_both-requires-clause-fits g c =
-    can_resume_both c.in_ok-run.ensures.merged
-    (elim [ First ↦ c.block_line-one.ensures.rest | Second ↦ c.block_line-two.ensures.rest ])
-    c.requires.heads c.requires.blocks.own_reader
+    let p = c.in_ok-run.ensures.merged in
+    elim [
+      | First ↦ can_resume c.block_line-one.ensures.rest (p.merged.passed First) (p.reached First)
+          (c.requires.heads First) (c.requires.blocks.own_reader First)
+      | Second ↦ can_resume c.block_line-two.ensures.rest (p.merged.passed Second) (p.reached Second)
+          (c.requires.heads Second) (c.requires.blocks.own_reader Second)
+    ]
 
 pub returns-in_err-run-clause-merges : goal.returns-in_err-run-clause-merges
 returns-in_err-run-clause-merges g c = record {

@@ -2,7 +2,7 @@
 -- contract, which is put together from those of the calls.
 use Rattle.ptmerge.proofs
 use proofs.Common.{inl, inr, refl}
-use proofs.BlockLemmas.{can_resume_line, is_write_fault}
+use proofs.BlockLemmas.{can_resume, is_write_fault}
 use proofs.merging.block_merge.pass_block.Goals as goal
 
 pub pass_lines-requires-clause-begins : goal.pass_lines-requires-clause-begins
@@ -13,7 +13,8 @@ pass_lines-requires-clause-tool g c = rw c.order.ensures c.requires.tool
 
 pub resume-requires-clause-fits : goal.resume-requires-clause-fits
 resume-requires-clause-fits g c =
-    can_resume_line c.in_ok-at.ensures.passed c.block_line-line.ensures.rest c.requires.status_is.head
+    let p = c.in_ok-at.ensures.passed in
+    can_resume c.block_line-line.ensures.rest p.passed.passed p.reached c.requires.status_is.head
     c.requires.status_is.own_reader
 
 pub returns-in_err-at-clause-passes : goal.returns-in_err-at-clause-passes
