@@ -18,9 +18,6 @@ pub merge_lines-requires-clause-begins : goal.merge_lines-requires-clause-begins
 merge_lines-requires-clause-begins g c =
     rw c.order.ensures (elim [ First ↦ c.block_line-one.ensures.begins | Second ↦ c.block_line-two.ensures.begins ])
 
-pub merge_lines-requires-clause-tool : goal.merge_lines-requires-clause-tool
-merge_lines-requires-clause-tool g c = rw c.order.ensures c.requires.blocks.tool_is
-
 pub resume_both-requires-clause-fits : goal.resume_both-requires-clause-fits
 resume_both-requires-clause-fits g c =
     let p = c.in_ok-run.ensures.merged in

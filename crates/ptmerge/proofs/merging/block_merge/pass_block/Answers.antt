@@ -5,12 +5,6 @@ use proofs.Common.{inl, inr, refl}
 use proofs.BlockLemmas.{can_resume, is_write_fault}
 use proofs.merging.block_merge.pass_block.Goals as goal
 
-pub pass_lines-requires-clause-begins : goal.pass_lines-requires-clause-begins
-pass_lines-requires-clause-begins g c = rw c.order.ensures c.block_line-line.ensures.begins
-
-pub pass_lines-requires-clause-tool : goal.pass_lines-requires-clause-tool
-pass_lines-requires-clause-tool g c = rw c.order.ensures c.requires.tool
-
 pub resume-requires-clause-fits : goal.resume-requires-clause-fits
 resume-requires-clause-fits g c =
     let p = c.in_ok-at.ensures.passed in

@@ -1,7 +1,6 @@
 -- Answers for `pass_lines`: its loop at the start, after one more line, and at its exits, where no line ends in the block
 -- or a write has failed.
 use Rattle.ptmerge.proofs
-use proofs.Common.{sym, ◌∙◌}
 use proofs.MergeLemmas.{IsKeyOrder}
 use proofs.BlockLemmas.{line_pushed}
 use proofs.AloneLemmas.{passes_on, passing_starts}
@@ -12,15 +11,6 @@ lines-init g c =
     let law = g.met.K.KeyOrder in
     let o : IsKeyOrder _ = record { total = law.total c.args.order.now; exact = law.exact c.args.order.now } in
     passing_starts _ o c.args.side c.requires.begins c.requires.clean
-
-pub next-requires-clause-passed : goal.next-requires-clause-passed
-next-requires-clause-passed g c = c.lines.invariant.in_block
-
-pub next-requires-clause-key : goal.next-requires-clause-key
-next-requires-clause-key g c = c.lines.invariant.key_is
-
-pub write_alone-requires-clause-key : goal.write_alone-requires-clause-key
-write_alone-requires-clause-key g c = sym (c.lines.invariant.key_is ∙ c.requires.tool.keys c.args.side _)
 
 pub lines-preserved : goal.lines-preserved
 lines-preserved g c =

@@ -1,7 +1,7 @@
 -- `Sorted::next` when it has read a line that is not the first: the cursor has swapped its slots, and the two keys
 -- that it has compared give its status. Also that the span of the previous line selects its key.
 use Rattle.ptmerge.proofs
-use proofs.Common.{inl, arith, refl, rules}
+use proofs.Common.{inl, arith, refl}
 use proofs.MergeLemmas.{line_moves}
 use proofs.merging.cursor.Sorted.next.Goals as goal
 
@@ -14,5 +14,3 @@ returns-clause-moves g c =
     c.key-last.ensures c.line-3.ensures c.key-head.ensures c.cmp-ordering.ensures
     (rw c.is_gt.ensures at c.status_at-self.ensures) c.is_eq-self.ensures)
 
-pub key-last-requires : goal.key-last-requires
-key-last-requires g c = search rules
