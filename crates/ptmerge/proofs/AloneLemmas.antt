@@ -31,13 +31,7 @@ module _ (tool : MergeTool) (o : IsKeyOrder tool.cmp) (s : Side) where
   open tool use {cmp, key, terminator}
 
   ended_run : {own : Key} {k : List ℕ} → IsLeastKeyRun cmp own NothingMore NothingMore k []
-  ended_run = record {
-    own = tt;
-    may_follow = λ r c. c;
-    own_under = tt;
-    under = λ j u. u;
-    later = record { may_follow = λ r c. rw c tt; under = λ j u. tt };
-  }
+  ended_run = grind arith
 
   as_merged : {old now : BlockLine} {was is : Output} → (m : ArePassedAlone tool s old now was is)
       → MergeInvariant tool (at_line tool s now) (only s m.q) was is

@@ -102,14 +102,7 @@ module _ (cmp : Cmp) (key : Key) where
 
   pub one_in_key : {end : ℕ} {now next : BlockLine} → IsNextLine end cmp key now next → IsInBlock now
       → IsInKey end cmp key now next (now.head.now ∷ [])
-  one_in_key n fits = record {
-    passed = one_moved n;
-    own = (refl, tt);
-    ordered = n.ordered;
-    same = n.same;
-    in_block = in_block_next n fits;
-    key_is = n.key_is;
-  }
+  one_in_key n fits = grind (arith, one_moved n, in_block_next n fits)
 
   pub more_in_key : {end : ℕ} {first now next : BlockLine} {f : Lines} → IsKeyOrder cmp
       → IsInKey end cmp key first now f → now.same ≡ true → IsNextLine end cmp key now next
@@ -174,12 +167,7 @@ last_of_key end rest more none =
 -- the current line of an input, before others are passed
 pub can_merge : {key : Key} {own : BlockLine} {reader : Reader} → own.passed ≡ 0 → own.same ≡ false
     → own.rest.now ≡ reader.buffered → IsSound reader → own.key.now ≡ key own.head.now → CanMerge key own
-can_merge none new rest sound own_key = record {
-  passed = none;
-  same = new;
-  in_block = omega (arith, none, ap length rest, sound.buffered);
-  key_is = own_key;
-}
+can_merge none new rest sound own_key = grind arith
 
 -- ---- a step
 
@@ -232,13 +220,7 @@ module _ (tool : MergeTool) (o : IsKeyOrder tool.cmp) where
 
   no_run : (side : Side) (a k : List ℕ) → is_gt (cmp a k) ≡ true
       → IsLeastKeyRun cmp (key side) (AtLeast a) (AtLeast a) k []
-  no_run side a k gt = record {
-    own = tt;
-    may_follow = λ r c. c;
-    own_under = at_most_of a k gt;
-    under = λ j u. u;
-    later = later_key cmp o k a (at_most_of a k gt);
-  }
+  no_run side a k gt = grind (arith, later_key cmp o {key = key side} k a (at_most_of a k gt), at_most_of a k gt)
 
   module _ (none : (k : List ℕ) → tool.entries k [] [] ≡ []) {now next : Side → BlockLine} {mid is : Output}
       (s : IsStep tool now next mid is) where
