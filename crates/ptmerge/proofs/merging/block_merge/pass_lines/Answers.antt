@@ -1,5 +1,4 @@
--- Answers for `pass_lines`: its loop at the start, after one more line, and at its exits, where no line ends in the block
--- or a write has failed.
+-- Answers for `pass_lines`: its loop at the start, after one more line, and at its exits.
 use Rattle.ptmerge.proofs
 use proofs.MergeLemmas.{IsKeyOrder}
 use proofs.BlockLemmas.{line_pushed}
