@@ -5,8 +5,7 @@ use Rattle.ptmerge.specs
 use proofs.Common.{◌≡◌, inl, ℕ, List, [], ◌∷◌, ◌++◌, Bool, refl, sym, ◌∙◌, ap, arith, false, subst, other, Key, Lines}
 use proofs.Common.{MergeTool, Output, PushEffect, Side, entries_by_key, lines_with_key, push_nothing, with_side}
 use proofs.MergeLemmas.{AtLeast, AtMost, Bound, Each-all, IsKeyOrder, IsLeastKeyRun, IsLineByLine, MergeInvariant}
-use proofs.MergeLemmas.{NothingMore, Written, all_keys, alone, output_of, put_other, put_same, side_case}
-use proofs.MergeLemmas.{write_least_run}
+use proofs.MergeLemmas.{NothingMore, Written, alone, output_of, put_other, put_same, side_case, write_least_run}
 use proofs.BlockLemmas.{alone_splits, in_block_next, leads_nowhere, leads_on, line_run, lines_after, passed_one}
 use specs.Private.BlockLines.{ArePassedAlone, CanMerge, IsNextLine, only}
 use specs.declared.merging.block_lines.BlockLine.{BlockLine}
@@ -49,9 +48,9 @@ module _ (tool : MergeTool) (o : IsKeyOrder tool.cmp) (s : Side) where
   passing_starts {was = was} can clean = record {
     q = [];
     passed = (can.passed, inl (record { none = refl; same = refl }));
-    first = λ w r c. rw (none_written s tool w) refl;
+    first = λ w r c. rw (none_written s _ w) refl;
     under = tt;
-    wrote = rw (none_written s tool all_keys) (push_nothing was);
+    wrote = rw (none_written s _ _) (push_nothing was);
     clean = clean;
     in_block = can.in_block;
     key_is = can.key_is;

@@ -66,10 +66,9 @@ module _ (cmp : Cmp) (key : Key) where
   moved_on {end} {old} {now} {next} m n = record {
     middle = m.middle ++ (now.head.now ∷ n.middle);
     lines = rw (m.lines, n.lines) refl;
-    bytes = m.bytes ∙ rw (n.bytes, unlines-append end m.middle (now.head.now ∷ n.middle)) (simp append_assoc);
-    whole = (lines_between end m.middle now.head.now n.middle m.whole.0 m.whole.1 n.whole.0, n.whole.1);
-    ordered = rw (append_assoc m.middle (now.head.now ∷ n.middle) (next.head.now ∷ []))
-        (sorted_append _ m.middle now.head.now (n.middle ++ next.head.now ∷ []) m.ordered n.ordered);
+    bytes = m.bytes ∙ rw (n.bytes, unlines-append end _ _) (simp append_assoc);
+    whole = (lines_between end _ _ _ m.whole.0 m.whole.1 n.whole.0, n.whole.1);
+    ordered = rw (append_assoc m.middle _ (next.head.now ∷ [])) (sorted_append _ _ _ _ m.ordered n.ordered);
     passed = omega (arith, m.passed, n.passed, length-append m.middle (now.head.now ∷ n.middle));
   }
 
@@ -108,7 +107,7 @@ module _ (cmp : Cmp) (key : Key) where
       → IsInKey end cmp key first now f → now.same ≡ true → IsNextLine end cmp key now next
       → IsInKey end cmp key first next (f ++ now.head.now ∷ [])
   more_in_key {first = first} {now} o i same n =
-      let equal : key first.head.now ≡ key now.head.now = o.exact _ _ (equal_of _ (sym i.same ∙ same)) in
+      let equal = o.exact _ _ (equal_of _ (sym i.same ∙ same)) in
       record {
         passed = moved_on i.passed (one_moved n);
         own = EachKey-append _ key _ _ i.own (sym equal, tt);
@@ -147,7 +146,7 @@ pub lines_are_between : {end : ℕ} {cmp : Cmp} {key : Key} {first now : BlockLi
     → first.head.now ∷ take more (complete_lines end first.rest.now) ≡ f
 lines_are_between {end} {first = first} {now} more m count =
     let same : more ≡ length m.middle = omega (arith, count, m.passed) in
-    rw (m.lines, m.bytes, complete_lines_of end m.middle (now.head.now ++ (end ∷ now.rest.now)) m.whole.0, same)
+    rw (m.lines, m.bytes, complete_lines_of end _ _ m.whole.0, same)
     (ap (λ l. first.head.now ∷ l) (take-append_seam m.middle _))
 
 pub next_of_key : (end : ℕ) (rest : List ℕ) (more size : ℕ) → 0 < more → IsFirstByte (is_byte end) rest (Some size)
@@ -156,13 +155,12 @@ pub next_of_key : (end : ℕ) (rest : List ℕ) (more size : ℕ) → 0 < more �
 next_of_key end rest more size some first =
     let n = line_in_block end rest size first in
     ap (λ l. take more (complete_lines end l)) n.bytes
-    ∙ ap (take more) (complete_lines_cons end _ (drop (size + 1) rest) n.whole)
-    ∙ take_some more _ _ some
+    ∙ ap (take more) (complete_lines_cons end _ _ n.whole) ∙ take_some _ _ _ some
 
 pub last_of_key : (end : ℕ) (rest : List ℕ) (more : ℕ) → IsFirstByte (is_byte end) rest None
     → take more (complete_lines end rest) ≡ []
 last_of_key end rest more none =
-    ap (take more) (complete_lines_none end rest (line_if_not_found end rest none)) ∙ grind usual
+    ap (take more) (complete_lines_none end _ (line_if_not_found end _ none)) ∙ grind usual
 
 -- the current line of an input, before others are passed
 pub can_merge : {key : Key} {own : BlockLine} {reader : Reader} → own.passed ≡ 0 → own.same ≡ false
@@ -201,9 +199,8 @@ module _ (tool : MergeTool) (o : IsKeyOrder tool.cmp) where
 
   none_follows : (side : Side) (r : Lines) (a k : List ℕ) → is_gt (cmp a k) ≡ true → EachKey (AtMost cmp a) (key side) r
       → lines_with_key (key side) r k ≡ []
-  none_follows side r a k gt c =
-      lines_with_key-above tool o (key side) k r
-      (Each-weaker _ _ (λ y h. (grind (arith, at_most_trans cmp o a y k h))) _ c)
+  none_follows _ r a k gt c =
+      lines_with_key-above tool o _ k r (Each-weaker _ _ (λ y h. (grind (arith, at_most_trans cmp o a y k h))) _ c)
 
   pub line_run : (side : Side) (a b : List ℕ) {k : List ℕ} {f : Lines} → HaveKey (key side) a f → a ≡ k
       → AtMost cmp a b → IsLeastKeyRun cmp (key side) (AtLeast a) (AtLeast b) k f
@@ -211,7 +208,7 @@ module _ (tool : MergeTool) (o : IsKeyOrder tool.cmp) where
       let later = later_key cmp o {key = key side} a b h in
       record {
         own = rw same at own;
-        may_follow = λ r c. EachKey-append _ (key side) _ _
+        may_follow = λ r c. EachKey-append _ _ _ _
             (Each-weaker _ _ (λ y e. rw e (self_at_most cmp o a)) _ own) (later.may_follow r c);
         own_under = rw (sym same) (self_at_most cmp o a);
         under = later.under;
@@ -402,7 +399,7 @@ pub merged_on : {tool : MergeTool} → IsKeyOrder tool.cmp → {old now : Side �
     → MergeInvariant tool (at_heads tool now) (λ side. p side ++ a.q side) start mid
 merged_on {tool} o m clean a =
     lines_after m clean (record { splits = a.first; under = a.under; wrote = a.wrote })
-    (λ side. leads_on o (tool.key side) (a.passed side))
+    (λ side. leads_on o _ (a.passed side))
 
 -- ---- the results
 

@@ -77,7 +77,7 @@ module _ {job : Comm} {cmp : Cmp} {key : Side → Key} {old now : MergeState} {o
     alone_continues {one2} {two2} h = record {
       w = w;
       whole_line_keys = whole_line_keys;
-      loop_invariant = rw (← place_is s one two one2 two2 h.continues.others)
+      loop_invariant = rw (← place_is s one two _ _ h.continues.others)
           (runs_on lines_before s step.status_is h.came (wrote_alone loop_invariant between.clean step wrote).0);
       between = between_next between s h.continues;
     }
@@ -138,11 +138,10 @@ module _ {job : Comm} {cmp : Cmp} {key : Side → Key} {old now : MergeState} {o
             → AdvanceOkPost key cmp Second one2 two2 one3 two3 (now.reader Second) reader2 after last new
             → IterationInvariant job cmp key old (state_by_side (both reader reader2) new last) one3 two3
         pair_continues k =
-            let g = advance_ok lines_before First step.first h.came in
             record {
               w = w;
               whole_line_keys = whole_line_keys;
-              loop_invariant = rw k.continues.others (runs_on g Second step.second (rw h.continues.others at k.came)
-                  (search (rules, goes_merging, wrote_line_out)));
+              loop_invariant = rw k.continues.others (runs_on (advance_ok lines_before First step.first h.came) Second
+                  step.second (rw h.continues.others at k.came) (search (rules, goes_merging, wrote_line_out)));
               between = between_next (between_next between First h.continues) Second k.continues;
             }

@@ -51,7 +51,7 @@ front_of_two = grind usual
 
 passed_bytes : (end : ℕ) (middle : Lines) (head rest : List ℕ)
     → unlines end middle ++ (head ++ (end ∷ rest)) ≡ unlines end (middle ++ head ∷ []) ++ rest
-passed_bytes end middle head rest = rw (unlines_push end middle head) (simp append_assoc)
+passed_bytes end _ _ _ = rw (unlines_push end _ _) (simp append_assoc)
 
 lines_passed : {end : ℕ} {old was is : Reader} {ls : Lines} (middle : Lines) (head rest : List ℕ)
     → LinesRead end old was ls → was.buffered ≡ unlines end middle ++ (head ++ (end ∷ rest)) → AreLines end middle
@@ -63,7 +63,7 @@ lines_passed {end} {old} {was} {is} {ls} middle head rest c bytes free whole rea
     usual,
     passed_bytes end middle head rest,
     front_of_two (unlines end (middle ++ head ∷ [])) rest,
-    AreLines_push end middle head free whole,
+    AreLines_push end _ _ free whole,
     unlines-append end ls (middle ++ head ∷ []),
     bytes,
   );
@@ -163,14 +163,14 @@ module _ {tool : MergeTool} {old : MergeState} {w : IsOpenMerge tool old} {reade
       up = record { more = m.middle ++ now.head.now ∷ []; is = sym all_lines }
 
       sorted_here : IsSortedUpTo tool.cmp (tool.key s) here (Some (tool.key s now.head.now))
-      sorted_here = rw all_lines at (sorted_on tool.cmp (tool.key s) (ls s) _ m.middle now.head.now h.sorted_up_to
-          (rw at_head at m.ordered))
+      sorted_here =
+          rw all_lines at (sorted_on tool.cmp (tool.key s) _ _ _ _ h.sorted_up_to (rw at_head at m.ordered))
 
       facts_moved : {is : Reader} → is ≡ consumed (reader s) now → IsSound is
           → ReadFacts tool s (old.reader s) is is [] here (p s ++ q) (AtLeast (tool.key s now.head.now))
       facts_moved {is} used sound = record {
-        lines_read = rw all_lines at (lines_passed m.middle now.head.now now.rest.now (a.sides s).lines_read
-            (sym at_rest ∙ m.bytes) m.whole.0 m.whole.1 used);
+        lines_read = rw all_lines at (lines_passed _ _ _ (a.sides s).lines_read (sym at_rest ∙ m.bytes) m.whole.0
+            m.whole.1 used);
         reads = reads_nothing is;
         line = tt;
         sound = sound;
@@ -188,7 +188,7 @@ module _ {tool : MergeTool} {old : MergeState} {w : IsOpenMerge tool old} {reade
         (λ u. rw (nothing_used (reader s) _ (length now.rest.now) (all_left u) refl) (stays_ahead (side_stays u)))
         (λ m. record {
           now_ls = here m;
-          facts = facts_moved m refl (sound_consumed (reader s) now (a.sides s).sound);
+          facts = facts_moved m refl (sound_consumed _ now (a.sides s).sound);
           begun = begun_here m;
           up = up m;
           back = refl;
@@ -217,9 +217,8 @@ module _ {tool : MergeTool} {old : MergeState} {w : IsOpenMerge tool old} {reade
           let x = now.head.now in
           let slots = (a.sides s).slots in
           let four = (a.sides s).four in
-          let bytes = sym at_rest ∙ m.bytes in
           let on : IsPassed now.passed x (cursor s) next store after =
-          rw (reached_is.left, reached_is.size, reached_is.passed, head_of_block _ _ _ _ _ bytes) at
+          rw (reached_is.left, reached_is.size, reached_is.passed, head_of_block _ _ _ _ _ (sym at_rest ∙ m.bytes)) at
           (resumed.moved (omega (arith, reached_is.passed, m.passed))) in
           let apart = slots_apart s (exchange (cursor s)) (cursor (other s)) (exchanged s (cursor s) slots)
           (a.sides (other s)).slots in
@@ -288,7 +287,7 @@ module _ {tool : MergeTool} {old : MergeState} {w : IsOpenMerge tool old} {reade
   fails_behind {after} fits fault ends =
       exit_behind w (state_by_side virtual out after) (λ side. (ahead side).facts) lag
       (λ all holds. fits all (λ side. extends_on (ahead side).up (extends (holds side))))
-      (λ side. (ahead side).begun) reader (λ side. (ahead side).back) fault ends
+      (λ side. (ahead side).begun) _ (λ side. (ahead side).back) fault ends
 
   write_fails : out.write_failed ≡ true → MergePost tool old (state_by_side reader out store) (Err Write)
   write_fails failed = fails_behind a.keeps.fits Write
@@ -299,11 +298,10 @@ module _ {tool : MergeTool} {old : MergeState} {w : IsOpenMerge tool old} {reade
       {after : Slots} → IsNotResumed at (cursor s) (reader s) (is s) store after → is (other s) ≡ reader (other s)
       → MergePost tool old (state_by_side is out after) (Err Memory)
   not_resumed clean s left {is = is} {after} r others =
-      let slots = (a.sides s).slots in
       subst (λ f. MergePost tool old (state_by_side f out after) (Err Memory))
       (λ i side. side_case (λ t. reader t ≡ is t) s (sym r.unread) (sym others) side i)
       (rw r.store (fails_behind
-      (group_store_line s (exchange (cursor s)) (exchanged s (cursor s) slots) [] a.keeps
+      (group_store_line s (exchange (cursor s)) (exchanged s (cursor s) (a.sides s).slots) [] a.keeps
       (λ side. extends_itself _) (omega arith) refl).fits Memory
       (record { denied = refl; unfailed = unfailed; clean = clean; side = s; left = left })))
 
@@ -354,7 +352,7 @@ module _ {tool : MergeTool} {old was : MergeState} {one two : Sorted} {w : IsOpe
       open post use {now, merged, merged.{q}}
 
       written : AllWritten tool (at_heads tool now) (λ side. p side ++ q side) old.out is.out
-      written = lag_invariant_starts w.o (merged_all merged) merged.clean (push_nothing is.out)
+      written = lag_invariant_starts w.o (merged_all merged) merged.clean (push_nothing _)
 
       left : {side : Side} → 0 < (both run.first run.second side).passed → IsDone (was.reader side) → ⊥
       left {side} some = still_there (m.rest_is side) (merged.passed side) (post.reached side) some
@@ -443,14 +441,13 @@ module _ {tool : MergeTool} {old was : MergeState} {one two : Sorted} {w : IsOpe
       alone_not_resumed : IsNotResumed at (both one two s) (was.reader s) (is.reader s) was.store is.store
           → MergePost tool old is (Err Memory)
       alone_not_resumed r =
-          not_resumed before (lag_invariant_starts w.o (passed_all a) a.clean (push_nothing is.out))
+          not_resumed before (lag_invariant_starts w.o (passed_all a) a.clean (push_nothing _))
           (ahead_alone a.passed) a.clean s (still_there passed.rest_is a.passed reached r.some) r m.reader
 
       alone_goes_on : IsResumed at (both one two s) (both one2 two2 s) (was.reader s) (is.reader s) was.store
           is.store → GoesOn loop is (both one2 two2)
       alone_goes_on on =
-          let n : HasPassed before s (both one2 two2 s) (is.reader s) is.store now a.q =
-          has_passed before s head passed.head_is passed.rest_is a.passed reached on in
+          let n = has_passed before s head passed.head_is passed.rest_is a.passed reached on in
           record {
             loop_invariant = record {
               ls = with_side s n.now_ls ls;
@@ -476,9 +473,9 @@ module _ {tool : MergeTool} {old was : MergeState} {one two : Sorted} {w : IsOpe
       (λ e. subst (λ c. GoesOn loop is c) (sym e.0) (subst (λ now. GoesOn loop now (both one two)) (sym e.1)
       (record { loop_invariant = loop; own_reader = between.own_reader; clean = between.clean; reads = omega arith })))
       (⊎_elim
-      (λ m. ⊎_elim (λ f. (let never : Ok u ≡ Err Write = f.1.fault in cc))
+      (λ m. ⊎_elim (λ f. (let never = f.1.fault in cc))
       (λ h. merged_goes_on m h.post h.resumed.first h.resumed.second) m.ends)
-      (λ m. ⊎_elim (λ f. (let never : Ok u ≡ Err Write = f.1 in cc)) (λ h. alone_goes_on m h.post h.resumed)
+      (λ m. ⊎_elim (λ f. cc) (λ h. alone_goes_on m h.post h.resumed)
       m.passed.ends))
       post
 
@@ -496,7 +493,7 @@ module _ {tool : MergeTool} {old was : MergeState} {one two : Sorted} {w : IsOpe
       → MergePost tool old is (Err fault)
   blocks_fail {fault} post =
       ⊎_elim
-      (λ e. (let never : Err fault ≡ Ok tt = e.2 in cc))
+      (λ e. cc)
       (⊎_elim
       (λ m. ⊎_elim
       (λ f. subst (λ reader. MergePost tool old (state_by_side reader is.out is.store) (Err fault)) (sym f.1.reader)

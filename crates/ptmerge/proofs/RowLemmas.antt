@@ -32,8 +32,7 @@ module _ {end : ℕ} {h : List ℕ → Lines} {key : Key} {k : List ℕ} {all no
   pub each_written : {next : KeyLines} → further_lines end now ≡ key_lines end next
       → new.write_failed ≡ false → EachWritten end h key k all next was new
   each_written {next} e clean = record {
-    amid = partial_more (rw e (unlines-append end (h now.line.now) (flat_map h (key_lines end next)))) i.amid wrote
-        clean;
+    amid = partial_more (rw e (unlines-append end _ _)) i.amid wrote clean;
     have = (rw e at i.have).1;
     clean = clean;
   }
@@ -47,7 +46,7 @@ module _ {end : ℕ} {h : List ℕ → Lines} {key : Key} {k : List ℕ} {all no
   pub each_fails_at : {E : Type 0} {r : Result (Unit {0}) E} (P : E → Type 0) → IsErrAnd r P
       → new.write_failed ≡ true → WriteBytesPost was new (unlines end (flat_map h (key_lines end all))) r
   each_fails_at P err_is fault =
-      partial_fails P err_is _ (unlines-append end (h now.line.now) _) i.amid wrote fault
+      partial_fails P err_is _ (unlines-append end _ _) i.amid wrote fault
 
 -- ---- `join`
 

@@ -43,7 +43,7 @@ module _ (g : given.Over) where
       (inr (elim [ First ↦ c.in-Some-whole_key.ensures.new | Second ↦ c.in-Some-whole_key-2.ensures.new ]))
 
 pub lines-init : goal.lines-init
-lines-init g c = merge_starts _ (key_order g c.args.order.now) c.requires.begins c.requires.clean
+lines-init g c = merge_starts _ (key_order g _) c.requires.begins c.requires.clean
 
 pub next-requires-clause-passed : goal.next-requires-clause-passed
 next-requires-clause-passed g c = c.lines.invariant.in_block First

@@ -17,5 +17,5 @@ lines-preserved g c =
     let law = g.met.K.KeyOrder in
     let o : IsKeyOrder (g.K.KeyOrder.order c.args.order.now) = record { total = law.total _; exact = law.exact _ } in
     passes_on _ o c.args.side c.requires.tool.alone i (rw c.requires.ends at c.in-Some.ensures)
-    (line_pushed _ _ _ o c.requires.tool c.args.side i.key_is (rw c.requires.ends at c.write_alone.ensures.wrote))
+    (line_pushed _ _ _ o c.requires.tool _ i.key_is (rw c.requires.ends at c.write_alone.ensures.wrote))
     (c.in_ok-write_alone.ensures.clean i.clean)

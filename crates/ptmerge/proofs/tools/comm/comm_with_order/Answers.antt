@@ -6,10 +6,9 @@ use proofs.Common.{◌≤◌, ℕ, List, refl, sym, ◌∙◌, inl, First, Secon
 use proofs.Common.{MergeState, PushEffect}
 use proofs.MergeLemmas.{advance_pre, fails_by, start_fault, start_ok, reads_ahead, reads_less, between_next, ends_well}
 use proofs.MergeLemmas.{ends_fallen, kept_order, fails, ends, wrote_and_sent}
-use proofs.CommLemmas.{LoopOfComm, alone_continues, alone_fails, comm_opens, pair_continues, pair_fails}
-use proofs.CommLemmas.{same_line, second_advance_pre, second_fails, write_pre}
+use proofs.CommLemmas.{LoopOfComm, alone_continues, alone_fails, comm_opens, pair_continues, pair_fails, same_line}
+use proofs.CommLemmas.{second_advance_pre, second_fails, write_pre}
 use proofs.PassedLemmas.{kept_by_blocks, blocks_fail, blocks_pre, blocks_read, reads_once, reads_twice}
-use Rattle.ptmerge.specs.Calls.Comm.{comm_tool}
 use Rattle.ptmerge.specs.Comm.{entries}
 use proofs.tools.comm.comm_with_order.Given as given
 use Rattle.ptmerge.proofs.tools.comm.comm_with_order.Goals.{After-step, After-write_both}
@@ -20,9 +19,8 @@ module _ (g : given.Over) (c : After-step g) where
       LoopOfComm (comm_job c.args.job) g.K.KeyOrder.order g.K.KeyOrder.key_of
       (merge_state c.args.first.now c.args.second.now c.args.out.now c.args.store.now)
       (merge_state is.first is.second is.out is.store) is.merge.first is.merge.second is.merge.order c.args.order
-  on_by_blocks = kept_by_blocks g.K.KeyOrder.order g.K.KeyOrder.key_of c.steps.invariant
-      c.in_ok-merge_in_blocks.ensures.merges c.merge_in_blocks.ensures.order
-      c.in_ok-merge_in_blocks.ensures.valid_cursors
+  on_by_blocks = kept_by_blocks _ _ c.steps.invariant c.in_ok-merge_in_blocks.ensures.merges
+      c.merge_in_blocks.ensures.order c.in_ok-merge_in_blocks.ensures.valid_cursors
 
   read_by_blocks : let is = c.merge_in_blocks.new in
       reads_ahead (both is.first is.second) is.merge.first is.merge.second
@@ -66,7 +64,7 @@ steps-init g c =
 pub merge_in_blocks-requires : goal.merge_in_blocks-requires
 merge_in_blocks-requires g c =
     let t = c.steps.invariant.iteration in
-    blocks_pre t.loop_invariant t.between (comm_tool (comm_job c.args.job)) refl t.w.alone t.whole_line_keys
+    blocks_pre t.loop_invariant t.between _ refl t.w.alone t.whole_line_keys
 
 pub returns-in_err-merge_in_blocks : goal.returns-in_err-merge_in_blocks
 returns-in_err-merge_in_blocks g c =
@@ -78,13 +76,12 @@ returns-in_err-merge_in_blocks g c =
 
 pub pass_line-requires : goal.pass_line-requires
 pass_line-requires g c =
-    let i = on_by_blocks g (goal.at.pass_line-requires g c).After-step in
-    write_pre i.iteration First c.in-First.ensures.status_is
+    write_pre (on_by_blocks g (goal.at.pass_line-requires g c).After-step).iteration First c.in-First.ensures.status_is
 
 pub pass_line-requires-in-Second : goal.pass_line-requires-in-Second
 pass_line-requires-in-Second g c =
-    let i = on_by_blocks g (goal.at.pass_line-requires-in-Second g c).After-step in
-    write_pre i.iteration Second c.in-Second.ensures.status_is
+    write_pre (on_by_blocks g (goal.at.pass_line-requires-in-Second g c).After-step).iteration Second
+    c.in-Second.ensures.status_is
 
 pub steps-preserved-in-Continue-branch-3 : goal.steps-preserved-in-Continue-branch-3
 steps-preserved-in-Continue-branch-3 g c =

@@ -7,8 +7,4 @@ use proofs.merging.block_lines.KeyLines.next.Goals as goal
 pub returns : goal.returns
 returns c =
     let some : 0 < c.args.self.more = grind arith in
-    grind (
-      usual,
-      next_of_key c.args.terminator c.args.self.rest.now c.args.self.more c.in_ok-end.end some
-          c.in_ok-end.ensures,
-    )
+    grind (usual, next_of_key _ _ _ _ some c.in_ok-end.ensures)
