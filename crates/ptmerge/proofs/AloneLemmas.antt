@@ -2,10 +2,10 @@
 -- and the loop over them keeps its invariant.
 use Rattle.ptmerge.proofs
 use Rattle.ptmerge.specs
-use proofs.Common.{◌≡◌, inl, ℕ, List, [], ◌∷◌, ◌++◌, Bool, refl, sym, ◌∙◌, ap, arith, false, subst, other, Key, Lines}
+use proofs.Common.{◌≡◌, inl, ℕ, List, [], ◌∷◌, ◌++◌, Bool, refl, sym, ◌∙◌, ap, arith, false, subst, other, Lines}
 use proofs.Common.{MergeTool, Output, PushEffect, Side, entries_by_key, lines_with_key, push_nothing, with_side}
-use proofs.MergeLemmas.{AtLeast, AtMost, Bound, Each-all, IsKeyOrder, IsLeastKeyRun, IsLineByLine, MergeInvariant}
-use proofs.MergeLemmas.{NothingMore, Written, alone, output_of, put_other, put_same, side_case, write_least_run}
+use proofs.MergeLemmas.{AtLeast, AtMost, Bound, Each-all, IsKeyOrder, IsLineByLine, MergeInvariant, NothingMore}
+use proofs.MergeLemmas.{Written, alone, output_of, put_other, put_same, side_case, write_least_run}
 use proofs.BlockLemmas.{alone_splits, in_block_next, leads_nowhere, leads_on, line_run, lines_after, passed_one}
 use specs.Private.BlockLines.{ArePassedAlone, CanMerge, IsNextLine, only}
 use specs.declared.merging.block_lines.BlockLine.{BlockLine}
@@ -28,9 +28,6 @@ module _ (s : Side) where
 
 module _ (tool : MergeTool) (o : IsKeyOrder tool.cmp) (s : Side) where
   open tool use {cmp, key, terminator}
-
-  ended_run : {own : Key} {k : List ℕ} → IsLeastKeyRun cmp own NothingMore NothingMore k []
-  ended_run = grind arith
 
   as_merged : {old now : BlockLine} {was is : Output} → (m : ArePassedAlone tool s old now was is)
       → MergeInvariant tool (at_line tool s now) (only s m.q) was is
@@ -74,7 +71,7 @@ module _ (tool : MergeTool) (o : IsKeyOrder tool.cmp) (s : Side) where
     line_written now next more clean m wrote =
         let k = key s now.head.now in
         write_least_run o k _ (alone s now.head.now)
-        (side_case _ s (simp put_same (line_run tool o s _ _ (refl, tt) refl more)) (simp put_other ended_run))
+        (side_case _ s (simp put_same (line_run tool o s _ _ (refl, tt) refl more)) (simp put_other (grind arith)))
         (λ side. refl) (by_line.none k)
         (λ r c. alone_splits by_line s _ _ (λ side. lines_with_key (key side) (r side) k)
         (ap (λ l. lines_with_key (key (other s)) l k) (rw put_other at (c (other s)))))

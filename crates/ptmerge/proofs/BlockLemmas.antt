@@ -51,9 +51,6 @@ lines_between : (end : ℕ) (xs : Lines) (x : List ℕ) (ys : Lines) → AreLine
 lines_between end [] x ys a w b = (w, b)
 lines_between end (z ∷ xs) x ys (here, a) w b = (here, lines_between end xs x ys a w b)
 
-equal_of : (r : Ordering) → is_eq r ≡ true → r ≡ Equal
-equal_of = grind arith
-
 module _ (cmp : Cmp) (key : Key) where
   sorted_append : (last : Option (List ℕ)) (xs : Lines) (x : List ℕ) (ys : Lines)
       → IsSortedFrom cmp key last (xs ++ x ∷ []) → IsSortedFrom cmp key (Some (key x)) ys
@@ -107,7 +104,7 @@ module _ (cmp : Cmp) (key : Key) where
       → IsInKey end cmp key first now f → now.same ≡ true → IsNextLine end cmp key now next
       → IsInKey end cmp key first next (f ++ now.head.now ∷ [])
   more_in_key {first = first} {now} o i same n =
-      let equal = o.exact _ _ (equal_of _ (sym i.same ∙ same)) in
+      let equal = o.exact _ _ (grind arith) in
       record {
         passed = moved_on i.passed (one_moved n);
         own = EachKey-append _ key _ _ i.own (sym equal, tt);
@@ -215,17 +212,14 @@ module _ (tool : MergeTool) (o : IsKeyOrder tool.cmp) where
         later = rw (sym same) later;
       }
 
-  no_run : (side : Side) (a k : List ℕ) → is_gt (cmp a k) ≡ true
-      → IsLeastKeyRun cmp (key side) (AtLeast a) (AtLeast a) k []
-  no_run side a k gt = grind (arith, later_key cmp o {key = key side} k a (at_most_of a k gt), at_most_of a k gt)
-
   module _ (none : (k : List ℕ) → tool.entries k [] [] ≡ []) {now next : Side → BlockLine} {mid is : Output}
       (s : IsStep tool now next mid is) where
     run_of : (side : Side)
         → IsLeastKeyRun cmp (key side) (at_heads tool now side) (at_heads tool next side) s.k (s.f side)
     run_of side =
         ⊎_elim (λ h. line_run side _ _ h.1.own h.0 h.1.ordered)
-        (λ h. rw (h.0, h.2) (no_run side _ _ h.1)) (s.passes side)
+        (λ h. (let least = at_most_of _ _ h.1 in
+        rw (h.0, h.2) (grind (arith, later_key cmp o {key = key side} _ _ least, least)))) (s.passes side)
 
     pub step_written : {q : Side → Lines} {was : Output} → mid.write_failed ≡ false
         → MergeInvariant tool (at_heads tool now) q was mid

@@ -7,8 +7,8 @@ use proofs.Common.{MergeRunPre, MergeState, merge_state, Cmp, Key, both, with_si
 use proofs.Common.{append-nil, Bool, Head}
 use proofs.MergeLemmas.{BetweenSteps, between_next, advance_pre, EndsIfFails, LoopInvariant, advance_ok, goes_merging}
 use proofs.MergeLemmas.{passing_now, runs_on, read_facts_current, iteration_fails, wrote_alone, alone_breaks, place_is}
-use proofs.MergeLemmas.{wrote_and_sent, IsKeyOrder, Written, MergeInvariant, line_is_least_run, lag_invariant_starts}
-use proofs.MergeLemmas.{write_least_run, at_current_line, state_by_side, IsOpenMerge, Kept, entries_of_pair, open_merge}
+use proofs.MergeLemmas.{wrote_and_sent, IsKeyOrder, Written, line_is_least_run, lag_invariant_starts, write_least_run}
+use proofs.MergeLemmas.{at_current_line, state_by_side, IsOpenMerge, Kept, entries_of_pair, open_merge}
 use Rattle.ptmerge.specs.Calls.Comm.{comm_tool, comm_with}
 use Rattle.ptmerge.specs.Comm.{entries, column_entries}
 use Rattle.ptmerge.specs.Private.BlockLines.{entries_alone}
@@ -123,8 +123,6 @@ module _ {job : Comm} {cmp : Cmp} {key : Side → Key} {old now : MergeState} {o
 
       module _ {one2 two2 : Sorted} {reader : Reader} {after : Slots}
           (h : Advances First one2 two2 reader after mid) {new : Output} (written_out : PushEffect mid new []) where
-        wrote_line_out : MergeInvariant tool b both_written old.out new
-        wrote_line_out = (wrote_both (wrote_and_sent _ _ _ _ h.continues.clean wrote written_out)).0
 
         pub second_fails : EndsIfFails tool old (state_by_side (both reader (now.reader Second)) new after) Second two2
             new
@@ -142,6 +140,7 @@ module _ {job : Comm} {cmp : Cmp} {key : Side → Key} {old now : MergeState} {o
               w = w;
               whole_line_keys = whole_line_keys;
               loop_invariant = rw k.continues.others (runs_on (advance_ok lines_before First step.first h.came) Second
-                  step.second (rw h.continues.others at k.came) (search (rules, goes_merging, wrote_line_out)));
+                  step.second (rw h.continues.others at k.came) (search (rules, goes_merging,
+                  (wrote_both (wrote_and_sent _ _ _ _ h.continues.clean wrote written_out)).0)));
               between = between_next (between_next between First h.continues) Second k.continues;
             }

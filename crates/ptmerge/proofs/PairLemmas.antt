@@ -12,18 +12,13 @@ use specs.Private.BlockLines.{in_order}
 use specs.Private.Passed.{BlocksPost}
 use specs.Calls.Join.{join_with, join_key, join_tool}
 
--- an order by the join fields
-joined_by_fields : (job : Join) (cmp : Cmp) (key : Side → Key) → key ≡ join_key job
-    → in_order (join_tool job) cmp key ≡ join_with job cmp key
-joined_by_fields job cmp key is = subst (λ k. in_order (join_tool job) cmp k ≡ join_with job cmp k) (sym is) refl
-
 pub blocks_joined : (job : Join) {cmp : Cmp} {key : Side → Key} {cursor next : Side → Sorted} {was is : MergeState}
     {result : Result (Unit {0}) MergeFault} → ((side : Side) (x : List ℕ) → key side x ≡ join_key job side x)
     → BlocksPost (in_order (join_tool job) cmp key) cursor next was is result
     → BlocksPost (join_with job cmp key) cursor next was is result
 blocks_joined job {cmp} {key} {cursor} {next} {was} {is} {result} keys post =
     subst (λ tool. BlocksPost tool cursor next was is result)
-    (joined_by_fields job cmp key (λ i side x. keys side x i)) post
+    (subst (λ k. in_order (join_tool job) cmp k ≡ join_with job cmp k) (sym (λ i side x. keys side x i)) refl) post
 
 pub joined_by_blocks : {O : Type 0} (cmp : O → Cmp) (key : O → Side → Key) {job : Join} {old was : MergeState}
     {one two : Sorted} {a b start : O} → LoopOfJoin job cmp key old BetweenGroups was one two a start

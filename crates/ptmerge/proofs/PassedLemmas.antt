@@ -8,10 +8,10 @@ use proofs.Common.{advance_ok_trans, append_assoc, usual, push_nothing, ◌<◌,
 use proofs.Common.{inr, line_of_with_line, length-set, ◌≤◌, HasSlots, with_side, budget, length-drop, other, MergeState}
 use proofs.Common.{both, Comm, First, Second, Result, Err, MergeFault, MergePost, Memory, Write, true, ⊎_elim}
 use proofs.Common.{append-nil, Output, Ok}
-use proofs.MergeLemmas.{IsSortedUpTo, IsSortedFrom, LinesRead, is_disordered, unlines_push, Bound, AtLeast}
-use proofs.MergeLemmas.{SideInvariant, IsAtCurrentLine, at_current_line, reads_nothing, after_from, self_at_most}
-use proofs.MergeLemmas.{low_slot, GroupStore, Extends, group_store_line, side_extends, NothingMore, put_same, ReadFacts}
-use proofs.MergeLemmas.{HasBegun, extends_itself, extends_on, extends, AllExtend, FitsIn, CursorsInvariant, IsOpenMerge}
+use proofs.MergeLemmas.{IsSortedUpTo, IsSortedFrom, LinesRead, is_disordered, Bound, AtLeast, SideInvariant}
+use proofs.MergeLemmas.{IsAtCurrentLine, at_current_line, reads_nothing, after_from, self_at_most, low_slot, GroupStore}
+use proofs.MergeLemmas.{Extends, group_store_line, side_extends, NothingMore, put_same, ReadFacts, HasBegun}
+use proofs.MergeLemmas.{extends_itself, extends_on, extends, AllExtend, FitsIn, CursorsInvariant, IsOpenMerge}
 use proofs.MergeLemmas.{side_case, put_other, slots_apart, line_other, max_length-append, MergeInvariant, bounds_change}
 use proofs.MergeLemmas.{same_bound, reads_ahead, none_failed, exit_behind, IsFaultBehind, state_by_side, kept_order}
 use proofs.MergeLemmas.{LoopInvariant, BetweenSteps, LagInvariant, AllWritten, IsLineByLine, lag_invariant_starts}
@@ -49,10 +49,6 @@ module _ (cmp : Cmp) (key : Key) where
 front_of_two : (a rest : List ℕ) → take (length (a ++ rest) - length rest) (a ++ rest) ≡ a
 front_of_two = grind usual
 
-passed_bytes : (end : ℕ) (middle : Lines) (head rest : List ℕ)
-    → unlines end middle ++ (head ++ (end ∷ rest)) ≡ unlines end (middle ++ head ∷ []) ++ rest
-passed_bytes end _ _ _ = rw (unlines_push end _ _) (simp append_assoc)
-
 lines_passed : {end : ℕ} {old was is : Reader} {ls : Lines} (middle : Lines) (head rest : List ℕ)
     → LinesRead end old was ls → was.buffered ≡ unlines end middle ++ (head ++ (end ∷ rest)) → AreLines end middle
     → IsLine end head → is ≡ record was { buffered = drop (length was.buffered - length rest) was.buffered }
@@ -61,7 +57,6 @@ lines_passed {end} {old} {was} {is} {ls} middle head rest c bytes free whole rea
   given = c.given ++ take (length was.buffered - length rest) was.buffered;
   so_far = grind (
     usual,
-    passed_bytes end middle head rest,
     front_of_two (unlines end (middle ++ head ∷ [])) rest,
     AreLines_push end _ _ free whole,
     unlines-append end ls (middle ++ head ∷ []),
