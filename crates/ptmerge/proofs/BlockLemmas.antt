@@ -66,7 +66,7 @@ module _ (cmp : Cmp) (key : Key) where
     bytes = m.bytes ∙ rw (n.bytes, unlines-append end _ _) (simp append_assoc);
     whole = (lines_between end _ _ _ m.whole.0 m.whole.1 n.whole.0, n.whole.1);
     ordered = rw (append_assoc m.middle _ (next.head.now ∷ [])) (sorted_append _ _ _ _ m.ordered n.ordered);
-    passed = omega (arith, m.passed, n.passed, length-append m.middle (now.head.now ∷ n.middle));
+    passed = omega (arith, n.passed, length-append m.middle (now.head.now ∷ n.middle));
   }
 
   one_moved : {end : ℕ} {now next : BlockLine} → IsNextLine end cmp key now next
@@ -92,13 +92,13 @@ module _ (cmp : Cmp) (key : Key) where
   pub in_block_next : {end : ℕ} {now next : BlockLine} → IsNextLine end cmp key now next → IsInBlock now
       → IsInBlock next
   in_block_next {end} {now} {next} n fits =
-      omega (arith, n.passed, ap length n.bytes, length-append next.head.now (end ∷ next.rest.now), fits)
+      omega (arith, ap length n.bytes, length-append next.head.now (end ∷ next.rest.now), fits)
 
   -- the lines of one key
 
   pub one_in_key : {end : ℕ} {now next : BlockLine} → IsNextLine end cmp key now next → IsInBlock now
       → IsInKey end cmp key now next (now.head.now ∷ [])
-  one_in_key n fits = grind (arith, one_moved n, in_block_next n fits)
+  one_in_key n fits = grind (arith, in_block_next n fits)
 
   pub more_in_key : {end : ℕ} {first now next : BlockLine} {f : Lines} → IsKeyOrder cmp
       → IsInKey end cmp key first now f → now.same ≡ true → IsNextLine end cmp key now next
@@ -142,7 +142,7 @@ pub lines_are_between : {end : ℕ} {cmp : Cmp} {key : Key} {first now : BlockLi
     → IsMoved end cmp key first now f → first.passed + suc more ≡ now.passed
     → first.head.now ∷ take more (complete_lines end first.rest.now) ≡ f
 lines_are_between {end} {first = first} {now} more m count =
-    let same : more ≡ length m.middle = omega (arith, count, m.passed) in
+    let same : more ≡ length m.middle = omega (arith, count) in
     rw (m.lines, m.bytes, complete_lines_of end _ _ m.whole.0, same)
     (ap (λ l. first.head.now ∷ l) (take-append_seam m.middle _))
 
@@ -197,7 +197,7 @@ module _ (tool : MergeTool) (o : IsKeyOrder tool.cmp) where
   none_follows : (side : Side) (r : Lines) (a k : List ℕ) → is_gt (cmp a k) ≡ true → EachKey (AtMost cmp a) (key side) r
       → lines_with_key (key side) r k ≡ []
   none_follows _ r a k gt c =
-      lines_with_key-above tool o _ k r (Each-weaker _ _ (λ y h. (grind (arith, at_most_trans cmp o a y k h))) _ c)
+      lines_with_key-above tool o _ k r (Each-weaker _ _ (λ y h. (grind arith)) _ c)
 
   pub line_run : (side : Side) (a b : List ℕ) {k : List ℕ} {f : Lines} → HaveKey (key side) a f → a ≡ k
       → AtMost cmp a b → IsLeastKeyRun cmp (key side) (AtLeast a) (AtLeast b) k f
@@ -219,7 +219,7 @@ module _ (tool : MergeTool) (o : IsKeyOrder tool.cmp) where
     run_of side =
         ⊎_elim (λ h. line_run side _ _ h.1.own h.0 h.1.ordered)
         (λ h. (let least = at_most_of _ _ h.1 in
-        rw (h.0, h.2) (grind (arith, later_key cmp o {key = key side} _ _ least, least)))) (s.passes side)
+        rw (h.0, h.2) (grind (arith, later_key cmp o {key = key side} _ _ least)))) (s.passes side)
 
     pub step_written : {q : Side → Lines} {was : Output} → mid.write_failed ≡ false
         → MergeInvariant tool (at_heads tool now) q was mid
@@ -417,7 +417,7 @@ pub own_on : (r : Reader) (number count used : ℕ) → IsSound r → r.fault �
     → count ≤ used → used ≤ length r.buffered
     → number + count + budget (record r { buffered = drop used r.buffered }) ≤ 2 ^ 63
 own_on r number count used sound clean counted few within =
-    omega (arith, sound.long clean, length-drop used r.buffered)
+    omega (arith, length-drop used r.buffered)
 
 each_ends : (end : ℕ) (ls : Lines) → length ls ≤ length (unlines end ls)
 each_ends end [] = omega arith
@@ -430,12 +430,12 @@ pub within_block : {end : ℕ} {cmp : Cmp} {key : Key} {old now : BlockLine} {q 
     × (0 < reached.passed → reached.left + (reached.size + 1) ≤ length bytes)
 within_block rest (none, inl u) at =
     let count = at.passed ∙ ap (λ l. l.passed) u.same ∙ none in (
-      omega (arith, at.left, count, ap (λ l. length l.rest.now) u.same, ap length rest),
-      λ some. absurd (omega (arith, count)),
+      omega (arith, count, ap (λ l. length l.rest.now) u.same, ap length rest),
+      λ some. absurd (omega arith),
     )
 within_block {end} rest (none, inr m) at = (
-  omega (arith, at.left, at.passed, m.passed, none, ap length rest, moved_bytes m, each_ends end m.middle),
-  λ some. omega (arith, at.left, at.size, ap length rest, moved_bytes m),
+  omega (arith, at.left, m.passed, none, ap length rest, moved_bytes m, each_ends end m.middle),
+  λ some. omega (arith, at.size, ap length rest, moved_bytes m),
 )
 
 pub can_resume : {end : ℕ} {cmp : Cmp} {key : Key} {old now : BlockLine} {q : Lines} {reached : Reached}

@@ -21,12 +21,12 @@ no_entries = grind arith
 
 pub entries_both : (job : Comm) (x : List ℕ) (n k : ℕ)
     → entries job x (suc n) (suc k) ≡ entries job x 1 1 ++ entries job x n k
-entries_both = grind (arith, no_entries)
+entries_both = grind arith
 
 pub comm_opens : (job : Comm) (cmp : Cmp) (key : Side → Key) {first second : Reader} {out : Output} {store : Slots}
     → IsKeyOrder cmp → MergeRunPre job.terminator first second out store
     → IsOpenMerge (comm_with job cmp key) (merge_state first second out store)
-comm_opens job cmp key o begins = open_merge o (grind (arith, no_entries, append-nil)) (λ ls. omega arith) begins
+comm_opens job cmp key o begins = open_merge o (grind (arith, append-nil)) (λ ls. omega arith) begins
 
 -- ---- the loop invariant
 

@@ -3,18 +3,18 @@
 -- never adds to the reads that are left; or a write has failed, and the call ends.
 use Rattle.ptmerge.proofs
 use proofs.Common.{◌≡◌, ℕ, ◌-◌, false, List, [], ◌∷◌, ◌++◌, refl, sym, ◌∙◌, ap, subst, arith, length, drop, Some}
-use proofs.Common.{unlines, unlines-append, IsLine, AreLines, Lines, Cmp, Key, Reader, length-append, length_push}
-use proofs.Common.{advance_ok_trans, append_assoc, usual, push_nothing, ◌<◌, Side, MergeTool, Sorted, Slots, Head, line}
-use proofs.Common.{inr, line_of_with_line, length-set, ◌≤◌, HasSlots, with_side, budget, length-drop, other, MergeState}
-use proofs.Common.{both, Comm, First, Second, Result, Err, MergeFault, MergePost, Memory, Write, true, ⊎_elim}
-use proofs.Common.{append-nil, Output, Ok}
+use proofs.Common.{unlines, IsLine, AreLines, Lines, Cmp, Key, Reader, length-append, length_push, advance_ok_trans}
+use proofs.Common.{append_assoc, usual, push_nothing, ◌<◌, Side, MergeTool, Sorted, Slots, Head, line, inr}
+use proofs.Common.{line_of_with_line, ◌≤◌, HasSlots, with_side, budget, length-drop, other, MergeState, both, Comm}
+use proofs.Common.{First, Second, Result, Err, MergeFault, MergePost, Memory, Write, true, ⊎_elim, append-nil, Output}
+use proofs.Common.{Ok}
 use proofs.MergeLemmas.{IsSortedUpTo, IsSortedFrom, LinesRead, is_disordered, Bound, AtLeast, SideInvariant}
-use proofs.MergeLemmas.{IsAtCurrentLine, at_current_line, reads_nothing, after_from, self_at_most, low_slot, GroupStore}
-use proofs.MergeLemmas.{Extends, group_store_line, side_extends, NothingMore, put_same, ReadFacts, HasBegun}
-use proofs.MergeLemmas.{extends_itself, extends_on, extends, AllExtend, FitsIn, CursorsInvariant, IsOpenMerge}
-use proofs.MergeLemmas.{side_case, put_other, slots_apart, line_other, max_length-append, MergeInvariant, bounds_change}
-use proofs.MergeLemmas.{same_bound, reads_ahead, none_failed, exit_behind, IsFaultBehind, state_by_side, kept_order}
-use proofs.MergeLemmas.{LoopInvariant, BetweenSteps, LagInvariant, AllWritten, IsLineByLine, lag_invariant_starts}
+use proofs.MergeLemmas.{IsAtCurrentLine, at_current_line, reads_nothing, after_from, GroupStore, Extends}
+use proofs.MergeLemmas.{group_store_line, side_extends, NothingMore, put_same, ReadFacts, HasBegun, extends_itself}
+use proofs.MergeLemmas.{extends_on, extends, AllExtend, FitsIn, CursorsInvariant, IsOpenMerge, side_case, put_other}
+use proofs.MergeLemmas.{slots_apart, line_other, max_length-append, MergeInvariant, bounds_change, same_bound}
+use proofs.MergeLemmas.{reads_ahead, none_failed, exit_behind, IsFaultBehind, state_by_side, kept_order, LoopInvariant}
+use proofs.MergeLemmas.{BetweenSteps, LagInvariant, AllWritten, IsLineByLine, lag_invariant_starts}
 use Rattle.ptlines.specs.Calls.Readers.{IsSound}
 use Rattle.ptlines.specs.Readers.{IsDone}
 use Rattle.ptmerge.specs.Calls.MergeSteps.{AreValidCursors, IsReaderOf}
@@ -55,13 +55,8 @@ lines_passed : {end : ℕ} {old was is : Reader} {ls : Lines} (middle : Lines) (
     → LinesRead end old is (ls ++ (middle ++ head ∷ []))
 lines_passed {end} {old} {was} {is} {ls} middle head rest c bytes free whole reader = record {
   given = c.given ++ take (length was.buffered - length rest) was.buffered;
-  so_far = grind (
-    usual,
-    front_of_two (unlines end (middle ++ head ∷ [])) rest,
-    AreLines_push end _ _ free whole,
-    unlines-append end ls (middle ++ head ∷ []),
-    bytes,
-  );
+  so_far =
+      grind (usual, front_of_two (unlines end (middle ++ head ∷ [])) rest, AreLines_push end _ _ free whole, bytes);
   advance_ok = advance_ok_trans old was is _ _ c.advance_ok
       (advance_ok_take was is _ c.advance_ok.fault (omega arith) reader);
   terminator = grind arith;
@@ -126,7 +121,7 @@ module _ {tool : MergeTool} {old : MergeState} {w : IsOpenMerge tool old} {reade
       (n : HasPassed next is after now q) where
     other_stays : SideInvariant tool (other s) (old.reader (other s)) (reader (other s)) (cursor (other s)) after
         (ls (other s)) (p (other s)) (b (other s))
-    other_stays = grind (arith, a.sides (other s), n.current, n.previous, n.side.four)
+    other_stays = grind (arith, n.current, n.previous, n.side.four)
 
     cursors_on : CursorsInvariant w (with_side s is reader) (with_side s next cursor) after (with_side s n.now_ls ls)
         (with_side s (p s ++ q) p) (with_side s (AtLeast (tool.key s now.head.now)) b)
@@ -170,7 +165,7 @@ module _ {tool : MergeTool} {old : MergeState} {w : IsOpenMerge tool old} {reade
         line = tt;
         sound = sound;
         processed_nearly = inr (now.head.now, refl, refl);
-        processed_prefix = grind (arith, append_assoc, after_from, sorted_here, self_at_most);
+        processed_prefix = grind (arith, append_assoc, after_from, sorted_here);
         nothing_follows = grind arith;
       }
 
@@ -214,7 +209,7 @@ module _ {tool : MergeTool} {old : MergeState} {w : IsOpenMerge tool old} {reade
           let four = (a.sides s).four in
           let on : IsPassed now.passed x (cursor s) next store after =
           rw (reached_is.left, reached_is.size, reached_is.passed, head_of_block _ _ _ _ _ (sym at_rest ∙ m.bytes)) at
-          (resumed.moved (omega (arith, reached_is.passed, m.passed))) in
+          (resumed.moved (omega (arith, m.passed))) in
           let apart = slots_apart s (exchange (cursor s)) (cursor (other s)) (exchanged s (cursor s) slots)
           (a.sides (other s)).slots in
           let used = rw reached_is.left at resumed.reader in
@@ -226,24 +221,15 @@ module _ {tool : MergeTool} {old : MergeState} {w : IsOpenMerge tool old} {reade
               number = omega (
                 arith,
                 ap (λ c. c.number) on.cursor,
-                m.passed,
                 passed.0,
                 (a.sides s).number,
                 ap length (all_lines m),
                 length-append (ls s) (m.middle ++ x ∷ []),
                 length_push m.middle x,
               );
-              status_is = grind (
-                arith,
-                line_of_with_line,
-                low_slot s (cursor s) slots,
-                four,
-                on,
-                sorted_here m,
-                length_push,
-              );
-              slots = grind (arith, on, slots);
-              four = grind (arith, on, length-set, four);
+              status_is = grind (arith, line_of_with_line, four, on, sorted_here m, length_push);
+              slots = grind (arith, on);
+              four = grind (arith, on, four);
             };
             status_is = ap (λ c. c.status) on.cursor ∙ head;
             current = rw on.store (line_other store _ _ x apart.0);

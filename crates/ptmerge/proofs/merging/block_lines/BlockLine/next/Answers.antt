@@ -7,7 +7,7 @@ use proofs.merging.block_lines.BlockLine.next.Goals as goal
 pub returns : goal.returns
 returns g c = let n = line_in_block _ _ _ c.in_ok-size.ensures in
     record {
-      bytes = grind (usual, n.bytes);
+      bytes = grind usual;
       whole = n.whole;
       ordered = grind usual;
       same = grind usual;

@@ -20,6 +20,6 @@ returns g c =
     let i = c.lines.invariant.passed in
     record {
       passed = rw (lines_are_between (c.lines.after.passed - c.args.next.passed) i.passed
-          (omega (arith, i.passed.passed, c.requires.next.passed))) i;
+          (omega (arith, i.passed.passed))) i;
       new = c.lines-test.false;
     }

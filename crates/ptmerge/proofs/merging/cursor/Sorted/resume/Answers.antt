@@ -12,20 +12,20 @@ returns-clause-resumes g c =
     let on = own_on c.args.reader.now c.args.self.now.number c.args.at.passed
     (length c.args.reader.now.buffered - c.args.at.left) c.buffered.ensures.sound fits.own_reader.clean
     fits.own_reader.counted
-    (omega (arith, fits.within)) (omega arith) in
+    (omega arith) (omega arith) in
     elim c.if-at-gt0.branch [
       | then-at-gt0+in-Ok w ↦ record {
         reader = grind arith;
         sound = c.consume.ensures.is_sound;
-        unmoved = λ none. absurd (omega (arith, w.if-at-gt0.true));
+        unmoved = λ none. absurd (omega arith);
         moved = λ some. grind arith;
-        own_reader = grind (arith, on);
+        own_reader = grind arith;
       }
       | else-at-gt0 w ↦ record {
         reader = grind arith;
         sound = c.consume.ensures.is_sound;
         unmoved = λ none. grind arith;
-        moved = λ some. absurd (omega (arith, w.if-at-gt0.false));
-        own_reader = grind (arith, on);
+        moved = λ some. absurd (omega arith);
+        own_reader = grind arith;
       }
     ]
