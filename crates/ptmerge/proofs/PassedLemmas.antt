@@ -90,13 +90,13 @@ nothing_used = grind usual
 
 -- The lines `p` of one input are processed, and the reader `virtual` has consumed them and the line after them. For the
 -- real reader these bytes may still be buffered.
-pub record IsAhead (tool : MergeTool) (old : MergeState) (s : Side) (real virtual : Reader) (ls p : Lines) (b : Bound)
+record IsAhead (tool : MergeTool) (old : MergeState) (s : Side) (real virtual : Reader) (ls p : Lines) (b : Bound)
     : Type 0 where
-  pub now_ls : Lines
-  pub facts : ReadFacts tool s (old.reader s) virtual virtual [] now_ls p b
-  pub begun : HasBegun virtual now_ls
-  pub up : Extends ls now_ls
-  pub back : virtual ≡ record real { buffered = virtual.buffered }
+  now_ls : Lines
+  facts : ReadFacts tool s (old.reader s) virtual virtual [] now_ls p b
+  begun : HasBegun virtual now_ls
+  up : Extends ls now_ls
+  back : virtual ≡ record real { buffered = virtual.buffered }
 
 stays_ahead : {tool : MergeTool} {old : MergeState} {s : Side} {reader : Reader} {cursor : Sorted} {store : Slots}
     {ls p : Lines} {b : Bound} → SideInvariant tool s (old.reader s) reader cursor store ls p b
@@ -108,14 +108,14 @@ module _ {tool : MergeTool} {old : MergeState} {w : IsOpenMerge tool old} {reade
     {cursor : Side → Sorted} {store : Slots} {ls p : Side → Lines} {b : Side → Bound}
     (a : CursorsInvariant w reader cursor store ls p b) (s : Side) where
   -- the input is at the line reached, and the other one stays where it was
-  pub record HasPassed (next : Sorted) (is : Reader) (after : Slots) (now : BlockLine) (q : Lines) : Type 0 where
-    pub now_ls : Lines
-    pub side : SideInvariant tool s (old.reader s) is next after now_ls (p s ++ q) (AtLeast (tool.key s now.head.now))
-    pub status_is : next.status ≡ Head
-    pub current : line after (cursor (other s)).current_slot ≡ line store (cursor (other s)).current_slot
-    pub previous : line after (cursor (other s)).previous_slot ≡ line store (cursor (other s)).previous_slot
-    pub keeps : GroupStore tool old.store after (with_side s now_ls ls) []
-    pub reads : budget is ≤ budget (reader s)
+  record HasPassed (next : Sorted) (is : Reader) (after : Slots) (now : BlockLine) (q : Lines) : Type 0 where
+    now_ls : Lines
+    side : SideInvariant tool s (old.reader s) is next after now_ls (p s ++ q) (AtLeast (tool.key s now.head.now))
+    status_is : next.status ≡ Head
+    current : line after (cursor (other s)).current_slot ≡ line store (cursor (other s)).current_slot
+    previous : line after (cursor (other s)).previous_slot ≡ line store (cursor (other s)).previous_slot
+    keeps : GroupStore tool old.store after (with_side s now_ls ls) []
+    reads : budget is ≤ budget (reader s)
 
   module _ {next : Sorted} {is : Reader} {after : Slots} {now : BlockLine} {q : Lines}
       (n : HasPassed next is after now q) where
