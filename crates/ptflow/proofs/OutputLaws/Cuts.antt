@@ -1,6 +1,5 @@
--- The laws of the output of `cut`, with their lemmas. If all bytes or all fields are selected, the lines are written
--- as they are (`CutOfAll`). `cut -f` takes a column out of the rows that `paste` writes, since the fields of a row are
--- what the row is split into (`CutAfterPaste`).
+-- The laws of `cut`. If all bytes or all fields are selected, the lines are written as they are. `cut -f` takes a
+-- column out of the rows that `paste` writes, since the fields of a row are what the row is split into.
 use Rattle.ptflow.specs
 use Rattle.std.proofs.Common.{◌≡◌, ◌≢◌, ℕ, ◌+◌, ◌<◌, ◌≤◌, ◌==◌, Bool, true, false, List, [], ◌∷◌, ◌++◌, refl, ap, arith}
 use Rattle.std.proofs.Common.{◌∙◌, zero, suc, length, map, append_assoc, Some}
@@ -18,7 +17,7 @@ use specs.Laws.Outputs.{CutOfAll, SelectsAll, CutAfterPaste, IsRowOf}
 use specs.Cuts.{cut_fields, cut_line, select_from, is_field_delimiter}
 use specs.PasteText.{join_with_cycle}
 use Rattle.ptlangs.specs.Jobs.{Cut}
-use Rattle.ptlines.specs.Text.{lines, unlines, max_length, max_line_length}
+use Rattle.ptlines.specs.Text.{unlines, max_length, max_line_length}
 use Rattle.ptlines.specs.Calls.Text.{IsLine}
 use Rattle.ptlines.specs.Laws.Text.{AreLines}
 use Rattle.ptlines.proofs.LineSearch.{IsLine-append}

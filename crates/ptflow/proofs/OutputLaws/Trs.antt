@@ -1,6 +1,4 @@
--- The laws of the output of `tr`: translation keeps the number of bytes (`TranslationKeepsLength`), and `tr -d` and
--- `tr -cd` share out the bytes (`DeletedOrKept`). Their lemmas say what the tables of a plan have for a byte: its
--- image, and whether it is deleted or squeezed.
+-- The laws of `tr`: translation keeps the number of bytes, and `tr -d` and `tr -cd` share out the bytes.
 use Rattle.ptflow.proofs
 use Rattle.ptflow.specs
 use Rattle.std.proofs.Common.{◌≡◌, ℕ, ◌<◌, Bool, false, List, [], ◌∷◌, refl, ◌∙◌, ap, sym, arith, map, filter, not}

@@ -1,6 +1,6 @@
--- The laws of the output of `uniq`: the counts of the runs add up to the number of lines (`CountsAddUp`); each line
--- that `uniq` writes is written by exactly one of `uniq -d` and `uniq -u` (`RepeatedOrSingle`); and `uniq` leaves its
--- own output as it is, since adjacent runs have different keys (`UniqTwice`).
+-- The laws of `uniq`: the counts of the runs add up to the number of lines; each line that `uniq` writes is written by
+-- exactly one of `uniq -d` and `uniq -u`; and `uniq` leaves its own output as it is, since adjacent runs have different
+-- keys.
 use Rattle.ptflow.specs
 use Rattle.std.proofs.Common.{◌≡◌, ℕ, ◌+◌, ◌<◌, false, List, [], ◌∷◌, ◌++◌, refl, arith, map}
 use Rattle.std.specs.Prelude.{sum_by}

@@ -1,7 +1,6 @@
--- The exits of a pass over one input, for every tool: the call did nothing, a slot was refused, a read, a write or an
--- allocation failed, or the input ended. At each, the pushed bytes and the output for the rest are together that for
--- every continuation. Besides: facts about readers, several pushes as one, the state of the loop over blocks, the
--- lines of a text that was read in part, and the output that is decided two blocks earlier.
+-- The exits of a pass over one input, for every tool. At each, the pushed bytes and the output for the rest are
+-- together that for every continuation. Besides: facts about readers, several pushes as one, the state of the loop over
+-- blocks, the lines of a text that was read in part, and the output that is decided two blocks earlier.
 use Rattle.ptflow.proofs
 use Rattle.ptflow.specs
 use proofs.Common.{◌≡◌, ℕ, ◌≤◌, ◌<◌, ◌^◌, true, false, List, [], ◌++◌, length, None, Result, Ok, Err, max, arith, Slots}
@@ -10,7 +9,7 @@ use proofs.Common.{Received, IsPrefix, IsConsistent, Output, PushEffect, total_b
 use proofs.Common.{advance_trans, push_nothing, ToolSpec, PassPost, Read, CallState, call_state, CallOutcome}
 use proofs.Common.{AddedSlots, CallProgress, DecidedIfReadFailed, take, call_ends, call_on_failed_output, call_set}
 use proofs.Common.{call_without_slots, bounded_lag_after, Write, FlowFault, Memory, rules, drop, advance_ok_take, Bool}
-use proofs.Common.{refl, sym, if◌then◌else◌, push_past_failure, OnErr, ◌+◌, ◌-◌, take_all, inl, inr, zero, suc, ◌∷◌, unlines}
+use proofs.Common.{refl, push_past_failure, OnErr, ◌+◌, ◌-◌, take_all, inl, inr, zero, suc, ◌∷◌, unlines}
 use proofs.Common.{take-append-drop, false≢true, lines, IsLine, AreLines, max_length, max_line_length, known_lines}
 use proofs.Common.{FillLine, lines_of_unlines, lines_of_last, lines_cons, lines-unlines, ◌==◌}
 use proofs.Common.{complete_lines_of_unlines, AreReceivedLines, Some, eqb-true, eqb-false, complete_lines}
@@ -82,11 +81,7 @@ module _ (old : Reader) {set : Reader} {end : ℕ} where
 -- A reader that has the terminator of a tool keeps it.
 pub terminator_kept : (tool : ToolSpec) (reader : Reader) → reader.terminator ≡ tool.end
     → terminator_after (pass_engine tool) reader.terminator ≡ reader.terminator
-terminator_kept tool reader same = by_choice tool.keeps_end
-  where
-    by_choice : (keeps : Bool) → (if keeps then reader.terminator else tool.end) ≡ reader.terminator
-    by_choice true = refl
-    by_choice false = sym same
+terminator_kept tool reader same = grind arith
 
 pub pass_unslotted : (tool : ToolSpec) {old : Reader} (was : Output) {before store : Slots} → PassPre old before
     → IsSound old → was.write_failed ≡ false → AddedSlots before store tool.slots → length store.lines < tool.slots
@@ -367,9 +362,9 @@ pub complete_prefix : (end : ℕ) (bytes rest : List ℕ)
     → lines end (bytes ++ rest) ≡ complete_lines end bytes ++ lines end ((line_split end bytes).piece ++ rest)
 complete_prefix = grind (arith, line_split, append_assoc, lines_of_unlines)
 
-module _ (end : ℕ) (bytes : List ℕ) (at : ℕ) (first : IsFirstByte (is_byte end) bytes (Some at)) where
-  pub split_of : bytes ≡ take at bytes ++ end ∷ drop (at + 1) bytes
-  split_of = cc (take-append-drop at bytes, drop_at_terminator end _ at first)
+pub split_of : (end : ℕ) (bytes : List ℕ) (at : ℕ) → IsFirstByte (is_byte end) bytes (Some at)
+    → bytes ≡ take at bytes ++ end ∷ drop (at + 1) bytes
+split_of end bytes at first = cc (take-append-drop at bytes, drop_at_terminator end _ at first)
 
 -- some lines of the block were processed, and `rest` is left
 pub record IsAfterLines (end : ℕ) (block rest : List ℕ) : Type 0 where
@@ -381,11 +376,7 @@ module _ (end : ℕ) where
   pub ended_next : (rest : List ℕ) (at : ℕ) → IsFirstByte (is_byte end) rest (Some at)
       → complete_lines end rest ≡ take at rest ∷ complete_lines end (drop (at + 1) rest)
   ended_next rest at first =
-      cc (
-        split_of end _ at first,
-        complete_lines_cons end _ _
-            (line_before_terminator end _ at first),
-      )
+      cc (split_of end _ at first, complete_lines_cons end _ _ (line_before_terminator end _ at first))
 
   pub taken_more : {block rest : List ℕ} (size : ℕ)
       → unlines end (complete_lines end rest) ≡ take size rest ++ unlines end (complete_lines end (drop size rest))
@@ -424,15 +415,7 @@ module _ (end : ℕ) (now : Reader) (given : List ℕ) (ls : List (List ℕ))
     pub piece_longest : (input : List ℕ) → IsConsistent (received_with (given ++ piece) new) input
         → max (max_length ls) (length piece) ≤ max_line_length end input
     piece_longest input consistent =
-        grind (
-          usual,
-          append_assoc,
-          free,
-          append-nil,
-          lines_of_unlines,
-          max_length-append,
-          piece_le_max_length,
-        )
+        grind (usual, append_assoc, free, append-nil, lines_of_unlines, max_length-append, piece_le_max_length)
 
     -- and the read of its rest failed
     pub whole_before : new.buffered ≡ [] → new.eof ≡ false → known_lines end (received_with (given ++ piece) new) ≡ ls

@@ -1,6 +1,5 @@
 -- A tool that works line by line. The items written for the lines so far, and then those of the rest, are the items of
--- the whole for every continuation; so each exit is a lemma of `Exits`. At most one line is in each slot of the tool,
--- and nothing in the others, so the store holds at most `width` times the maximum length of these lines.
+-- the whole for every continuation; so each exit is a lemma of `Exits`. At most one line is in each slot of the tool.
 use Rattle.ptflow.proofs
 use Rattle.std.proofs.lemmas
 use proofs.Common.{◌≡◌, ℕ, zero, suc, ◌+◌, ◌-◌, ◌*◌, ◌<◌, ◌≤◌, false, List, [], ◌∷◌, length, drop, set, get_or, max}
@@ -52,20 +51,19 @@ pub bounds_weaker : {width most : ℕ} (more : ℕ) {before store : Slots} → S
     → most ≤ more → SlotBounds width more before store
 bounds_weaker = grind arith
 
-pub bounds_line : {width most : ℕ} {before store : Slots} (new : Slots) (slot : ℕ) (bytes : List ℕ)
-    → SlotBounds width most before store → slot < width → length bytes ≤ most → new ≡ with_line store slot bytes
-    → SlotBounds width most before new
-bounds_line {width} {most} {store} new slot bytes bounds within fits is =
-    let short : (i : ℕ) → i < width → length (get_or new.lines i []) ≤ most = λ i low. grind usual in
-    let others = drop-set-lt width store.lines slot bytes within in
+pub bounds_line : {width most : ℕ} {before store : Slots} (slot : ℕ) (bytes : List ℕ)
+    → SlotBounds width most before store → slot < width → length bytes ≤ most
+    → SlotBounds width most before (with_line store slot bytes)
+bounds_line {width} {most} {store} slot bytes bounds within fits =
+    let ls = set store.lines slot bytes in
+    let short : (i : ℕ) → i < width → length (get_or ls i []) ≤ most = λ i low. grind usual in
+    let others = ap total_bytes (drop-set-lt width store.lines slot bytes within) ∙ bounds.others in
     record {
-      denied = cc;
-      size = grind (arith, length-set);
+      denied = bounds.denied;
+      size = length-set store.lines slot bytes ∙ bounds.size;
       short = short;
-      others = cc;
-      peak =
-          let all = ap (λ s. total_bytes s.lines) is in
-          omega (arith, bounded_total width most new.lines short (cc), ap (λ s. s.peak) is);
+      others = others;
+      peak = omega (arith, bounded_total width most ls short others);
     }
 
 -- the first and the last slot were swapped, or none
@@ -78,8 +76,8 @@ bounds_swapped {width} {most} {before} {store} new some bounds either = elim eit
       let last = get_or store.lines (width - 1) [] in
       let same : new.lines ≡ set (set store.lines 0 last) (width - 1) first = grind (arith, swap_is) in
       let both : SlotBounds width most before (with_line (with_line store 0 last) (width - 1) first) =
-      bounds_line _ _ _ (bounds_line _ 0 _ bounds some (bounds.short (width - 1) (omega arith)) refl)
-      (omega arith) (bounds.short 0 some) refl in
+      bounds_line _ _ (bounds_line 0 _ bounds some (bounds.short (width - 1) (omega arith))) (omega arith)
+      (bounds.short 0 some) in
       search rules
 ]
 
@@ -240,7 +238,7 @@ module _ {S X E : Type 0} {tool : ToolSpec} {state : S → Slots → X} {rest_fr
 
       keeps_last : {after : Slots} (bytes : List ℕ) → after ≡ with_line store (width - 1) bytes
           → SlotBounds width (max (max_length run.ls) (length bytes)) before after
-      keeps_last bytes told = bounds_line _ _ _ (grind arith) (omega arith) (omega arith) told
+      keeps_last bytes told = rw told (bounds_line _ _ (grind arith) (omega arith) (omega arith))
 
       same_end : reader.terminator ≡ end
       same_end = grind arith

@@ -1,6 +1,5 @@
 -- Bytes whose terminators are replaced in turn by given texts: of two parts of a text, of 64 bytes, where the
--- terminators are the bits of a mask, and byte by byte. Then the output of `paste -s` from a position on: pieces that
--- are copied one after another, and what of the output is decided.
+-- terminators are the bits of a mask, and byte by byte. Then the output of `paste -s` from a position on.
 use Rattle.ptflow.proofs
 use Rattle.ptflow.specs
 use proofs.Common.{◌≡◌, ◌≢◌, ℕ, zero, suc, ◌+◌, ◌-◌, ◌%◌, ◌^◌, ◌==◌, ◌<◌, ◌≤◌, Bool, cond, List, [], ◌∷◌, ◌++◌, length}
@@ -68,11 +67,8 @@ module _ (end : ℕ) where
     pub replaced_by_map : (b : ℕ) → ((n : ℕ) → byte n ≡ b) → (number : ℕ) (bytes : List ℕ)
         → all number bytes ≡ map (λ x. cond (x == end) b x) bytes
     replaced_by_map b same number [] = refl
-    replaced_by_map b same number (x ∷ bytes) = grind (
-      arith,
-      replaced_by_map b same (number + 1) bytes,
-      replaced_by_map b same number bytes,
-    )
+    replaced_by_map b same number (x ∷ bytes) =
+        grind (arith, replaced_by_map b same (number + 1) bytes, replaced_by_map b same number bytes)
 
     pub take-replaced : (at number : ℕ) (bytes : List ℕ) → at ≤ length bytes
         → take at (all number bytes) ≡ all number (take at bytes)
@@ -111,13 +107,8 @@ module _ (end : ℕ) where
     all_replaced number [] zero e = refl
     all_replaced number [] (suc n) e = refl
     all_replaced number (b ∷ bytes) zero e = grind (arith, counted b bytes, all_replaced number bytes zero)
-    all_replaced number (b ∷ bytes) (suc m) e = grind (
-      arith,
-      counted,
-      all_replaced (number + 1) bytes m,
-      all_replaced
-          number bytes (suc m),
-    )
+    all_replaced number (b ∷ bytes) (suc m) e =
+        grind (arith, counted, all_replaced (number + 1) bytes m, all_replaced number bytes (suc m))
 
 -- ---- the terminators of a chunk, one by one
 
@@ -343,6 +334,6 @@ serial_is_decided job format now ends are same given pushed cell on =
     let end = format.terminator in
     let delims = format.delims.now in
     let text = join_with_cycle delims 0 (lines end (given ++ [])) in
-    let is : text ≡ pushed = append_cancel_right text pushed (end ∷ []) (grind arith) in
+    let is = append_cancel_right text pushed (end ∷ []) (grind arith) in
     let b = joined_begins end delims 0 (complete_lines end given) (lines end ((line_split end given).piece ++ [])) in
     rw (← ends, ← are) (grind (usual, complete_prefix, append-nil))

@@ -1,7 +1,6 @@
 -- Lines and rows that were taken from readers compose. A row is filled column by column: the copied text holds its
--- first fields, the slots hold the others. A step changes one reader only, so earlier columns keep their lines. A
--- filled row is a row that was taken, since each column takes one line. All bytes of the store are in the slots, so
--- they are at most the sum of the columns' bounds.
+-- first fields, the slots hold the others. A step changes one reader only. A filled row is a row that was taken, since
+-- each column takes one line.
 pub mod Grid
 use Rattle.ptflow.proofs
 pub use proofs.Common.{Err, None, Ok, get_or-take, set, take-append-drop, ◌||◌, ◌≢◌, drop-set-lt, get_or-set_other}
@@ -15,6 +14,7 @@ pub use proofs.Common.{after_cell, cells_text, slots_text, AreReceivedLines, Lin
 pub use proofs.Common.{take-append-le, RowsTaken, CopyColumnsPost, CopyRowsPost, FlowFault, Memory, Read, Write, rules}
 pub use proofs.Passes.Exits.{lines_none, lines_are_given, lines_more, eof_gives_nothing}
 pub use Rattle.std.proofs.Math.Bool.{or-true, or-false}
+use Rattle.std.proofs.lemmas.List.Sums.{sum_by-take-drop}
 pub use Grid.*
 
 pub AreLines-append : (end : ℕ) (xs ys : Lines) → AreLines end xs → AreLines end ys → AreLines end (xs ++ ys)
@@ -68,11 +68,7 @@ module _ (row : RowShape) where
       → cells_text row c xs ≡ join_with_cycle row.delims c xs ++ row.terminator ∷ []
   row_text c [] all some = absurd (omega arith)
   row_text c (x ∷ []) all some = search rules
-  row_text c (x ∷ y ∷ more) all some = grind (
-    usual,
-    row_text (c + 1) (y ∷ more) (omega arith)
-        (omega arith),
-  )
+  row_text c (x ∷ y ∷ more) all some = grind (usual, row_text (c + 1) (y ∷ more) (omega arith) (omega arith))
 
 -- ---- rows that were taken
 
@@ -162,17 +158,8 @@ sum_of_zeros (x ∷ cells) = omega (arith, sum_of_zeros cells)
 pub slots_bound_start : {cells : List ℕ} {top : ℕ → ℕ} {before store : Slots} → AddedSlots before store (length cells)
     → store.denied ≡ false → total_bytes store.lines ≡ 0
     → store.peak ≡ before.peak → SlotsBound cells top before store
-slots_bound_start {cells} {store = store} adds denied empty peak = record {
-  denied = denied;
-  adds = adds;
-  short = grind usual;
-  others = let n = length cells in omega (
-    arith,
-    ap total_bytes (take-append-drop n store.lines),
-    sum_by-append length (take n store.lines) (drop n store.lines),
-  );
-  peak = omega arith;
-}
+slots_bound_start {cells} {store = store} adds denied empty peak =
+    grind (usual, sum_by-take-drop length store.lines (length cells))
 
 pub slots_bound_line : {cells : List ℕ} {top : ℕ → ℕ} {before store : Slots} → SlotsBound cells top before store
     → (column : ℕ) (bytes : List ℕ) → column < length cells
@@ -189,11 +176,8 @@ slots_bound_line {cells} {top} {before} {store} k column bytes within fits = rec
     lines = set store.lines column bytes
 
     short : (c : ℕ) → c < length cells → length (get_or lines c []) ≤ top (get_or cells c 0)
-    short c low = grind (
-      arith,
-      get_or-set_same store.lines column bytes [],
-      get_or-set_other store.lines column c bytes [],
-    )
+    short c low =
+        grind (arith, get_or-set_same store.lines column bytes [], get_or-set_other store.lines column c bytes [])
 
     others : total_bytes (drop (length cells) lines) ≡ 0
     others = ap total_bytes (drop-set-lt (length cells) store.lines column bytes within) ∙ k.others
@@ -309,15 +293,9 @@ FieldTaken end b r field false = LinesTaken end b r 1 [] × (field ≡ []) × (b
 field_in_slot : (end : ℕ) (b r : Reader) (before after : Slots) (slot : ℕ) (has : Bool) → b.fault ≡ None
     → b.terminator ≡ end → IsSound r → FillPost b r before after slot (Ok has)
     → (field : List ℕ) × (after ≡ with_line before slot field) × FieldTaken end b r field has
-field_in_slot end b r before after slot true clean same sound e = (
-  e.line,
-  e.stored,
-  (
-    taken_by e.advance_ok clean sound
-        (lines_more end b [] [] (lines_none end b) r before after slot e same) (inl refl) (λ none. cc),
-    e.less,
-  ),
-)
+field_in_slot end b r before after slot true clean same sound e =
+    let came = lines_more end b [] [] (lines_none end b) r before after slot e same in
+    (e.line, e.stored, (taken_by e.advance_ok clean sound came (inl refl) (λ none. cc), e.less))
 field_in_slot end b r before after slot false clean same sound (advance_ok, done, kept) = search rules
 
 module _ {row : RowShape} {n : ℕ} {old now : List Reader} {fields : Lines} {any_line : Bool}
@@ -338,11 +316,7 @@ module _ {row : RowShape} {n : ℕ} {old now : List Reader} {fields : Lines} {an
         rw or-true (record {
           input_lines = λ q. f.input_lines q ++ lines_of_input p (field ∷ []) q;
           consumed = cells_taken_more f.consumed x.low x.within lines_taken (search (rules, get_or_push));
-          some = λ h. (
-            n,
-            omega arith,
-            grind usual,
-          );
+          some = λ h. (n, omega arith, grind usual);
           none = λ h. cc;
           least = omega arith;
           less = λ h. less;

@@ -1,5 +1,4 @@
--- The contract of `process_block` preserves the invariant, and each exit is a lemma of `Exits`. No block is empty, so
--- the budget decreases.
+-- Each exit is a lemma of `Exits`. No block is empty, so the budget decreases.
 use Rattle.ptflow.proofs
 use proofs.Common.{refl, arith, reads_nothing, usual, rules, Ok}
 use Rattle.ptlines.specs.Calls.ReadLine.{BlockResult}

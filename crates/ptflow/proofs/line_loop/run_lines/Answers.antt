@@ -1,6 +1,5 @@
--- The loop over lines: its invariant at the start and after an iteration, what the calls of the tool require, and each
--- exit, which is an outcome of a pass. The buffered output is written before each read, so each exit comes after that.
--- Beside the goals: the states after the write and after the line in the last slot, and the line that was read.
+-- The buffered output is written before each read, so each exit comes after that. Beside the goals: the states after
+-- the write and after the line in the last slot, and the line that was read.
 use Rattle.ptflow.proofs
 use proofs.Passes.LineLoop.{run_starts, run_unslotted, run_sent, run_count, run_room, run_flush_failed, run_line}
 use proofs.Passes.LineLoop.{run_line_halts, Run, run_read, run_memory, run_done, run_unended, run_block}
@@ -123,7 +122,4 @@ pub reading-preserved : goal.reading-preserved
 reading-preserved g c =
     let v = line_taken g (goal.at.reading-preserved g c).In_ok-process_line-in-Ok-true in
     let same = c.process_line.ensures.same_job ∙ c.reading.invariant.same_job in
-    record {
-      same_job = c.process_lines.ensures.same_job ∙ same;
-      run = grind (arith, run_block);
-    }
+    record { same_job = c.process_lines.ensures.same_job ∙ same; run = grind (arith, run_block) }

@@ -1,7 +1,6 @@
 -- The columns and rows of a grid of lines, and which columns use an input. If each input gives one line to each of its
--- columns, exactly the first row is removed. So, by induction, the rows of inputs that are split after the same row
--- are those of the first parts, and then those of the second parts (`PasteOfParts`). Besides: which rows are
--- determined, and that only the inputs that columns name decide the output.
+-- columns, the first row is removed. So, by induction, the rows of inputs that are split after the same row are those
+-- of the first parts, and then those of the second parts (`PasteOfParts`).
 use Rattle.ptflow.proofs
 pub use proofs.Common.{Bool, List, [], ap, arith, cond, drop, false, get_or, inl, inr, length, length-append, usual}
 pub use proofs.Common.{length-drop, map, max, refl, suc, sym, take, true, zero, ℕ, ⊎_elim, ◌%◌, ◌*◌, ◌++◌, ◌+◌, ◌-◌}
@@ -184,7 +183,7 @@ module _ (cells : List ℕ) where
       (λ d within. every_kth_rest (uses_before_lt d within) (ins _))) i))
 
   pub grid_none : (ins : ℕ → Lines) → ((p : ℕ) → 0 < uses_of cells p → ins p ≡ []) → rows (columns cells ins) ≡ []
-  grid_none ins none = rw (columns_same ins (λ p. []) none, no_row) refl
+  grid_none ins none = rw (columns_same ins _ none, no_row) refl
 
   -- ---- rows after rows
 

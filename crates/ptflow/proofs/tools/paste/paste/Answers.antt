@@ -1,7 +1,5 @@
--- For `paste`, the engine: the preconditions of its calls, the step of its loop over rows, and each exit (no slot, a
--- failed read or write, the end). Each iteration takes the complete rows in the buffers, and finishes the next row
--- and writes it. If that has no line, all readers are at the end of their inputs. Lemmas: the loop has started
--- (`starts`), and its invariant after each push (`pushed`, `sent`).
+-- Each iteration takes the complete rows in the buffers, and finishes the next row and writes it. If that has no line,
+-- all readers are at the end of their inputs. The invariant holds after each push (`pushed`, `sent`).
 use Rattle.ptflow.proofs
 use proofs.Common.{sym, ap, subst, arith, length, paste_job, job_shape, RowShape, RowFilledTo, begun_in, shape_of}
 use proofs.Common.{length-take-le, call_on_failed_output, push_nothing, refl, [], ◌∙◌, Ok, Output}
@@ -81,10 +79,8 @@ fill_row-requires-clause-readable g c = still_readable c.copy_rows-copied.ensure
     (still_readable c.write_shared_rows.ensures.rows.consumed (now_readable c.rows.invariant))
 
 pub fill_row-requires-clause-within : goal.fill_row-requires-clause-within
-fill_row-requires-clause-within g c = omega (
-  arith,
-  ap (λ b. b.count) (c.move_to_front-begun.ensures c.copy_rows-copied.new.readers),
-)
+fill_row-requires-clause-within g c =
+    omega (arith, ap (λ b. b.count) (c.move_to_front-begun.ensures c.copy_rows-copied.new.readers))
 
 pub fill_row-requires-clause-slots : goal.fill_row-requires-clause-slots
 fill_row-requires-clause-slots g c = invariant_slots c.rows.invariant

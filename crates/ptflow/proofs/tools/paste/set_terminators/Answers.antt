@@ -1,6 +1,4 @@
--- For `set_terminators`: the index of each reader is in bounds, and the terminator is newline or byte 0
--- (`ending_is`). The step of its loop over columns: a reader that several columns use is set more than once, with no
--- further effect.
+-- A reader that several columns use is set more than once, with no further effect.
 use Rattle.ptflow.proofs
 use proofs.Common.{◌≡◌, ◌<◌, Bool, cond, length, get_or, arith, terminator, take_all}
 use borrow.Author.Rules.{scaled_Fits}

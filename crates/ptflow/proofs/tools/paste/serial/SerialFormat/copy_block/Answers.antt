@@ -1,6 +1,5 @@
--- For `SerialFormat::copy_block`: the copy is the output of the block, for every continuation. The terminator that
--- was held back comes first (lemma `held_is`), then all bytes but the last, then the last, which is not counted if it
--- is a terminator (lemma `last_copied`).
+-- The terminator that was held back comes first (`held_is`), then all bytes but the last, then the last, which is not
+-- counted if it is a terminator (`last_copied`).
 use Rattle.ptflow.proofs
 use proofs.Common.{◌≡◌, ◌+◌, ◌-◌, ◌<◌, ◌++◌, ℕ, Bool, true, false, cond, List, [], ◌∷◌, length, take, get_or, refl}
 use proofs.Common.{arith, append_assoc, take_all, take_more_set, from_bool, row_rest, Option, ◌==◌, not, set}
@@ -31,7 +30,6 @@ last_copied end delims number last more into {at} low false is one =
 pub returns-clause-copied : goal.returns-clause-copied
 returns-clause-copied c = λ more.
     let block = c.args.block.now in
-    let self = c.args.self.now in
     let last = get_or block (length block - 1) 0 in
     let bytes = take (length block - 1) block in
     let parts : bytes ++ last ∷ [] ≡ block = grind (arith, take_more, take_all) in
@@ -47,6 +45,6 @@ returns-clause-copied c = λ more.
       copied_on (bytes ++ (last ∷ more)) (omega (arith, length-append bytes (last ∷ more)))
           c.copy_cells-front.ensures.copied,
       copied_on (last ∷ more) (omega arith) c.copy_cells-most.ensures.copied,
-      last_copied self.terminator self.delims.now c.copy_cells-most.result.index last more c.copy_cells-most.new.into
+      last_copied _ _ _ _ _ _
           low _ refl c.from.ensures,
     )
