@@ -50,9 +50,6 @@ returns-in_err-write_out_before_blocking g c =
     (run_flush_failed c.requires.tool c.reading.invariant.run c.write_out_before_blocking.ensures.sound
     c.write_out_before_blocking.ensures.pushed.wrote c.in_err-write_out_before_blocking.ensures.pushed.fault)
 
-pub process_line-requires-clause-room : goal.process_line-requires-clause-room
-process_line-requires-clause-room g c = omega (arith, run_room c.requires.tool c.reading.invariant.run)
-
 pub process_line-requires-clause-few : goal.process_line-requires-clause-few
 process_line-requires-clause-few g c =
     let r = c.reading.invariant.run in
@@ -98,10 +95,6 @@ returns-in-Err-Memory g c =
 
 pub reading-smaller : goal.reading-smaller
 reading-smaller g c = grind usual
-
-pub process_lines-requires-clause-room : goal.process_lines-requires-clause-room
-process_lines-requires-clause-room g c = run_room c.requires.tool
-    (line_taken g (goal.at.process_lines-requires-clause-room g c).In_ok-process_line-in-Ok-true)
 
 pub process_lines-requires-clause-buffered : goal.process_lines-requires-clause-buffered
 process_lines-requires-clause-buffered g c =

@@ -5,7 +5,6 @@ use proofs.Common.{◌≡◌, ◌+◌, List, [], ◌++◌, length, take, get_or,
 use proofs.Common.{Reader, Slots, push_nothing, push_trans, ◌||◌, BegunText, BufferedRowsPre, RowFilledTo, after_cell}
 use proofs.Common.{begun_in, shape_of, rules}
 use proofs.Passes.Exits.{is_fault}
-use borrow.Author.Rules.{scaled_Fits}
 use proofs.PasteLemmas.BufferedRows.{next_reader, filled_to_next, filled_to_failed, with_slot, readable_after}
 use proofs.PasteLemmas.BufferedRows.{filled_to_columns, filled_to_copied, still_readable}
 use Rattle.ptflow.proofs.tools.paste.fill_row.Goals.{After-fill_cell, In_ok-has_line}
@@ -21,10 +20,6 @@ cells-init g c = record {
   wrote = push_nothing _;
   clean = c.requires.clean;
 }
-
-pub offset_bounds-readers-input : goal.offset_bounds-readers-input
-offset_bounds-readers-input g c =
-    let low = c.requires.readable.within c.cells.column 0 c.cells-test.true in search scaled_Fits
 
 pub bounds-readers-input : goal.bounds-readers-input
 bounds-readers-input g c = let low = c.requires.readable.within c.cells.column 0 c.cells-test.true in omega arith

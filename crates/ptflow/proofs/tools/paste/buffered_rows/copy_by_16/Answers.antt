@@ -3,7 +3,6 @@ use Rattle.ptflow.proofs
 use proofs.Common.{◌≡◌, ◌≤◌, ◌+◌, ◌++◌, ℕ, List, length, take, drop, ap, arith, take-add, append_assoc, NoneBefore}
 use proofs.Common.{Passes, is_byte, nowhere_trans}
 use Rattle.ptlines.proofs.CopyFacts.{copied_prefix}
-use proofs.PasteLemmas.BufferedRows.{kept}
 use Rattle.ptflow.specs.Private.Paste.BufferedRows.{IsLineCopied}
 use Rattle.ptlines.specs.declared.sizes.TheConstants.{BLOCK}
 use proofs.tools.paste.buffered_rows.copy_by_16.Goals as goal
@@ -57,7 +56,3 @@ vectors-preserved c =
       size_bound = omega arith;
       buffer_size = c.copy_16-in-vectors.array_long;
     }
-
-pub returns-clause-none : goal.returns-clause-none
-returns-clause-none c =
-    kept _ _ _ _ _ (omega arith) (omega arith) c.vectors.invariant.copied

@@ -10,9 +10,6 @@ use proofs.tools.paste.buffered_rows.copy_rows_by.Given as given
 use proofs.tools.paste.buffered_rows.copy_rows_by.Goals as goal
 use Rattle.ptflow.proofs.tools.paste.buffered_rows.copy_rows_by.Goals.{After-copy_columns-begun}
 
-pub copy_segments-first-requires-clause-readable : goal.copy_segments-first-requires-clause-readable
-copy_segments-first-requires-clause-readable g c = still_readable c.rows.invariant.consumed c.requires.readable
-
 pub copy_segments-first-requires-clause-segments : goal.copy_segments-first-requires-clause-segments
 copy_segments-first-requires-clause-segments g c =
     still_segments (shape_of c.args.row) _ _ 0 _ c.rows.invariant.consumed c.requires.segments

@@ -3,7 +3,7 @@
 use Rattle.ptflow.proofs
 use proofs.Common.{◌≡◌, ℕ, zero, suc, ◌+◌, ◌-◌, ◌<◌, ◌≤◌, Bool, true, List, length, take, get_or, sym, ◌∙◌, ap, arith}
 use proofs.Common.{get_or-take, count_by, false_from_ne_true, length-take-le, take_all, take-take, count_by_more_no}
-use proofs.Common.{count_by_more_yes, usual, eqb-true, is_byte}
+use proofs.Common.{count_by_more_yes, eqb-true, is_byte}
 use proofs.tools.paste.shared_input.rows_end.Goals as goal
 
 none_after : (test : ℕ → Bool) (xs : List ℕ) (from n : ℕ) → from + n ≡ length xs
@@ -39,6 +39,3 @@ loop-found-preserved c =
       within = omega arith;
       found = λ some. (omega arith, eqb-true (get_or bytes last 0) _ (rw (get_or-take at bytes last 0 low) at passes));
     }
-
-pub returns-clause-counted : goal.returns-clause-counted
-returns-clause-counted c = grind usual

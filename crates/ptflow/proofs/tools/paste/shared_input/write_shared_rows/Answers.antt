@@ -3,22 +3,13 @@
 use Rattle.ptflow.proofs
 use proofs.Common.{arith, set-get_or}
 use proofs.PasteLemmas.BufferedRows.{copied_rows, no_rows_written, next_reader}
-use borrow.Author.Rules.{scaled_Fits}
 use proofs.tools.paste.shared_input.write_shared_rows.Goals as goal
 
 pub returns-in_default-clause-rows : goal.returns-in_default-clause-rows
 returns-in_default-clause-rows g c = no_rows_written
 
-pub bounds-row-0 : goal.bounds-row-0
-bounds-row-0 g c = (rw c.in-Some.is at c.requires.is_cycle).some
-
 pub bounds-readers-row : goal.bounds-readers-row
 bounds-readers-row g c = c.requires.readable.within 0 0 (rw c.in-Some.is at c.requires.is_cycle).some
-
-pub offset_bounds-readers-row : goal.offset_bounds-readers-row
-offset_bounds-readers-row g c =
-    let low = c.requires.readable.within 0 0 (rw c.in-Some.is at c.requires.is_cycle).some in
-    search scaled_Fits
 
 pub returns-then-count-eq0-clause-rows : goal.returns-then-count-eq0-clause-rows
 returns-then-count-eq0-clause-rows g c =
