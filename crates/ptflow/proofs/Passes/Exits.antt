@@ -83,13 +83,6 @@ pub terminator_kept : (tool : ToolSpec) (reader : Reader) → reader.terminator 
     → terminator_after (pass_engine tool) reader.terminator ≡ reader.terminator
 terminator_kept tool reader same = grind arith
 
-pub pass_unslotted : (tool : ToolSpec) {old : Reader} (was : Output) {before store : Slots} → PassPre old before
-    → IsSound old → was.write_failed ≡ false → AddedSlots before store tool.slots → length store.lines < tool.slots
-    → store.peak ≡ before.peak → store.denied ≡ true → old.terminator ≡ tool.end
-    → IsPrefix (tool.decided (record { bytes = []; eof = false })) []
-    → PassPost tool old old was was before store (Err Memory)
-pass_unslotted = grind (arith, call_without_slots, terminator_kept)
-
 pub never_memory : {tool : ToolSpec} {old new : Reader} {was is : Output} {store : Slots}
     {result : Result (Unit {0}) FlowFault}
     → store.denied ≡ false → PassPost tool old new was is store store result → result ≡ Err Memory → ⊥
@@ -318,11 +311,6 @@ module _ {X : Type 0} {rest_from : X → List ℕ → List ℕ} {IsUnchanged : X
       };
     }
 
-    pub block_failed : {new : Reader} → Ending new → HasReadCause reader new
-        → RunBlocksPost rest_from IsUnchanged start old new was is (Err (Read 0))
-    block_failed end cause tool filter ends store ready =
-        pass_read (end tool filter ends store ready) cause ready.not_denied (search rules)
-
 -- ---- lines of a text
 
 -- Complete lines and the unfinished line after them, the maximum length, and the lines of a block one by one.
@@ -416,10 +404,6 @@ module _ (end : ℕ) (now : Reader) (given : List ℕ) (ls : List (List ℕ))
         → max (max_length ls) (length piece) ≤ max_line_length end input
     piece_longest input consistent =
         grind (usual, append_assoc, free, append-nil, lines_of_unlines, max_length-append, piece_le_max_length)
-
-    -- and the read of its rest failed
-    pub whole_before : new.buffered ≡ [] → new.eof ≡ false → known_lines end (received_with (given ++ piece) new) ≡ ls
-    whole_before empty going = search (rules, complete_lines_of_unlines)
 
   module _ (new : Reader) (before after : Slots) (slot : ℕ) (next_line : FillLine now new before after slot)
       (same : now.terminator ≡ end) where

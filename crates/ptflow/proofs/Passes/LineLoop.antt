@@ -8,11 +8,12 @@ use proofs.Common.{with_line, AddedSlots, ◌^◌, true, ◌++◌, Ok, Err, appe
 use proofs.Common.{complete_lines, IsLine, max_length, max_line_length, Received, known_lines, IsPrefix, IsConsistent}
 use proofs.Common.{Output, PushEffect, Reader, ReaderAdvance, AdvanceOk, IsDone, IsSound, advance_ok_take, unlines}
 use proofs.Common.{line, FillLine, advance_ok_trans, push_trans, ToolSpec, PassPost, AreReceivedLines, IsLineFilter}
-use proofs.Common.{Read, Write, Memory, received_with, reads_nothing, rules}
+use proofs.Common.{Read, Write, Memory, received_with, reads_nothing, rules, call_without_slots}
+use proofs.Common.{complete_lines_of_unlines}
 use Rattle.ptlines.specs.Calls.ReadLine.{FillReadErr, FillMemoryErr}
 use proofs.Passes.Exits.{line_split, complete_prefix, max_length-append, lines_none, lines_few, lines_on, lines_more}
-use proofs.Passes.Exits.{lines_block, line_prefix, received_longest, piece_longest, whole_before, before_line, Progress}
-use proofs.Passes.Exits.{progress_flushed, StoreBounds, PassEnding, nothing_more, pass_unslotted, pass_read, terminator_kept}
+use proofs.Passes.Exits.{lines_block, line_prefix, received_longest, piece_longest, before_line, Progress}
+use proofs.Passes.Exits.{progress_flushed, StoreBounds, PassEnding, nothing_more, pass_read, terminator_kept}
 use proofs.Passes.Exits.{pass_memory, pass_write, pass_done, pass_unended}
 use Rattle.ptflow.specs.Private.Passes.LineLoop.{RunLinesPre, SlotsCleared, IsSwapped, LinesFailed, LinesWritten}
 use Rattle.ptflow.specs.Private.Passes.LineLoop.{IsLinesLength}
@@ -156,7 +157,7 @@ module _ {S X E : Type 0} {tool : ToolSpec} {state : S → Slots → X} {rest_fr
     run_unslotted {store} begins adds few same denied =
         let nothing : Received = record { bytes = []; eof = false } in
         let decided = line_filter.decided store nothing [] (state start store) (λ more. refl) in
-        grind (arith, pass_unslotted, none_written)
+        grind (arith, none_written, call_without_slots, terminator_kept)
 
     module _ {now : X} {reader : Reader} {is : Output} {store : Slots}
         (run : Run old reader was is before store now) where
@@ -299,7 +300,7 @@ module _ {S X E : Type 0} {tool : ToolSpec} {state : S → Slots → X} {rest_fr
             let whole = e.faults.whole in
             let bounds = keeps_last _ e.stored in
             pass_read (piece_ending reads whole is_sound (stored reads whole is_sound bounds)) e.cause bounds.denied
-            (grind (arith, decided_so, whole_before))
+            (grind (arith, decided_so, rules, complete_lines_of_unlines))
 
         pub run_memory : {new : Reader} {after : Slots} → IsSound new → FillMemoryErr reader new store after (width - 1)
             → PassPost tool old new was is before after (Err Memory)

@@ -337,12 +337,6 @@ module _ {row : RowShape} {n : ℕ} {old now : List Reader} {fields : Lines} {an
 abbrev pub with_slot : RowShape → ℕ → Slots → BegunText → BegunText
 with_slot row n store now = record now { count = n + 1; text = now.text ++ (line store n ++ after_cell row n) }
 
--- the slots hold the fields, with that of this column
-slot_held : (ls fields : Lines) (field : List ℕ) (c : ℕ) {n : ℕ} → length fields ≡ n → n < length ls → c < n + 1
-    → (c < n → get_or ls c [] ≡ get_or fields c [])
-    → get_or (set ls n field) c [] ≡ get_or (fields ++ field ∷ []) c []
-slot_held ls fields field c width room under before = grind usual
-
 module _ {row : RowShape} where
   -- The begun row was moved to the front of the buffer.
   pub filled_to_starts : {old : List Reader} {copied : List ℕ} {begun moved : BegunText} {store : Slots}
@@ -365,7 +359,7 @@ module _ {row : RowShape} where
           filled = fill_next a.filled x r field has taken;
           within = omega arith;
           is = grind (arith, a.is, take-append-le);
-          held = grind (arith, slot_held);
+          held = grind usual;
           slots = record {
             same = length-set _ n field ∙ a.slots.same;
             kept = λ start top k high. slots_bound_line ((slots_kept_more a.slots _).kept start top k high) n _ x.low
