@@ -147,7 +147,7 @@ module _ (job : Paste) (cells : List ℕ) (came : ℕ → Received) where
     begins_earlier : IsPrefix (paste_decided job cells earlier) pushed
     begins_earlier =
         -- The last column of the input has no line in the next row.
-        let (c, low, is_here, count) = last_use cells here named in
+        let (c, low, is_here, count) = last_use _ _ named in
         let next_unknown = unknown (length taken_rows) c low is_here (grind (arith, every_kth_short)) in
         let (rest, is) = known_first (is_row_known (grid earlier) ends) (known_down (grid earlier) ends)
         (row_at (grid earlier)) taken_rows next_unknown (λ r known less.
@@ -369,13 +369,13 @@ module _ {job : Paste} {cells : List ℕ} {old set now : List Reader} {was is : 
         rw same (
           is,
           λ done.
-              let (none, empty, ended) = eof_gives_nothing _ (reader_at new p) extra done
+              let (none, empty, ended) = eof_gives_nothing _ _ _ done
               (advance_trans _ _ _ _ _ (q.lines_taken p).reads (q.reads p)) in
               ((λ i. none i ++ (empty i ++ k.whole ended i)), ends p ended),
         ) in
         let later : ℕ → Lines = λ p. known_lines job.terminator (record { bytes = rest p; eof = (full p).eof }) in (
           rows (columns cells later),
-          ap rows (columns_same cells (λ p. known_lines job.terminator (full p)) (λ p. all_rows.ls p ++ later p)
+          ap rows (columns_same cells _ _
               (λ p some.
               let (is, may) = rest_is p some in
               ap (λ b. known_lines job.terminator (record { bytes = b; eof = (full p).eof })) is
@@ -673,8 +673,8 @@ module _ {job : Paste} {cells : List ℕ} {old set now : List Reader} {was is : 
         → Ends new is' after (Err (Read here))
     paste_read_failed clean stored cause =
         exit no_more row_to wrote (inl stored) bound_with_piece cut_to (Err (Read here)) (record {
-          named = used_is_in cells here here_used;
-          unfailed = never_failed s.starts here (used_is_in cells here here_used);
+          named = used_is_in cells _ here_used;
+          unfailed = never_failed s.starts _ (used_is_in cells _ here_used);
           cause = ⊎_elim inl (grind arith) cause;
           others = λ q named differ. cc (b.others q differ, (all_taken no_more row_to q).failed);
           clean = clean;

@@ -79,7 +79,7 @@ module _ {row : RowShape} where
           text = next;
         })
     columns_more field_is stored after =
-        let (field, is, taken, consumed) = field_in_buffer row.terminator now.text copied has x.clean sound field_is in
+        let (field, is, taken, consumed) = field_in_buffer _ _ _ has x.clean sound field_is in
         record {
           fields = s.fields ++ field ∷ [];
           is =
@@ -89,7 +89,7 @@ module _ {row : RowShape} where
           width = omega (arith, length-append s.fields (field ∷ []));
           filled = λ from front given.
               rw (append_assoc front s.fields (field ∷ [])) at
-              (fill_next (s.filled from front given) x r field has taken);
+              (fill_next (s.filled from front given) x r _ has taken);
         }
 
 -- ---- complete rows, by the number of terminators

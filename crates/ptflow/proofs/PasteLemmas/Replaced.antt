@@ -7,7 +7,7 @@ use proofs.Common.{map, take, drop, get_or, slice_set, refl, sym, ◌∙◌, ap,
 use proofs.Common.{chunk, mod-add-mod, mod-eq_of_lt, take-add, take_at, take-append-drop, take-set-lt, eq-eqb, usual}
 use proofs.Common.{set-append_right, drop_more, take_more_set, length-set, is_byte, byte_ne, IsLine, IsNth}
 use proofs.Common.{length-take-le, length-chunk, length-put_chunk, take_more_put_chunk, put_chunk, ones-mask_l}
-use proofs.Common.{with_replacements, cycle_byte, IsReplacedTo, true, false, Option, append_assoc, onto_first}
+use proofs.Common.{with_replacements, cycle_byte, IsReplacedTo, true, false, Option, append_assoc}
 use proofs.Common.{append-nil, append_cancel_right, lines, complete_lines, IsPrefix, Paste, delimiter, join_with_cycle}
 use proofs.Common.{paste_serial_decided, row_rest, option_to_list, None, Some, IsFirstByte, line_before_terminator}
 use proofs.Common.{mod-lt, take_with_terminator, length-append}
@@ -237,24 +237,11 @@ module _ (end : ℕ) (delims : List (Option ℕ)) where
   row_next : (number b : ℕ) (bytes : List ℕ) → (b == end) ≡ true → 0 < length bytes
       → row_rest end delims number (b ∷ bytes) ≡ delimiter delims number ++ row_rest end delims (number + 1) bytes
   row_next number b [] is some = absurd (omega arith)
-  row_next number b (x ∷ bytes) is some = rw is (by_test (x == end) (lines end bytes))
-    where
-      by_test : (t : Bool) (ls : List (List ℕ)) → (let next = cond t ([] ∷ ls) (onto_first x ls) in
-          join_with_cycle delims number ([] ∷ next) ++ end ∷ []
-          ≡ delimiter delims number ++ (join_with_cycle delims (number + 1) next ++ end ∷ []))
-      by_test true ls = simp append_assoc
-      by_test false [] = simp append_assoc
-      by_test false (l ∷ ls) = simp append_assoc
+  row_next number b (x ∷ bytes) is some = grind (arith, append_assoc)
 
   row_other : (number b : ℕ) (bytes : List ℕ) → (b == end) ≡ false
       → row_rest end delims number (b ∷ bytes) ≡ b ∷ row_rest end delims number bytes
-  row_other number b bytes is = rw is (by_lines (lines end bytes))
-    where
-      by_lines : (ls : List (List ℕ)) → join_with_cycle delims number (onto_first b ls) ++ end ∷ []
-          ≡ b ∷ (join_with_cycle delims number ls ++ end ∷ [])
-      by_lines [] = refl
-      by_lines (l ∷ []) = refl
-      by_lines (l ∷ m ∷ ls) = refl
+  row_other number b bytes is = grind arith
 
   row_rest_on : (number : ℕ) (bytes more : List ℕ) → 0 < length more
       → row_rest end delims number (bytes ++ more) ≡ with_replacements end (delimiter delims) number bytes

@@ -7,11 +7,10 @@ pub use proofs.Common.{Err, None, Ok, get_or-take, set, take-append-drop, ◌||�
 pub use proofs.Common.{get_or-set_same, get_or_append_left, get_or_default, get_or_push, length-set, length-take-le}
 pub use proofs.Common.{take-take, take_all, sum_by-append, sum_by, advance_trans, lines_of_unlines, unlines-append}
 pub use proofs.Common.{FillPost, AdvanceOk, IsDone, IsSound, Reader, ReaderAdvance, budget, reader_at, Slots, line}
-pub use proofs.Common.{total_bytes, with_line, AddedSlots, AreLines, max_length, SetTerminatorsPost, FillCellPost}
-pub use proofs.Common.{SlotsBound, SlotsKept, RowFilledTo, RowFilled, RowShape, BegunText, CellsFilled}
-pub use proofs.Common.{CellsTaken, usual}
-pub use proofs.Common.{after_cell, cells_text, slots_text, AreReceivedLines, LinesTaken, BufferedRowsPre, AreFirstRows}
-pub use proofs.Common.{take-append-le, RowsTaken, CopyColumnsPost, CopyRowsPost, FlowFault, Memory, Read, Write, rules}
+pub use proofs.Common.{total_bytes, with_line, AddedSlots, AreLines, max_length, SetTerminatorsPost, FillCellPost, Read}
+pub use proofs.Common.{SlotsBound, SlotsKept, RowFilledTo, RowFilled, RowShape, BegunText, CellsFilled, CellsTaken}
+pub use proofs.Common.{usual, after_cell, cells_text, slots_text, AreReceivedLines, LinesTaken, BufferedRowsPre, Memory}
+pub use proofs.Common.{AreFirstRows, take-append-le, RowsTaken, CopyColumnsPost, CopyRowsPost, FlowFault, Write, rules}
 pub use proofs.Passes.Exits.{lines_none, lines_are_given, lines_more, eof_gives_nothing}
 pub use Rattle.std.proofs.Math.Bool.{or-true, or-false}
 use Rattle.std.proofs.lemmas.List.Sums.{sum_by-take-drop}
@@ -192,14 +191,14 @@ line_le_max_length (line ∷ ls) (suc j) = omega (arith, line_le_max_length ls j
 -- Fields that are in no slot.
 slots_kept_more : {cells : List ℕ} {fields : Lines} {before store : Slots} → SlotsKept cells fields before store
     → (more : Lines) → SlotsKept cells (fields ++ more) before store
-slots_kept_more s more = grind usual
+slots_kept_more s _ = grind usual
 
 -- ---- readers by their indices
 
 -- The reader that an index expression read.
 pub at_index : (readers : List Reader) (input : ℕ) (r : Reader) → input < length readers
     → get_or readers input r ≡ reader_at readers input
-at_index readers input r low = get_or_default _ _ r _ low
+at_index _ _ r low = get_or_default _ _ r _ low
 
 -- Column n is read next, from the readable reader `b`.
 pub record IsNextReader (row : RowShape) (now : List Reader) (n : ℕ) (b : Reader) : Type 0 where
@@ -236,7 +235,7 @@ pub taken_from_one : {end : ℕ} (now : List Reader) {input : ℕ} {r : Reader} 
     → input < length now → LinesTaken end (reader_at now input) r (most input) ls
     → ((q : ℕ) → q ≢ input → most q ≡ 0) → (q : ℕ)
     → LinesTaken end (reader_at now q) (reader_at (set now input r) q) (most q) (lines_of_input input ls q)
-taken_from_one now most within t none = search rules
+taken_from_one now _ within t none = search rules
 
 module _ {row : RowShape} {n : ℕ} {old now : List Reader} {fields : Lines} {input_lines : ℕ → Lines}
     (t : CellsTaken row n old now fields input_lines) (low : n < length row.cells)
@@ -350,13 +349,13 @@ module _ {row : RowShape} where
         → FillPost b r store after n (Ok has)
         → RowFilledTo row (n + 1) from first
         (record now { readers = set now.readers (get_or row.cells n 0) r; any_line = now.any_line || has }) after
-    filled_to_next r after room sound has e =
-        let (field, stored, taken) = field_in_slot row.terminator b r store after n has x.clean x.ends sound e in
+    filled_to_next r _ room sound has e =
+        let (field, stored, taken) = field_in_slot _ b r _ _ n has x.clean x.ends sound e in
         let width = a.filled.consumed.width in
         let fits : now.count ≤ length a.fields = omega arith in
         rw stored (record {
           fields = a.fields ++ field ∷ [];
-          filled = fill_next a.filled x r field has taken;
+          filled = fill_next a.filled x r _ has taken;
           within = omega arith;
           is = grind (arith, a.is, take-append-le);
           held = grind usual;
@@ -400,7 +399,7 @@ module _ {row : RowShape} where
     within = omega arith;
     is = search (rules, take_all, cells_text-append, length-append);
     held = λ c over under. absurd (omega arith);
-    slots = slots_kept_more a.slots p.fields;
+    slots = slots_kept_more a.slots _;
   }
 
   pub filled_to_text : {from : List Reader} {first store : Slots} {now : BegunText}

@@ -7,8 +7,7 @@ use proofs.Passes.LineLoop.{run_block_halts, bounds_start}
 use proofs.Passes.Exits.{is_fault}
 use proofs.line_loop.run_lines.Given as given
 use proofs.line_loop.run_lines.Goals as goal
-use Rattle.ptflow.proofs.line_loop.run_lines.Goals.{After-fill, In-Ok-true}
-use Rattle.ptflow.proofs.line_loop.run_lines.Goals.{In_ok-process_line-in-Ok-true}
+use Rattle.ptflow.proofs.line_loop.run_lines.Goals.{After-fill, In-Ok-true, In_ok-process_line-in-Ok-true}
 use proofs.Common.{refl, rules, arith, usual, ◌∙◌, ◌-◌, FillLine}
 
 -- the state after the write

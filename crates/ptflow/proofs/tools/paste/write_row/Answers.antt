@@ -2,8 +2,7 @@
 -- of the row. A failed write leaves a prefix of it.
 use Rattle.ptflow.proofs
 use proofs.Common.{◌≡◌, ℕ, ◌+◌, ◌<◌, ◌≤◌, [], ◌++◌, length, take, refl, ap, ◌∙◌, arith, append-nil, drop_all, drop_more}
-use proofs.Common.{length-take-le, get_or-take, Slots, line, RowShape, after_cell, cells_text}
-use proofs.Common.{shape_of, slots_text}
+use proofs.Common.{length-take-le, get_or-take, Slots, line, RowShape, after_cell, cells_text, shape_of, slots_text}
 use Rattle.std.proofs.lemmas.List.{length-take}
 use proofs.Passes.Exits.{is_fault, prefix_starts, front_more, front_fails, push_failed}
 use proofs.tools.paste.write_row.Goals as goal

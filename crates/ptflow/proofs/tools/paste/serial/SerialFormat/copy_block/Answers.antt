@@ -2,7 +2,7 @@
 -- counted if it is a terminator (`last_copied`).
 use Rattle.ptflow.proofs
 use proofs.Common.{◌≡◌, ◌+◌, ◌-◌, ◌<◌, ◌++◌, ℕ, Bool, true, false, cond, List, [], ◌∷◌, length, take, get_or, refl}
-use proofs.Common.{arith, append_assoc, take_all, take_more_set, from_bool, row_rest, Option, ◌==◌, not, set}
+use proofs.Common.{arith, append_assoc, take_all, take_more_set, from_bool, row_rest, usual, Option, ◌==◌, not, set}
 use proofs.Common.{eqb-true, take-set, length-append}
 use Rattle.std.proofs.lemmas.List.{length-take, take_more}
 use proofs.PasteLemmas.Replaced.{copied_on}
@@ -10,8 +10,7 @@ use proofs.tools.paste.serial.SerialFormat.copy_block.Goals as goal
 
 held_is : (complete : Bool) (end : ℕ) (rest : List ℕ) {size : ℕ} → size ≡ from_bool complete
     → cond complete (end ∷ rest) rest ≡ take size (end ∷ []) ++ rest
-held_is true end rest is = rw is refl
-held_is false end rest is = rw is refl
+held_is = grind usual
 
 -- A last byte that is a terminator is not counted.
 last_copied : (end : ℕ) (delims : List (Option ℕ)) (number last : ℕ) (more into : List ℕ) {at size : ℕ}
