@@ -1,7 +1,6 @@
--- A call of `paste`: first, that output which was determined two blocks of input earlier was pushed; then its state
--- between two iterations, and its exits. Between two iterations whole rows were taken and pushed, those left are the
--- rows of the lines still to come, for each continuation of the inputs, and each slot has at most one line. At an exit
--- more rows may have been pushed, and then the first columns of the next row were read, and perhaps a part of a line.
+-- A call of `paste`: output that was determined two blocks of input earlier was pushed; the state between two
+-- iterations, when whole rows were taken and pushed, and the rest is the rows of the lines still to come; and the
+-- exits, before which the first columns of the next row were read, and perhaps a part of a line.
 pub mod BufferedRows
 pub mod Replaced
 pub mod Segments
@@ -9,12 +8,12 @@ use Rattle.ptflow.proofs
 use proofs.Common.{Result, drop_at, push_trans, bounded_lag_after, HasReadCause, with_denied, max_line_length}
 use proofs.Common.{CallOutcome, CallState, call_state, CallProgress, usual, DecidedIfReadFailed, reads_nothing}
 use proofs.Common.{call_ends, call_set, call_without_slots, RowFailed, ClearSlotsPost, is_write_fault, job_shape}
-use proofs.Common.{cases_Bool, cases_eq, filter, get_or-range_with_len, length-map-range_with_len}
-use proofs.Common.{length-range_with_len, received_with, complete_lines_cons, complete_lines_of_unlines, IsPrefix}
-use proofs.Common.{known_lines, IsLine, complete_lines, rows_text}
+use proofs.Common.{cases_Bool, cases_eq, filter, length-map-range_with_len, received_with, complete_lines_cons}
+use proofs.Common.{complete_lines_of_unlines, IsPrefix, known_lines, IsLine, complete_lines, rows_text}
 use proofs.Passes.Exits.{max_length-append, lines_on, piece_longest, complete_prefix, line_split}
 use proofs.CutLemmas.CutBytes.{select_append}
 pub use BufferedRows.*
+use Rattle.std.proofs.lemmas.List.FromFn.{get_or-map-range_with_len}
 use Rattle.ptflow.specs.Calls.PasteCall.{PastePre, PastePost, IsReadable, paste_end}
 use Rattle.ptflow.specs.PasteCall.{paste_engine}
 use Rattle.ptlines.specs.Calls.Engines.{CallPost, CallEnd, AreAllConsistent, inputs_at}
@@ -36,14 +35,8 @@ record EarlierPart (end most : ℕ) (came : Received) : Type 0 where
 
 complete_few : {end : ℕ} {now new : Reader} {given piece : List ℕ} {ls : Lines} → AreReceivedLines end now given ls
     → ReaderAdvance now new piece → IsLine end piece → length (complete_lines end (given ++ piece)) ≤ length ls
-complete_few k reads free = grind (
-  usual,
-  complete_lines_of_unlines,
-  append-nil,
-  complete_prefix,
-  length-append,
-  line_split,
-)
+complete_few k reads free =
+    grind (usual, complete_lines_of_unlines, append-nil, complete_prefix, length-append, line_split)
 
 no_lines : (end : ℕ) (bytes : List ℕ) → length (lines end bytes) ≤ 0 → bytes ≡ []
 no_lines end [] none = refl
@@ -84,22 +77,14 @@ earlier_lines {end} reader given buffered some few =
 ended_more : (end : ℕ) (ls : Lines) (bytes : List ℕ) → AreLines end ls
     → complete_lines end (unlines end ls ++ bytes) ≡ ls ++ complete_lines end bytes
 ended_more end [] bytes w = refl
-ended_more end (line ∷ ls) bytes (whole, more) = grind (
-  usual,
-  complete_lines_cons,
-  ended_more end ls
-      bytes more,
-)
+ended_more end (line ∷ ls) bytes (whole, more) = grind (usual, complete_lines_cons, ended_more end ls bytes more)
 
 whole_lines_prefix : (end : ℕ) (eof : Bool) (bytes front last : List ℕ) → bytes ≡ front ++ last
     → (more : Lines) × (known_lines end (record { bytes = bytes; eof = eof }) ≡ complete_lines end front ++ more)
 whole_lines_prefix end true bytes front last is =
     (lines end ((line_split end _).piece ++ last), ap (lines end) is ∙ complete_prefix end _ _)
 whole_lines_prefix end false bytes front last is =
-    let split = line_split end front in (
-      complete_lines end (split.piece ++ last),
-      grind (arith, append_assoc, ended_more),
-    )
+    (complete_lines end ((line_split end front).piece ++ last), grind (arith, append_assoc, ended_more))
 
 -- ---- the rows that are determined come first
 
@@ -162,9 +147,8 @@ module _ (job : Paste) (cells : List ℕ) (came : ℕ → Received) where
     begins_earlier : IsPrefix (paste_decided job cells earlier) pushed
     begins_earlier =
         -- The last column of the input has no line in the next row.
-        let (c, low, is_here, count) = last_use cells here named in
+        let (c, low, is_here, count) = last_use _ _ named in
         let next_unknown = unknown (length taken_rows) c low is_here (grind (arith, every_kth_short)) in
-        let n = row_count (grid came) in
         let (rest, is) = known_first (is_row_known (grid earlier) ends) (known_down (grid earlier) ends)
         (row_at (grid earlier)) taken_rows next_unknown (λ r known less.
         row_is cells (known_of earlier) r (cell r) (λ c low. ⊎_elim
@@ -175,22 +159,16 @@ module _ (job : Paste) (cells : List ℕ) (came : ℕ → Received) where
         (λ other. grind arith)
         (cases_eq _ _))
         ∙ sym (row_is cells (known_of came) r (cell r) (λ c low. refl))
-        ∙ (let low : r < n = omega (
-          arith,
-          ap length all,
-          length-append taken_rows more,
-          length-map-range_with_len (row_at (grid came)) 0 n,
-        ) in
-        let start : 0 + r ≡ r = omega arith in
-        cc (
-          get_or-map (row_at (grid came)) (range_with_len 0 n) r 0 [] (omega (arith, length-range_with_len 0 n)),
-          get_or-range_with_len 0 n r 0 low,
+        ∙ cc (
+          get_or-map-range_with_len (row_at (grid came)) 0 (row_count (grid came)) r r [] (omega (
+            arith,
+            ap length all,
+            length-append taken_rows more,
+            length-map-range_with_len (row_at (grid came)) 0 (row_count (grid came)),
+          )) (omega arith),
           get_or_append_left taken_rows more [] r less,
-        ))) 0 (row_count (grid earlier)) (omega arith) in
-        record {
-          rest = rows_text job rest;
-          is = grind usual;
-        }
+        )) 0 (row_count (grid earlier)) (omega arith) in
+        record { rest = rows_text job rest; is = grind usual }
 
     decided_is_prefix : cut.front ≡ (came here).bytes → (came here).eof ≡ false
         → IsPrefix (paste_decided job cells came) pushed
@@ -391,13 +369,13 @@ module _ {job : Paste} {cells : List ℕ} {old set now : List Reader} {was is : 
         rw same (
           is,
           λ done.
-              let (none, empty, ended) = eof_gives_nothing _ (reader_at new p) extra done
+              let (none, empty, ended) = eof_gives_nothing _ _ _ done
               (advance_trans _ _ _ _ _ (q.lines_taken p).reads (q.reads p)) in
               ((λ i. none i ++ (empty i ++ k.whole ended i)), ends p ended),
         ) in
         let later : ℕ → Lines = λ p. known_lines job.terminator (record { bytes = rest p; eof = (full p).eof }) in (
           rows (columns cells later),
-          ap rows (columns_same cells (λ p. known_lines job.terminator (full p)) (λ p. all_rows.ls p ++ later p)
+          ap rows (columns_same cells _ _
               (λ p some.
               let (is, may) = rest_is p some in
               ap (λ b. known_lines job.terminator (record { bytes = b; eof = (full p).eof })) is
@@ -462,10 +440,7 @@ module _ {job : Paste} {cells : List ℕ} {old set now : List Reader} {was is : 
             wrote = push_trans _ _ _ _ _ s.clean s.wrote wrote;
             is_prefix = λ texts a.
                 let (later, is) = rows_after (λ p. record { bytes = texts p; eof = true }) a (λ p ended. refl) in
-                record {
-                  rest = rows_text job later;
-                  is = grind (usual, all_rows.is);
-                };
+                record { rest = rows_text job later; is = grind (usual, all_rows.is) };
             -- Without its last bytes alone, no more output is determined than was pushed.
             bounded_lag = λ p named.
                 let some = is_in_used cells p named in
@@ -698,8 +673,8 @@ module _ {job : Paste} {cells : List ℕ} {old set now : List Reader} {was is : 
         → Ends new is' after (Err (Read here))
     paste_read_failed clean stored cause =
         exit no_more row_to wrote (inl stored) bound_with_piece cut_to (Err (Read here)) (record {
-          named = used_is_in cells here here_used;
-          unfailed = never_failed s.starts here (used_is_in cells here here_used);
+          named = used_is_in cells _ here_used;
+          unfailed = never_failed s.starts _ (used_is_in cells _ here_used);
           cause = ⊎_elim inl (grind arith) cause;
           others = λ q named differ. cc (b.others q differ, (all_taken no_more row_to q).failed);
           clean = clean;

@@ -1,9 +1,7 @@
--- The law of the output of `paste` without `-s` if no input is named twice: each column has all lines of its input, so
--- each row has the line of each input with its number (`PasteOfDifferent`).
+-- The law of `paste` without `-s` if no input is named twice: each column has all lines of its input.
 use Rattle.ptflow.proofs
 use Rattle.ptflow.specs
-use Rattle.std.proofs.Common.{◌≡◌, ℕ, ◌+◌, ◌≤◌, ◌<◌, ◌==◌, List, [], ◌∷◌, refl, ap, sym, ◌∙◌, arith, length, map, take}
-use Rattle.std.proofs.Common.{get_or}
+use Rattle.std.proofs.Common.{◌≡◌, ℕ, ◌+◌, ◌≤◌, ◌==◌, List, [], ◌∷◌, refl, ap, sym, ◌∙◌, arith, map, get_or}
 use Rattle.std.specs.Prelude.{◌%◌}
 use Rattle.std.proofs.Math.Nat.{mod-one}
 use Rattle.std.proofs.lemmas.List.{length-map}
@@ -23,21 +21,13 @@ all_lines used before ls one none = rw (one, none) (every_line 0 ls)
 
 columns_once : (cells : List ℕ) (inputs : ℕ → List (List ℕ)) → ((input : ℕ) → uses_of cells input ≤ 1)
     → columns cells inputs ≡ map inputs cells
-columns_once cells inputs once = sym (for_each_cell_unique
-    (λ c input. every_kth (uses_of cells input) (uses_of (take c cells) input) (inputs input)) cells
-    (map inputs cells) [] (length-map cells inputs) at_column)
-  where
-    at_column : (c : ℕ) → c < length cells → let input = get_or cells c 0 in get_or (map inputs cells) c []
-        ≡ every_kth (uses_of cells input) (uses_of (take c cells) input) (inputs input)
-    at_column c low =
-        let input = get_or cells c 0 in
-        let before = uses_before_lt cells c low in
-        get_or-map inputs cells c 0 [] low
-        ∙ sym (all_lines (uses_of cells input) (uses_of (take c cells) input) (inputs input)
-        (omega (arith, before, once input)) (omega (arith, before, once input)))
+columns_once cells inputs once =
+    sym (for_each_cell_unique _ cells (map inputs cells) [] (length-map cells inputs) (λ c low.
+    let before = uses_before_lt cells c low in
+    let one = once (get_or cells c 0) in
+    get_or-map inputs cells c 0 [] low ∙ sym (all_lines _ _ _ (omega arith) (omega arith))))
 
 pub paste_of_different : PasteOfDifferent
 paste_of_different job cells texts parallel once =
-    let of_text : List ℕ → List (List ℕ) = lines job.terminator in
-    let own = columns_once cells (λ input. of_text (texts input)) once ∙ sym (map-map of_text texts cells) in
-    rw parallel (ap (λ cols. rows_text job (rows cols)) own)
+    rw (parallel, columns_once cells (λ input. lines job.terminator (texts input)) once) (ap (λ cols. rows_text job
+    (rows cols)) (sym (map-map (lines job.terminator) texts cells)))

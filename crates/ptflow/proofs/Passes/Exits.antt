@@ -1,23 +1,22 @@
--- The exits of a pass over one input, for every tool: the call did nothing, a slot was refused, a read, a write or an
--- allocation failed, or the input ended. At each, the pushed bytes and the output for the rest are together that for
--- every continuation. Besides: facts about readers, several pushes as one, the state of the loop over blocks, the
--- lines of a text that was read in part, and the output that is decided two blocks earlier.
+-- The exits of a pass over one input, for every tool. At each, the pushed bytes and the output for the rest are
+-- together that for every continuation. Besides: facts about readers, several pushes as one, the state of the loop over
+-- blocks, the lines of a text that was read in part, and the output that is decided two blocks earlier.
 use Rattle.ptflow.proofs
 use Rattle.ptflow.specs
 use proofs.Common.{◌≡◌, ℕ, ◌≤◌, ◌<◌, ◌^◌, true, false, List, [], ◌++◌, length, None, Result, Ok, Err, max, arith, Slots}
 use proofs.Common.{append_assoc, usual, append-nil, Reader, ReaderAdvance, AdvanceOk, IsDone, IsSound, HasReadCause}
 use proofs.Common.{Received, IsPrefix, IsConsistent, Output, PushEffect, total_bytes, push_trans, received_with}
 use proofs.Common.{advance_trans, push_nothing, ToolSpec, PassPost, Read, CallState, call_state, CallOutcome}
-use proofs.Common.{AddedSlots, CallProgress, DecidedIfReadFailed, take, call_ends, call_on_failed_output, call_set}
-use proofs.Common.{call_without_slots, bounded_lag_after, Write, FlowFault, Memory, rules, drop, advance_ok_take, Bool}
-use proofs.Common.{refl, sym, if◌then◌else◌, push_past_failure, OnErr, ◌+◌, ◌-◌, take_all, inl, inr, zero, suc, ◌∷◌, unlines}
+use proofs.Common.{CallProgress, DecidedIfReadFailed, take, call_ends, call_on_failed_output, call_set}
+use proofs.Common.{bounded_lag_after, Write, FlowFault, Memory, rules, drop, advance_ok_take, Bool}
+use proofs.Common.{refl, push_past_failure, OnErr, ◌+◌, ◌-◌, take_all, inl, inr, zero, suc, ◌∷◌, unlines}
 use proofs.Common.{take-append-drop, false≢true, lines, IsLine, AreLines, max_length, max_line_length, known_lines}
 use proofs.Common.{FillLine, lines_of_unlines, lines_of_last, lines_cons, lines-unlines, ◌==◌}
 use proofs.Common.{complete_lines_of_unlines, AreReceivedLines, Some, eqb-true, eqb-false, complete_lines}
 use proofs.Common.{complete_lines_cons, IsFirstByte, is_byte, line_before_terminator, drop_at_terminator, cases_Bool}
 use Rattle.std.specs.Prelude.{IsErrAnd}
 use Rattle.ptlines.specs.Calls.Outputs.{PushPost}
-use specs.Private.Passes.BlockLoop.{IsBlockFilter, RunBlocksPost}
+use specs.Private.Passes.BlockLoop.{IsBlockFilter}
 use specs.Private.Passes.StepOutput.{OutputPart}
 use Rattle.ptlines.specs.declared.sizes.TheConstants.{BLOCK}
 pub use Rattle.ptlines.proofs.MaxLength.{max_length-append, piece_le_max_length}
@@ -32,10 +31,10 @@ use Rattle.ptlines.specs.Calls.Lag.{ProcessLag}
 
 pub eof_gives_nothing : (now new : Reader) (bytes : List ℕ) → IsDone now → ReaderAdvance now new bytes
     → (bytes ≡ []) × (new.buffered ≡ []) × (new.eof ≡ true)
-eof_gives_nothing now new bytes done reads = grind usual
+eof_gives_nothing now new _ done reads = grind usual
 
 pub stays_at_eof : (now new : Reader) (bytes : List ℕ) → IsDone now → ReaderAdvance now new bytes → IsDone new
-stays_at_eof now new bytes done reads = grind usual
+stays_at_eof now new _ done reads = grind usual
 
 abbrev state : Reader → Output → Slots → CallState (Unit {0})
 state reader out store = call_state (λ u. reader) out store
@@ -82,18 +81,7 @@ module _ (old : Reader) {set : Reader} {end : ℕ} where
 -- A reader that has the terminator of a tool keeps it.
 pub terminator_kept : (tool : ToolSpec) (reader : Reader) → reader.terminator ≡ tool.end
     → terminator_after (pass_engine tool) reader.terminator ≡ reader.terminator
-terminator_kept tool reader same = by_choice tool.keeps_end
-  where
-    by_choice : (keeps : Bool) → (if keeps then reader.terminator else tool.end) ≡ reader.terminator
-    by_choice true = refl
-    by_choice false = sym same
-
-pub pass_unslotted : (tool : ToolSpec) {old : Reader} (was : Output) {before store : Slots} → PassPre old before
-    → IsSound old → was.write_failed ≡ false → AddedSlots before store tool.slots → length store.lines < tool.slots
-    → store.peak ≡ before.peak → store.denied ≡ true → old.terminator ≡ tool.end
-    → IsPrefix (tool.decided (record { bytes = []; eof = false })) []
-    → PassPost tool old old was was before store (Err Memory)
-pass_unslotted = grind (arith, call_without_slots, terminator_kept)
+terminator_kept _ reader same = grind arith
 
 pub never_memory : {tool : ToolSpec} {old new : Reader} {was is : Output} {store : Slots}
     {result : Result (Unit {0}) FlowFault}
@@ -156,7 +144,7 @@ module _ {tool : ToolSpec} {left : List ℕ → List ℕ} {old reader new : Read
         → DecidedIfReadFailed only_input (pass_engine tool) (state old was before) (state new is' store)
         (λ u. given ++ piece) (pushed ++ bytes) (pass_end result)
         → ((index : ℕ) → result ≡ Err (Read index) → index ≡ 0) → PassPost tool old new was is' before store result
-    pass result ends decided only = record {
+    pass _ ends decided only = record {
       call = search (rules, call_ends, progress);
       only = only;
       keeps_store = p.keeps_store;
@@ -169,28 +157,28 @@ module _ {tool : ToolSpec} {left : List ℕ → List ℕ} {old reader new : Read
 
   pub nothing_more : (rest : List ℕ) → (new.eof ≡ true → rest ≡ [])
       → IsPrefix [] (left (piece ++ (new.buffered ++ rest)))
-  nothing_more rest may = grind arith
+  nothing_more _ may = grind arith
 
   pub pass_read : HasReadCause reader new → store.denied ≡ false
       → (new.buffered ≡ [] → new.eof ≡ false → IsPrefix (tool.decided received) pushed)
       → PassPost tool old new was is before store (Err (Read 0))
-  pass_read cause not_denied decided = pass (push_nothing is) nothing_more (Err (Read 0)) (grind arith) (search rules)
+  pass_read cause not_denied decided = pass (push_nothing is) nothing_more _ (grind arith) (search rules)
       (λ index is. cc)
 
   pub pass_memory : new.failed ≡ reader.failed → store.denied ≡ true → 0 < length new.buffered
       → PassPost tool old new was is before store (Err Memory)
-  pass_memory same denied left = pass (push_nothing is) nothing_more (Err Memory) (grind arith) tt (λ index is. cc)
+  pass_memory same denied left = pass (push_nothing is) nothing_more _ (grind arith) tt (λ index is. cc)
 
   -- the end of the input was reached
   module _ {is' : Output} (wrote : PushEffect is is' (left [])) (done : IsDone new) (none : piece ≡ [])
       (same : new.failed ≡ reader.failed) (not_denied : store.denied ≡ false) where
     all_of_it : (rest : List ℕ) → (new.eof ≡ true → rest ≡ [])
         → IsPrefix (left []) (left (piece ++ (new.buffered ++ rest)))
-    all_of_it rest whole = grind (arith, append-nil)
+    all_of_it _ whole = grind (arith, append-nil)
 
     pub pass_done : is'.write_failed ≡ false → new.fault ≡ None → new.pulled < 2 ^ 63 → total_bytes store.lines ≡ 0
         → PassPost tool old new was is' before store (Ok tt)
-    pass_done clean fault short empty = pass wrote all_of_it (Ok tt) (search rules) tt (λ index is. cc)
+    pass_done clean fault short empty = pass wrote all_of_it _ (search rules) tt (λ index is. cc)
 
     -- a write failed there
     pub pass_unended : is'.write_failed ≡ true → PassPost tool old new was is' before store (Err Write)
@@ -323,11 +311,6 @@ module _ {X : Type 0} {rest_from : X → List ℕ → List ℕ} {IsUnchanged : X
       };
     }
 
-    pub block_failed : {new : Reader} → Ending new → HasReadCause reader new
-        → RunBlocksPost rest_from IsUnchanged start old new was is (Err (Read 0))
-    block_failed end cause tool filter ends store ready =
-        pass_read (end tool filter ends store ready) cause ready.not_denied (search rules)
-
 -- ---- lines of a text
 
 -- Complete lines and the unfinished line after them, the maximum length, and the lines of a block one by one.
@@ -367,9 +350,9 @@ pub complete_prefix : (end : ℕ) (bytes rest : List ℕ)
     → lines end (bytes ++ rest) ≡ complete_lines end bytes ++ lines end ((line_split end bytes).piece ++ rest)
 complete_prefix = grind (arith, line_split, append_assoc, lines_of_unlines)
 
-module _ (end : ℕ) (bytes : List ℕ) (at : ℕ) (first : IsFirstByte (is_byte end) bytes (Some at)) where
-  pub split_of : bytes ≡ take at bytes ++ end ∷ drop (at + 1) bytes
-  split_of = cc (take-append-drop at bytes, drop_at_terminator end _ at first)
+pub split_of : (end : ℕ) (bytes : List ℕ) (at : ℕ) → IsFirstByte (is_byte end) bytes (Some at)
+    → bytes ≡ take at bytes ++ end ∷ drop (at + 1) bytes
+split_of end bytes at first = cc (take-append-drop at bytes, drop_at_terminator end _ at first)
 
 -- some lines of the block were processed, and `rest` is left
 pub record IsAfterLines (end : ℕ) (block rest : List ℕ) : Type 0 where
@@ -380,12 +363,8 @@ pub record IsAfterLines (end : ℕ) (block rest : List ℕ) : Type 0 where
 module _ (end : ℕ) where
   pub ended_next : (rest : List ℕ) (at : ℕ) → IsFirstByte (is_byte end) rest (Some at)
       → complete_lines end rest ≡ take at rest ∷ complete_lines end (drop (at + 1) rest)
-  ended_next rest at first =
-      cc (
-        split_of end _ at first,
-        complete_lines_cons end _ _
-            (line_before_terminator end _ at first),
-      )
+  ended_next _ at first =
+      cc (split_of end _ at first, complete_lines_cons end _ _ (line_before_terminator end _ at first))
 
   pub taken_more : {block rest : List ℕ} (size : ℕ)
       → unlines end (complete_lines end rest) ≡ take size rest ++ unlines end (complete_lines end (drop size rest))
@@ -398,7 +377,7 @@ module _ (end : ℕ) where
       }
 
 pub lines_none : (end : ℕ) (reader : Reader) → AreReceivedLines end reader [] []
-lines_none end reader = record { so_far = inl (refl, tt) }
+lines_none end _ = record { so_far = inl (refl, tt) }
 
 lines_length : (end : ℕ) (bytes : List ℕ) → length (lines end bytes) ≤ length bytes
 lines_length end [] = omega arith
@@ -413,30 +392,18 @@ module _ (end : ℕ) (now : Reader) (given : List ℕ) (ls : List (List ℕ))
   lines_few = rw lines_are_given at (lines_length end given)
 
   pub lines_on : (rest : List ℕ) → (IsDone now → rest ≡ []) → lines end (given ++ rest) ≡ ls ++ lines end rest
-  lines_on rest may = grind (arith, lines_of_unlines, append-nil)
+  lines_on _ may = grind (arith, lines_of_unlines, append-nil)
 
   pub received_longest : (input : List ℕ) → IsConsistent (received_with given now) input
       → max_length ls ≤ max_line_length end input
-  received_longest input consistent = grind (arith, append_assoc, lines_on, max_length-append)
+  received_longest _ consistent = grind (arith, append_assoc, lines_on, max_length-append)
 
   -- the first part of a line was read
   module _ (new : Reader) (piece : List ℕ) (reads : ReaderAdvance now new piece) (free : IsLine end piece) where
     pub piece_longest : (input : List ℕ) → IsConsistent (received_with (given ++ piece) new) input
         → max (max_length ls) (length piece) ≤ max_line_length end input
-    piece_longest input consistent =
-        grind (
-          usual,
-          append_assoc,
-          free,
-          append-nil,
-          lines_of_unlines,
-          max_length-append,
-          piece_le_max_length,
-        )
-
-    -- and the read of its rest failed
-    pub whole_before : new.buffered ≡ [] → new.eof ≡ false → known_lines end (received_with (given ++ piece) new) ≡ ls
-    whole_before empty going = search (rules, complete_lines_of_unlines)
+    piece_longest _ consistent =
+        grind (usual, append_assoc, free, append-nil, lines_of_unlines, max_length-append, piece_le_max_length)
 
   module _ (new : Reader) (before after : Slots) (slot : ℕ) (next_line : FillLine now new before after slot)
       (same : now.terminator ≡ end) where
@@ -445,7 +412,7 @@ module _ (end : ℕ) (now : Reader) (given : List ℕ) (ls : List (List ℕ))
 
     pub line_prefix : (rest : List ℕ) → (IsDone new → rest ≡ [])
         → lines end ((next_line.line ++ next_line.terminator) ++ rest) ≡ next_line.line ∷ lines end rest
-    line_prefix rest may = grind (arith, append_assoc, lines_cons, free, append-nil, lines_of_last)
+    line_prefix _ may = grind (arith, append_assoc, lines_cons, free, append-nil, lines_of_last)
 
     pub lines_more : AreReceivedLines end new (given ++ (next_line.line ++ next_line.terminator))
         (ls ++ next_line.line ∷ [])
@@ -472,7 +439,7 @@ module _ {end : ℕ} {now new : Reader} {given : List ℕ} {ls : List (List ℕ)
   pub before_line : (tool : ToolSpec) {pushed : List ℕ}
       → ((came : Received) → known_lines end came ≡ ls → IsPrefix (tool.decided came) pushed)
       → LaggedOutput tool (received_with (given ++ piece) new) pushed
-  before_line tool decided = elim received.so_far [
+  before_line _ decided = elim received.so_far [
     | inl (text, are) ↦ let n = length line - (BLOCK - 1) in record {
       before = λ u. record {
         earlier = record { bytes = given ++ take n line; eof = false };

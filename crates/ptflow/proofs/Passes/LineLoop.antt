@@ -1,19 +1,18 @@
 -- A tool that works line by line. The items written for the lines so far, and then those of the rest, are the items of
--- the whole for every continuation; so each exit is a lemma of `Exits`. At most one line is in each slot of the tool,
--- and nothing in the others, so the store holds at most `width` times the maximum length of these lines.
+-- the whole for every continuation; so each exit is a lemma of `Exits`. At most one line is in each slot of the tool.
 use Rattle.ptflow.proofs
 use Rattle.std.proofs.lemmas
-use proofs.Common.{◌≡◌, ℕ, zero, suc, ◌+◌, ◌-◌, ◌*◌, ◌<◌, ◌≤◌, false, List, [], ◌∷◌, length, drop, set, get_or, max}
-use proofs.Common.{refl, ◌∙◌, ap, arith, inl, inr, usual, length-set, drop-set-lt, sum_by-cons, Slots, total_bytes}
-use proofs.Common.{with_line, AddedSlots, ◌^◌, true, ◌++◌, Ok, Err, append_assoc, length-append, nil_from_length, lines}
-use proofs.Common.{complete_lines, IsLine, max_length, max_line_length, Received, known_lines, IsPrefix, IsConsistent}
-use proofs.Common.{Output, PushEffect, Reader, ReaderAdvance, AdvanceOk, IsDone, IsSound, advance_ok_take, unlines}
-use proofs.Common.{line, FillLine, advance_ok_trans, push_trans, ToolSpec, PassPost, AreReceivedLines, IsLineFilter}
-use proofs.Common.{Read, Write, Memory, received_with, reads_nothing, rules}
+use proofs.Common.{◌≡◌, ℕ, zero, suc, ◌+◌, ◌-◌, ◌*◌, ◌<◌, ◌≤◌, false, List, [], ◌∷◌, length, drop, set, get_or, max, ap}
+use proofs.Common.{refl, ◌∙◌, arith, inl, inr, usual, length-set, drop-set-lt, sum_by-cons, Slots, total_bytes, ◌^◌, Ok}
+use proofs.Common.{with_line, AddedSlots, true, ◌++◌, Err, append_assoc, length-append, nil_from_length, lines, IsLine}
+use proofs.Common.{complete_lines, max_length, max_line_length, Received, known_lines, IsPrefix, IsConsistent, Output}
+use proofs.Common.{PushEffect, Reader, ReaderAdvance, AdvanceOk, IsDone, IsSound, advance_ok_take, unlines, line, Read}
+use proofs.Common.{FillLine, advance_ok_trans, push_trans, ToolSpec, PassPost, AreReceivedLines, IsLineFilter, Write}
+use proofs.Common.{Memory, received_with, reads_nothing, rules, call_without_slots, complete_lines_of_unlines}
 use Rattle.ptlines.specs.Calls.ReadLine.{FillReadErr, FillMemoryErr}
 use proofs.Passes.Exits.{line_split, complete_prefix, max_length-append, lines_none, lines_few, lines_on, lines_more}
-use proofs.Passes.Exits.{lines_block, line_prefix, received_longest, piece_longest, whole_before, before_line, Progress}
-use proofs.Passes.Exits.{progress_flushed, StoreBounds, PassEnding, nothing_more, pass_unslotted, pass_read, terminator_kept}
+use proofs.Passes.Exits.{lines_block, line_prefix, received_longest, piece_longest, before_line, Progress}
+use proofs.Passes.Exits.{progress_flushed, StoreBounds, PassEnding, nothing_more, pass_read, terminator_kept}
 use proofs.Passes.Exits.{pass_memory, pass_write, pass_done, pass_unended}
 use Rattle.ptflow.specs.Private.Passes.LineLoop.{RunLinesPre, SlotsCleared, IsSwapped, LinesFailed, LinesWritten}
 use Rattle.ptflow.specs.Private.Passes.LineLoop.{IsLinesLength}
@@ -52,20 +51,19 @@ pub bounds_weaker : {width most : ℕ} (more : ℕ) {before store : Slots} → S
     → most ≤ more → SlotBounds width more before store
 bounds_weaker = grind arith
 
-pub bounds_line : {width most : ℕ} {before store : Slots} (new : Slots) (slot : ℕ) (bytes : List ℕ)
-    → SlotBounds width most before store → slot < width → length bytes ≤ most → new ≡ with_line store slot bytes
-    → SlotBounds width most before new
-bounds_line {width} {most} {store} new slot bytes bounds within fits is =
-    let short : (i : ℕ) → i < width → length (get_or new.lines i []) ≤ most = λ i low. grind usual in
-    let others = drop-set-lt width store.lines slot bytes within in
+pub bounds_line : {width most : ℕ} {before store : Slots} (slot : ℕ) (bytes : List ℕ)
+    → SlotBounds width most before store → slot < width → length bytes ≤ most
+    → SlotBounds width most before (with_line store slot bytes)
+bounds_line {width} {most} {store} slot bytes bounds within fits =
+    let ls = set store.lines slot bytes in
+    let short : (i : ℕ) → i < width → length (get_or ls i []) ≤ most = λ i low. grind usual in
+    let others = ap total_bytes (drop-set-lt width store.lines slot bytes within) ∙ bounds.others in
     record {
-      denied = cc;
-      size = grind (arith, length-set);
+      denied = bounds.denied;
+      size = length-set store.lines slot bytes ∙ bounds.size;
       short = short;
-      others = cc;
-      peak =
-          let all = ap (λ s. total_bytes s.lines) is in
-          omega (arith, bounded_total width most new.lines short (cc), ap (λ s. s.peak) is);
+      others = others;
+      peak = omega (arith, bounded_total _ _ ls short others);
     }
 
 -- the first and the last slot were swapped, or none
@@ -78,8 +76,8 @@ bounds_swapped {width} {most} {before} {store} new some bounds either = elim eit
       let last = get_or store.lines (width - 1) [] in
       let same : new.lines ≡ set (set store.lines 0 last) (width - 1) first = grind (arith, swap_is) in
       let both : SlotBounds width most before (with_line (with_line store 0 last) (width - 1) first) =
-      bounds_line _ _ _ (bounds_line _ 0 _ bounds some (bounds.short (width - 1) (omega arith)) refl)
-      (omega arith) (bounds.short 0 some) refl in
+      bounds_line _ _ (bounds_line 0 _ bounds some (bounds.short (width - 1) (omega arith))) (omega arith)
+      (bounds.short 0 some) in
       search rules
 ]
 
@@ -158,7 +156,7 @@ module _ {S X E : Type 0} {tool : ToolSpec} {state : S → Slots → X} {rest_fr
     run_unslotted {store} begins adds few same denied =
         let nothing : Received = record { bytes = []; eof = false } in
         let decided = line_filter.decided store nothing [] (state start store) (λ more. refl) in
-        grind (arith, pass_unslotted, none_written)
+        grind (arith, none_written, call_without_slots, terminator_kept)
 
     module _ {now : X} {reader : Reader} {is : Output} {store : Slots}
         (run : Run old reader was is before store now) where
@@ -240,7 +238,7 @@ module _ {S X E : Type 0} {tool : ToolSpec} {state : S → Slots → X} {rest_fr
 
       keeps_last : {after : Slots} (bytes : List ℕ) → after ≡ with_line store (width - 1) bytes
           → SlotBounds width (max (max_length run.ls) (length bytes)) before after
-      keeps_last bytes told = bounds_line _ _ _ (grind arith) (omega arith) (omega arith) told
+      keeps_last _ told = rw told (bounds_line _ _ (grind arith) (omega arith) (omega arith))
 
       same_end : reader.terminator ≡ end
       same_end = grind arith
@@ -292,7 +290,7 @@ module _ {S X E : Type 0} {tool : ToolSpec} {state : S → Slots → X} {rest_fr
           stored bounds = search (kept, piece_longest, is_line)
 
           piece_ending : {after : Slots} → StoreBounds tool before after (received piece new) → Ending new after piece
-          piece_ending = ending reads piece new.buffered refl is_line (omega arith)
+          piece_ending = ending reads _ _ refl is_line (omega arith)
 
         pub run_read : {new : Reader} {after : Slots} → IsSound new → FillReadErr reader new store after (width - 1)
             → PassPost tool old new was is before after (Err (Read 0))
@@ -301,14 +299,14 @@ module _ {S X E : Type 0} {tool : ToolSpec} {state : S → Slots → X} {rest_fr
             let whole = e.faults.whole in
             let bounds = keeps_last _ e.stored in
             pass_read (piece_ending reads whole is_sound (stored reads whole is_sound bounds)) e.cause bounds.denied
-            (grind (arith, decided_so, whole_before))
+            (grind (arith, decided_so, rules, complete_lines_of_unlines))
 
         pub run_memory : {new : Reader} {after : Slots} → IsSound new → FillMemoryErr reader new store after (width - 1)
             → PassPost tool old new was is before after (Err Memory)
         run_memory is_sound e =
             let reads = e.faults.reads in
             let whole = e.faults.whole in
-            let bounded = stored reads whole is_sound (keeps_last e.piece refl) in
+            let bounded = stored reads whole is_sound (keeps_last _ refl) in
             rw e.stored (pass_memory (piece_ending reads whole is_sound (grind arith)) e.failed refl e.left)
 
         -- nothing more was read
@@ -332,21 +330,20 @@ module _ {S X E : Type 0} {tool : ToolSpec} {state : S → Slots → X} {rest_fr
         (run : Run old reader was is before store (state now store)) where
       filled : {after : Slots} (bytes : List ℕ) → after ≡ with_line store (width - 1) bytes
           → line after (width - 1) ≡ bytes
-      filled bytes told = grind (usual, run_room)
+      filled _ told = grind (usual, run_room)
 
       same_state : {after : Slots} (bytes : List ℕ) → after ≡ with_line store (width - 1) bytes
           → state now after ≡ state now store
-      same_state bytes told = grind arith
+      same_state _ told = grind arith
 
       module _ {new : Reader} {after : Slots} (next_line : FillLine reader new store after (width - 1)) where
         pub run_line : {next : X} {is' : Output} {after' : Slots}
             → On (state now after) next (line after (width - 1) ∷ []) is is' → IsSwapped width after after'
             → Run old new was is' before after' next
         run_line {next} {is'} {after'} processed swapped =
-            run_more run (next_line.line ∷ []) next_line.advance_ok (lines_more _ _ _ _ run.came _ _ _ _ next_line (cc))
-            (bounds_swapped _ line_filter.some
-            (bounds_weaker (max (max_length run.ls) (max_length (next_line.line ∷ [])))
-            (keeps_last run _ next_line.stored) (omega arith)) swapped)
+            run_more run _ next_line.advance_ok (lines_more _ _ _ _ run.came _ _ _ _ next_line (cc))
+            (bounds_swapped _ line_filter.some (bounds_weaker _ (keeps_last run _ next_line.stored) (omega arith))
+            swapped)
             (grind (arith, filled))
 
         pub run_line_halts : IsSound reader → IsSound new → {is' : Output}
@@ -359,8 +356,8 @@ module _ {S X E : Type 0} {tool : ToolSpec} {state : S → Slots → X} {rest_fr
             halts run
             (ending run sound next_line.advance_ok.reads next_line.line (next_line.terminator ++ new.buffered)
             (grind usual) (rw ends at next_line.whole) (grind arith)
-            (kept run (received run (next_line.line ++ next_line.terminator) new)
-            (grind (arith, bounds, max_length-append)) (received_longest _ _ _ _ more))) next_line.advance_ok.failed
+            (kept run _ (grind (arith, bounds, max_length-append)) (received_longest _ _ _ _ more)))
+            next_line.advance_ok.failed
             bounds.denied (rw (same_state _ next_line.stored) at (rw (filled _ next_line.stored) at halted))
             (λ rest may. (
               lines end (new.buffered ++ rest),

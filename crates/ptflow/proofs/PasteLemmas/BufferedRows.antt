@@ -1,7 +1,6 @@
 -- Rows that are copied from the buffers of the readers: column by column, or many rows at once if all n columns read
--- one input. Then a row takes n of its lines; with their terminators replaced by the cycle (the delimiters of the row,
--- then its terminator) these are the row. So bytes that end with a terminator, and in which there are count * n
--- terminators, are `count` rows.
+-- one input. Then a row takes n of its lines, and is these with their terminators replaced by the cycle. So bytes with
+-- count * n terminators, the last of which ends them, are `count` rows.
 pub mod Rows
 use Rattle.ptflow.proofs
 pub use proofs.Common.{ne_eqb, append_assoc, nat_tests, mod-mul-add, count_by, is_byte, advance_ok_take, usual}
@@ -31,30 +30,18 @@ field_in_buffer : (end : ℕ) {b r : Reader} (before after : List ℕ) (has : Bo
     → (field : List ℕ) × (after ≡ before ++ field) × FieldTaken end b r field has × IsConsumed b r
 field_in_buffer end {b} {r} before after true clean sound p =
     let (found, here) = p.found in
-    let consumed : IsConsumed b r = record { size = p.at + 1; is = p.consumed } in (
-      take p.at b.buffered,
-      p.is,
-      (
-        taken_by (advance_ok_take b r _ clean (omega arith) p.consumed) clean
-            (sound_after_consume sound consumed) (record {
-              so_far = search (rules, take_with_terminator, line_before_terminator);
-            }) (inl refl) (λ none. cc),
-        grind usual,
-      ),
-      consumed,
-    )
+    let consumed : IsConsumed b r = record { size = p.at + 1; is = p.consumed } in
+    let taken : LinesTaken end b r 1 (take p.at b.buffered ∷ []) =
+    taken_by (advance_ok_take b r _ clean (omega arith) p.consumed) clean
+    (sound_after_consume sound consumed) (record {
+      so_far = search (rules, take_with_terminator, line_before_terminator);
+    }) (inl refl) (λ none. cc) in
+    (take p.at b.buffered, p.is, (taken, grind usual), consumed)
 field_in_buffer end {b} before after false clean sound p =
-    let done : IsDone b = grind arith in (
-      [],
-      cc (append-nil before),
-      rw p.same (
-        taken_by (advance_ok_take b b 0 clean (omega arith) refl) clean sound (lines_none end b)
-            (inr (done, omega arith)) (λ none. cc),
-        refl,
-        omega arith,
-      ),
-      rw p.same (record { size = 0; is = refl }),
-    )
+    let done : IsDone b = grind arith in
+    let taken : LinesTaken end b b 1 [] =
+    taken_by (advance_ok_take b b 0 clean (omega arith) refl) clean sound (lines_none end b) (inr (done, omega arith)) (λ none. cc) in
+    ([], cc (append-nil before), rw p.same (taken, refl, omega arith), rw p.same (record { size = 0; is = refl }))
 
 pub consumed_none : {old : List Reader} → AreConsumed old old
 consumed_none = record { count = refl; buffered = λ p. record { size = 0; is = refl } }
@@ -64,11 +51,7 @@ consumed_trans p q = grind usual
 
 pub still_readable : {row : RowShape} {old new : List Reader} → AreConsumed old new → BufferedRowsPre row old
     → BufferedRowsPre row new
-still_readable c ready = record {
-  within = λ k d low. omega arith;
-  unfailed = search rules;
-  same_end = search rules;
-}
+still_readable c ready = record { within = λ k d low. omega arith; unfailed = search rules; same_end = search rules }
 
 -- ---- the columns of a row
 
@@ -96,7 +79,7 @@ module _ {row : RowShape} where
           text = next;
         })
     columns_more field_is stored after =
-        let (field, is, taken, consumed) = field_in_buffer row.terminator now.text copied has x.clean sound field_is in
+        let (field, is, taken, consumed) = field_in_buffer _ _ _ has x.clean sound field_is in
         record {
           fields = s.fields ++ field ∷ [];
           is =
@@ -106,19 +89,14 @@ module _ {row : RowShape} where
           width = omega (arith, length-append s.fields (field ∷ []));
           filled = λ from front given.
               rw (append_assoc front s.fields (field ∷ [])) at
-              (fill_next (s.filled from front given) x r field has taken);
+              (fill_next (s.filled from front given) x r _ has taken);
         }
 
 -- ---- complete rows, by the number of terminators
 
 ends_of_lines : (end : ℕ) (ls : Lines) → AreLines end ls → count_by (is_byte end) (unlines end ls) ≡ length ls
 ends_of_lines end [] are_lines = refl
-ends_of_lines end (line ∷ ls) (free, are_lines) = grind (
-  usual,
-  none_counted,
-  ends_of_lines end
-      ls are_lines,
-)
+ends_of_lines end (line ∷ ls) (free, are_lines) = grind (usual, none_counted, ends_of_lines end ls are_lines)
 
 pub whole_rows_counted : (end n count : ℕ) (bytes : List ℕ)
     → (0 < length bytes → get_or bytes (length bytes - 1) 0 ≡ end) → count_by (is_byte end) bytes ≡ count * n

@@ -1,6 +1,5 @@
 -- Bytes whose terminators are replaced in turn by given texts: of two parts of a text, of 64 bytes, where the
--- terminators are the bits of a mask, and byte by byte. Then the output of `paste -s` from a position on: pieces that
--- are copied one after another, and what of the output is decided.
+-- terminators are the bits of a mask, and byte by byte. Then the output of `paste -s` from a position on.
 use Rattle.ptflow.proofs
 use Rattle.ptflow.specs
 use proofs.Common.{◌≡◌, ◌≢◌, ℕ, zero, suc, ◌+◌, ◌-◌, ◌%◌, ◌^◌, ◌==◌, ◌<◌, ◌≤◌, Bool, cond, List, [], ◌∷◌, ◌++◌, length}
@@ -8,7 +7,7 @@ use proofs.Common.{map, take, drop, get_or, slice_set, refl, sym, ◌∙◌, ap,
 use proofs.Common.{chunk, mod-add-mod, mod-eq_of_lt, take-add, take_at, take-append-drop, take-set-lt, eq-eqb, usual}
 use proofs.Common.{set-append_right, drop_more, take_more_set, length-set, is_byte, byte_ne, IsLine, IsNth}
 use proofs.Common.{length-take-le, length-chunk, length-put_chunk, take_more_put_chunk, put_chunk, ones-mask_l}
-use proofs.Common.{with_replacements, cycle_byte, IsReplacedTo, true, false, Option, append_assoc, onto_first}
+use proofs.Common.{with_replacements, cycle_byte, IsReplacedTo, true, false, Option, append_assoc}
 use proofs.Common.{append-nil, append_cancel_right, lines, complete_lines, IsPrefix, Paste, delimiter, join_with_cycle}
 use proofs.Common.{paste_serial_decided, row_rest, option_to_list, None, Some, IsFirstByte, line_before_terminator}
 use proofs.Common.{mod-lt, take_with_terminator, length-append}
@@ -68,11 +67,8 @@ module _ (end : ℕ) where
     pub replaced_by_map : (b : ℕ) → ((n : ℕ) → byte n ≡ b) → (number : ℕ) (bytes : List ℕ)
         → all number bytes ≡ map (λ x. cond (x == end) b x) bytes
     replaced_by_map b same number [] = refl
-    replaced_by_map b same number (x ∷ bytes) = grind (
-      arith,
-      replaced_by_map b same (number + 1) bytes,
-      replaced_by_map b same number bytes,
-    )
+    replaced_by_map b same number (x ∷ bytes) =
+        grind (arith, replaced_by_map b same (number + 1) bytes, replaced_by_map b same number bytes)
 
     pub take-replaced : (at number : ℕ) (bytes : List ℕ) → at ≤ length bytes
         → take at (all number bytes) ≡ all number (take at bytes)
@@ -111,13 +107,8 @@ module _ (end : ℕ) where
     all_replaced number [] zero e = refl
     all_replaced number [] (suc n) e = refl
     all_replaced number (b ∷ bytes) zero e = grind (arith, counted b bytes, all_replaced number bytes zero)
-    all_replaced number (b ∷ bytes) (suc m) e = grind (
-      arith,
-      counted,
-      all_replaced (number + 1) bytes m,
-      all_replaced
-          number bytes (suc m),
-    )
+    all_replaced number (b ∷ bytes) (suc m) e =
+        grind (arith, counted, all_replaced (number + 1) bytes m, all_replaced number bytes (suc m))
 
 -- ---- the terminators of a chunk, one by one
 
@@ -246,24 +237,11 @@ module _ (end : ℕ) (delims : List (Option ℕ)) where
   row_next : (number b : ℕ) (bytes : List ℕ) → (b == end) ≡ true → 0 < length bytes
       → row_rest end delims number (b ∷ bytes) ≡ delimiter delims number ++ row_rest end delims (number + 1) bytes
   row_next number b [] is some = absurd (omega arith)
-  row_next number b (x ∷ bytes) is some = rw is (by_test (x == end) (lines end bytes))
-    where
-      by_test : (t : Bool) (ls : List (List ℕ)) → (let next = cond t ([] ∷ ls) (onto_first x ls) in
-          join_with_cycle delims number ([] ∷ next) ++ end ∷ []
-          ≡ delimiter delims number ++ (join_with_cycle delims (number + 1) next ++ end ∷ []))
-      by_test true ls = simp append_assoc
-      by_test false [] = simp append_assoc
-      by_test false (l ∷ ls) = simp append_assoc
+  row_next number b (x ∷ bytes) is some = grind (arith, append_assoc)
 
   row_other : (number b : ℕ) (bytes : List ℕ) → (b == end) ≡ false
       → row_rest end delims number (b ∷ bytes) ≡ b ∷ row_rest end delims number bytes
-  row_other number b bytes is = rw is (by_lines (lines end bytes))
-    where
-      by_lines : (ls : List (List ℕ)) → join_with_cycle delims number (onto_first b ls) ++ end ∷ []
-          ≡ b ∷ (join_with_cycle delims number ls ++ end ∷ [])
-      by_lines [] = refl
-      by_lines (l ∷ []) = refl
-      by_lines (l ∷ m ∷ ls) = refl
+  row_other number b bytes is = grind arith
 
   row_rest_on : (number : ℕ) (bytes more : List ℕ) → 0 < length more
       → row_rest end delims number (bytes ++ more) ≡ with_replacements end (delimiter delims) number bytes
@@ -343,6 +321,6 @@ serial_is_decided job format now ends are same given pushed cell on =
     let end = format.terminator in
     let delims = format.delims.now in
     let text = join_with_cycle delims 0 (lines end (given ++ [])) in
-    let is : text ≡ pushed = append_cancel_right text pushed (end ∷ []) (grind arith) in
+    let is = append_cancel_right text pushed (end ∷ []) (grind arith) in
     let b = joined_begins end delims 0 (complete_lines end given) (lines end ((line_split end given).piece ++ [])) in
     rw (← ends, ← are) (grind (usual, complete_prefix, append-nil))

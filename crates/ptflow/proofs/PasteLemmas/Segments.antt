@@ -1,6 +1,5 @@
--- Segments of a row of `paste`: a column, and the columns after it whose inputs have ended. They are appended to a
--- list, and taken from its front, one by one, and stay valid when bytes are consumed. To copy a segment is to copy its
--- columns one by one: each after the first has an empty field, and its reader stays as it is.
+-- Segments of a row of `paste`: a column, and the columns after it whose inputs have ended. To copy a segment is to
+-- copy its columns one by one: each after the first has an empty field, and its reader stays as it is.
 use Rattle.ptflow.proofs
 use proofs.Common.{◌<◌, ◌≤◌, false, true, set-get_or, sum_by, sum_by-cons, append_assoc, usual, length-append, ap}
 use proofs.Common.{drop_all, ◌∙◌, drop, subst}
@@ -38,15 +37,14 @@ module _ {row : RowShape} {readers : List Reader} (c : ℕ) where
   ends_more {next} {bytes} {more} ready low ended ends is first field number text consumed =
       let input = get_or row.cells next 0 in
       let step = consumed.buffered input in
-      let b = reader_at first.readers input in
       let same = set-get_or first.readers input no_reader in
       let copied : (field ++ bytes) ++ after_cell row next ≡ field ++ more =
       cc (append_assoc field bytes (after_cell row next), is) in
       rw (same, or-false first.any_line, copied) at
-      (columns_more (ends first field number text consumed) (still_readable consumed ready) low no_reader b
+      (columns_more (ends first field number text consumed) (still_readable consumed ready) low no_reader _
       (sound_after_consume ended.sound step) false (field ++ bytes) (record {
         eof = ap (λ r. r.eof) step.is ∙ ended.eof;
-        none = ap (λ r. r.buffered) step.is ∙ ap (drop step.size) ended.none ∙ drop_all step.size [] (omega arith);
+        none = ap (λ r. r.buffered) step.is ∙ ap (drop step.size) ended.none ∙ drop_all _ [] (omega arith);
         same = refl;
         is = refl;
       }) refl refl)

@@ -1,20 +1,19 @@
 -- Lines and rows that were taken from readers compose. A row is filled column by column: the copied text holds its
--- first fields, the slots hold the others. A step changes one reader only, so earlier columns keep their lines. A
--- filled row is a row that was taken, since each column takes one line. All bytes of the store are in the slots, so
--- they are at most the sum of the columns' bounds.
+-- first fields, the slots hold the others. A step changes one reader only. A filled row is a row that was taken, since
+-- each column takes one line.
 pub mod Grid
 use Rattle.ptflow.proofs
 pub use proofs.Common.{Err, None, Ok, get_or-take, set, take-append-drop, ◌||◌, ◌≢◌, drop-set-lt, get_or-set_other}
 pub use proofs.Common.{get_or-set_same, get_or_append_left, get_or_default, get_or_push, length-set, length-take-le}
 pub use proofs.Common.{take-take, take_all, sum_by-append, sum_by, advance_trans, lines_of_unlines, unlines-append}
 pub use proofs.Common.{FillPost, AdvanceOk, IsDone, IsSound, Reader, ReaderAdvance, budget, reader_at, Slots, line}
-pub use proofs.Common.{total_bytes, with_line, AddedSlots, AreLines, max_length, SetTerminatorsPost, FillCellPost}
-pub use proofs.Common.{SlotsBound, SlotsKept, RowFilledTo, RowFilled, RowShape, BegunText, CellsFilled}
-pub use proofs.Common.{CellsTaken, usual}
-pub use proofs.Common.{after_cell, cells_text, slots_text, AreReceivedLines, LinesTaken, BufferedRowsPre, AreFirstRows}
-pub use proofs.Common.{take-append-le, RowsTaken, CopyColumnsPost, CopyRowsPost, FlowFault, Memory, Read, Write, rules}
+pub use proofs.Common.{total_bytes, with_line, AddedSlots, AreLines, max_length, SetTerminatorsPost, FillCellPost, Read}
+pub use proofs.Common.{SlotsBound, SlotsKept, RowFilledTo, RowFilled, RowShape, BegunText, CellsFilled, CellsTaken}
+pub use proofs.Common.{usual, after_cell, cells_text, slots_text, AreReceivedLines, LinesTaken, BufferedRowsPre, Memory}
+pub use proofs.Common.{AreFirstRows, take-append-le, RowsTaken, CopyColumnsPost, CopyRowsPost, FlowFault, Write, rules}
 pub use proofs.Passes.Exits.{lines_none, lines_are_given, lines_more, eof_gives_nothing}
 pub use Rattle.std.proofs.Math.Bool.{or-true, or-false}
+use Rattle.std.proofs.lemmas.List.Sums.{sum_by-take-drop}
 pub use Grid.*
 
 pub AreLines-append : (end : ℕ) (xs ys : Lines) → AreLines end xs → AreLines end ys → AreLines end (xs ++ ys)
@@ -68,11 +67,7 @@ module _ (row : RowShape) where
       → cells_text row c xs ≡ join_with_cycle row.delims c xs ++ row.terminator ∷ []
   row_text c [] all some = absurd (omega arith)
   row_text c (x ∷ []) all some = search rules
-  row_text c (x ∷ y ∷ more) all some = grind (
-    usual,
-    row_text (c + 1) (y ∷ more) (omega arith)
-        (omega arith),
-  )
+  row_text c (x ∷ y ∷ more) all some = grind (usual, row_text (c + 1) (y ∷ more) (omega arith) (omega arith))
 
 -- ---- rows that were taken
 
@@ -162,17 +157,8 @@ sum_of_zeros (x ∷ cells) = omega (arith, sum_of_zeros cells)
 pub slots_bound_start : {cells : List ℕ} {top : ℕ → ℕ} {before store : Slots} → AddedSlots before store (length cells)
     → store.denied ≡ false → total_bytes store.lines ≡ 0
     → store.peak ≡ before.peak → SlotsBound cells top before store
-slots_bound_start {cells} {store = store} adds denied empty peak = record {
-  denied = denied;
-  adds = adds;
-  short = grind usual;
-  others = let n = length cells in omega (
-    arith,
-    ap total_bytes (take-append-drop n store.lines),
-    sum_by-append length (take n store.lines) (drop n store.lines),
-  );
-  peak = omega arith;
-}
+slots_bound_start {cells} {store = store} adds denied empty peak =
+    grind (usual, sum_by-take-drop length store.lines (length cells))
 
 pub slots_bound_line : {cells : List ℕ} {top : ℕ → ℕ} {before store : Slots} → SlotsBound cells top before store
     → (column : ℕ) (bytes : List ℕ) → column < length cells
@@ -189,11 +175,8 @@ slots_bound_line {cells} {top} {before} {store} k column bytes within fits = rec
     lines = set store.lines column bytes
 
     short : (c : ℕ) → c < length cells → length (get_or lines c []) ≤ top (get_or cells c 0)
-    short c low = grind (
-      arith,
-      get_or-set_same store.lines column bytes [],
-      get_or-set_other store.lines column c bytes [],
-    )
+    short c low =
+        grind (arith, get_or-set_same store.lines column bytes [], get_or-set_other store.lines column c bytes [])
 
     others : total_bytes (drop (length cells) lines) ≡ 0
     others = ap total_bytes (drop-set-lt (length cells) store.lines column bytes within) ∙ k.others
@@ -208,14 +191,14 @@ line_le_max_length (line ∷ ls) (suc j) = omega (arith, line_le_max_length ls j
 -- Fields that are in no slot.
 slots_kept_more : {cells : List ℕ} {fields : Lines} {before store : Slots} → SlotsKept cells fields before store
     → (more : Lines) → SlotsKept cells (fields ++ more) before store
-slots_kept_more s more = grind usual
+slots_kept_more s _ = grind usual
 
 -- ---- readers by their indices
 
 -- The reader that an index expression read.
 pub at_index : (readers : List Reader) (input : ℕ) (r : Reader) → input < length readers
     → get_or readers input r ≡ reader_at readers input
-at_index readers input r low = get_or_default _ _ r _ low
+at_index _ _ r low = get_or_default _ _ r _ low
 
 -- Column n is read next, from the readable reader `b`.
 pub record IsNextReader (row : RowShape) (now : List Reader) (n : ℕ) (b : Reader) : Type 0 where
@@ -252,7 +235,7 @@ pub taken_from_one : {end : ℕ} (now : List Reader) {input : ℕ} {r : Reader} 
     → input < length now → LinesTaken end (reader_at now input) r (most input) ls
     → ((q : ℕ) → q ≢ input → most q ≡ 0) → (q : ℕ)
     → LinesTaken end (reader_at now q) (reader_at (set now input r) q) (most q) (lines_of_input input ls q)
-taken_from_one now most within t none = search rules
+taken_from_one now _ within t none = search rules
 
 module _ {row : RowShape} {n : ℕ} {old now : List Reader} {fields : Lines} {input_lines : ℕ → Lines}
     (t : CellsTaken row n old now fields input_lines) (low : n < length row.cells)
@@ -309,15 +292,9 @@ FieldTaken end b r field false = LinesTaken end b r 1 [] × (field ≡ []) × (b
 field_in_slot : (end : ℕ) (b r : Reader) (before after : Slots) (slot : ℕ) (has : Bool) → b.fault ≡ None
     → b.terminator ≡ end → IsSound r → FillPost b r before after slot (Ok has)
     → (field : List ℕ) × (after ≡ with_line before slot field) × FieldTaken end b r field has
-field_in_slot end b r before after slot true clean same sound e = (
-  e.line,
-  e.stored,
-  (
-    taken_by e.advance_ok clean sound
-        (lines_more end b [] [] (lines_none end b) r before after slot e same) (inl refl) (λ none. cc),
-    e.less,
-  ),
-)
+field_in_slot end b r before after slot true clean same sound e =
+    let came = lines_more end b [] [] (lines_none end b) r before after slot e same in
+    (e.line, e.stored, (taken_by e.advance_ok clean sound came (inl refl) (λ none. cc), e.less))
 field_in_slot end b r before after slot false clean same sound (advance_ok, done, kept) = search rules
 
 module _ {row : RowShape} {n : ℕ} {old now : List Reader} {fields : Lines} {any_line : Bool}
@@ -338,11 +315,7 @@ module _ {row : RowShape} {n : ℕ} {old now : List Reader} {fields : Lines} {an
         rw or-true (record {
           input_lines = λ q. f.input_lines q ++ lines_of_input p (field ∷ []) q;
           consumed = cells_taken_more f.consumed x.low x.within lines_taken (search (rules, get_or_push));
-          some = λ h. (
-            n,
-            omega arith,
-            grind usual,
-          );
+          some = λ h. (n, omega arith, grind usual);
           none = λ h. cc;
           least = omega arith;
           less = λ h. less;
@@ -363,12 +336,6 @@ module _ {row : RowShape} {n : ℕ} {old now : List Reader} {fields : Lines} {an
 abbrev pub with_slot : RowShape → ℕ → Slots → BegunText → BegunText
 with_slot row n store now = record now { count = n + 1; text = now.text ++ (line store n ++ after_cell row n) }
 
--- the slots hold the fields, with that of this column
-slot_held : (ls fields : Lines) (field : List ℕ) (c : ℕ) {n : ℕ} → length fields ≡ n → n < length ls → c < n + 1
-    → (c < n → get_or ls c [] ≡ get_or fields c [])
-    → get_or (set ls n field) c [] ≡ get_or (fields ++ field ∷ []) c []
-slot_held ls fields field c width room under before = grind usual
-
 module _ {row : RowShape} where
   -- The begun row was moved to the front of the buffer.
   pub filled_to_starts : {old : List Reader} {copied : List ℕ} {begun moved : BegunText} {store : Slots}
@@ -382,16 +349,16 @@ module _ {row : RowShape} where
         → FillPost b r store after n (Ok has)
         → RowFilledTo row (n + 1) from first
         (record now { readers = set now.readers (get_or row.cells n 0) r; any_line = now.any_line || has }) after
-    filled_to_next r after room sound has e =
-        let (field, stored, taken) = field_in_slot row.terminator b r store after n has x.clean x.ends sound e in
+    filled_to_next r _ room sound has e =
+        let (field, stored, taken) = field_in_slot _ b r _ _ n has x.clean x.ends sound e in
         let width = a.filled.consumed.width in
         let fits : now.count ≤ length a.fields = omega arith in
         rw stored (record {
           fields = a.fields ++ field ∷ [];
-          filled = fill_next a.filled x r field has taken;
+          filled = fill_next a.filled x r _ has taken;
           within = omega arith;
           is = grind (arith, a.is, take-append-le);
-          held = grind (arith, slot_held);
+          held = grind usual;
           slots = record {
             same = length-set _ n field ∙ a.slots.same;
             kept = λ start top k high. slots_bound_line ((slots_kept_more a.slots _).kept start top k high) n _ x.low
@@ -432,7 +399,7 @@ module _ {row : RowShape} where
     within = omega arith;
     is = search (rules, take_all, cells_text-append, length-append);
     held = λ c over under. absurd (omega arith);
-    slots = slots_kept_more a.slots p.fields;
+    slots = slots_kept_more a.slots _;
   }
 
   pub filled_to_text : {from : List Reader} {first store : Slots} {now : BegunText}

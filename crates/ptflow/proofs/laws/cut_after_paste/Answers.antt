@@ -1,4 +1,4 @@
--- The law that `cut -f` takes a column out of the rows of `paste`. Its proof is in `OutputLaws/Cuts`.
+-- Proved in `OutputLaws/Cuts`.
 use Rattle.ptflow.proofs
 use proofs.OutputLaws.Cuts.{cut_after_paste}
 use proofs.laws.cut_after_paste.Goals as goal

@@ -1,4 +1,4 @@
--- The law that `cut` of all bytes or all fields leaves the lines as they are. Its proof is in `OutputLaws/Cuts`.
+-- Proved in `OutputLaws/Cuts`.
 use Rattle.ptflow.proofs
 use proofs.OutputLaws.Cuts.{cut_of_all}
 use proofs.laws.cut_of_all.Goals as goal

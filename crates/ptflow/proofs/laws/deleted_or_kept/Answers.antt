@@ -1,4 +1,4 @@
--- The law that `tr -d` and `tr -cd` share out the bytes. Its proof is in `OutputLaws/Trs`.
+-- Proved in `OutputLaws/Trs`.
 use Rattle.ptflow.proofs
 use proofs.OutputLaws.Trs.{deleted_or_kept}
 use proofs.laws.deleted_or_kept.Goals as goal

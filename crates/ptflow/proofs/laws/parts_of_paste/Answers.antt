@@ -1,4 +1,4 @@
--- The law of `paste` of inputs that are cut after the same row. Its proof is in the file `Grid` of `PasteLemmas`.
+-- Proved in `PasteLemmas/BufferedRows/Rows/Grid`.
 use Rattle.ptflow.proofs
 use proofs.PasteLemmas.BufferedRows.Rows.Grid.{paste_of_parts}
 use proofs.laws.parts_of_paste.Goals as goal

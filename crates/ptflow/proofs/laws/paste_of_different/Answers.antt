@@ -1,4 +1,4 @@
--- The law of `paste` of inputs none of which is named twice. Its proof is in `OutputLaws/Pastes`.
+-- Proved in `OutputLaws/Pastes`.
 use Rattle.ptflow.proofs
 use proofs.OutputLaws.Pastes.{paste_of_different}
 use proofs.laws.paste_of_different.Goals as goal

@@ -1,5 +1,4 @@
--- The law that each line of the output of `uniq` is written by exactly one of `uniq -d` and `uniq -u`. Its proof is in
--- `OutputLaws/Uniqs`.
+-- Proved in `OutputLaws/Uniqs`.
 use Rattle.ptflow.proofs
 use proofs.OutputLaws.Uniqs.{repeated_or_single}
 use proofs.laws.repeated_or_single.Goals as goal

@@ -1,4 +1,4 @@
--- The law that `tr` with two strings keeps the number of bytes. Its proof is in `OutputLaws/Trs`.
+-- Proved in `OutputLaws/Trs`.
 use Rattle.ptflow.proofs
 use proofs.OutputLaws.Trs.{translation_keeps_length}
 use proofs.laws.translation_keeps_length.Goals as goal

@@ -1,4 +1,4 @@
--- The law that `uniq` leaves its own output as it is. Its proof is in `OutputLaws/Uniqs`.
+-- Proved in `OutputLaws/Uniqs`.
 use Rattle.ptflow.proofs
 use proofs.OutputLaws.Uniqs.{uniq_twice}
 use proofs.laws.uniq_twice.Goals as goal

@@ -1,6 +1,5 @@
--- The loop over lines: its invariant at the start and after an iteration, what the calls of the tool require, and each
--- exit, which is an outcome of a pass. The buffered output is written before each read, so each exit comes after that.
--- Beside the goals: the states after the write and after the line in the last slot, and the line that was read.
+-- The buffered output is written before each read, so each exit comes after that. Beside the goals: the states after
+-- the write and after the line in the last slot, and the line that was read.
 use Rattle.ptflow.proofs
 use proofs.Passes.LineLoop.{run_starts, run_unslotted, run_sent, run_count, run_room, run_flush_failed, run_line}
 use proofs.Passes.LineLoop.{run_line_halts, Run, run_read, run_memory, run_done, run_unended, run_block}
@@ -8,8 +7,7 @@ use proofs.Passes.LineLoop.{run_block_halts, bounds_start}
 use proofs.Passes.Exits.{is_fault}
 use proofs.line_loop.run_lines.Given as given
 use proofs.line_loop.run_lines.Goals as goal
-use Rattle.ptflow.proofs.line_loop.run_lines.Goals.{After-fill, In-Ok-true}
-use Rattle.ptflow.proofs.line_loop.run_lines.Goals.{In_ok-process_line-in-Ok-true}
+use Rattle.ptflow.proofs.line_loop.run_lines.Goals.{After-fill, In-Ok-true, In_ok-process_line-in-Ok-true}
 use proofs.Common.{refl, rules, arith, usual, ◌∙◌, ◌-◌, FillLine}
 
 -- the state after the write
@@ -50,9 +48,6 @@ returns-in_err-write_out_before_blocking g c =
     rw (is_fault c.from_residual-in_err-write_out_before_blocking.ensures)
     (run_flush_failed c.requires.tool c.reading.invariant.run c.write_out_before_blocking.ensures.sound
     c.write_out_before_blocking.ensures.pushed.wrote c.in_err-write_out_before_blocking.ensures.pushed.fault)
-
-pub process_line-requires-clause-room : goal.process_line-requires-clause-room
-process_line-requires-clause-room g c = omega (arith, run_room c.requires.tool c.reading.invariant.run)
 
 pub process_line-requires-clause-few : goal.process_line-requires-clause-few
 process_line-requires-clause-few g c =
@@ -100,10 +95,6 @@ returns-in-Err-Memory g c =
 pub reading-smaller : goal.reading-smaller
 reading-smaller g c = grind usual
 
-pub process_lines-requires-clause-room : goal.process_lines-requires-clause-room
-process_lines-requires-clause-room g c = run_room c.requires.tool
-    (line_taken g (goal.at.process_lines-requires-clause-room g c).In_ok-process_line-in-Ok-true)
-
 pub process_lines-requires-clause-buffered : goal.process_lines-requires-clause-buffered
 process_lines-requires-clause-buffered g c =
     let v = line_taken g (goal.at.process_lines-requires-clause-buffered g c).In_ok-process_line-in-Ok-true in
@@ -123,7 +114,4 @@ pub reading-preserved : goal.reading-preserved
 reading-preserved g c =
     let v = line_taken g (goal.at.reading-preserved g c).In_ok-process_line-in-Ok-true in
     let same = c.process_line.ensures.same_job ∙ c.reading.invariant.same_job in
-    record {
-      same_job = c.process_lines.ensures.same_job ∙ same;
-      run = grind (arith, run_block);
-    }
+    record { same_job = c.process_lines.ensures.same_job ∙ same; run = grind (arith, run_block) }

@@ -1,5 +1,4 @@
--- The loop over lines: the lines read and the items written so far (`LineLoopState`), for the same job. An iteration
--- adds the line in the last slot, and then the lines of a block. The reader's budget decreases.
+-- The lines read and the items written so far, for the same job.
 use Rattle.ptflow.proofs
 use proofs.Common.{◌≡◌, budget}
 use proofs.Passes.LineLoop.{LineLoopState}

@@ -1,7 +1,6 @@
 -- The columns and rows of a grid of lines, and which columns use an input. If each input gives one line to each of its
--- columns, exactly the first row is removed. So, by induction, the rows of inputs that are split after the same row
--- are those of the first parts, and then those of the second parts (`PasteOfParts`). Besides: which rows are
--- determined, and that only the inputs that columns name decide the output.
+-- columns, the first row is removed. So, by induction, the rows of inputs that are split after the same row are those
+-- of the first parts, and then those of the second parts (`PasteOfParts`).
 use Rattle.ptflow.proofs
 pub use proofs.Common.{Bool, List, [], ap, arith, cond, drop, false, get_or, inl, inr, length, length-append, usual}
 pub use proofs.Common.{length-drop, map, max, refl, suc, sym, take, true, zero, ℕ, ⊎_elim, ◌%◌, ◌*◌, ◌++◌, ◌+◌, ◌-◌}
@@ -96,10 +95,9 @@ for_each_cell f cells = map (λ (cell : ℕ × ℕ). f cell.0 cell.1) (enumerate
 
 get_or-for_each_cell : {Y : Type 0} (f : ℕ → ℕ → Y) (cells : List ℕ) (c : ℕ) (d : Y) → c < length cells
     → get_or (for_each_cell f cells) c d ≡ f c (get_or cells c 0)
-get_or-for_each_cell f cells c d low = let same : 0 + c ≡ c =
-    omega arith in cc (
-      get_or-map _ (enumerate_from 0 cells) c (0, 0) d
-          (omega (arith, length-enumerate_from 0 cells)),
+get_or-for_each_cell f cells c d low =
+    let same : 0 + c ≡ c = omega arith in cc (
+      get_or-map _ (enumerate_from 0 cells) c (0, 0) d (omega (arith, length-enumerate_from 0 cells)),
       get_or-enumerate_from 0 _ c _ low,
     )
 
@@ -184,7 +182,7 @@ module _ (cells : List ℕ) where
       (λ d within. every_kth_rest (uses_before_lt d within) (ins _))) i))
 
   pub grid_none : (ins : ℕ → Lines) → ((p : ℕ) → 0 < uses_of cells p → ins p ≡ []) → rows (columns cells ins) ≡ []
-  grid_none ins none = rw (columns_same ins (λ p. []) none, no_row) refl
+  grid_none ins none = rw (columns_same ins _ none, no_row) refl
 
   -- ---- rows after rows
 
@@ -255,9 +253,7 @@ paste_of_parts job cells n a b cut =
       rows-append cells n ins more (λ p named. grind (arith, cut p named)),
     )
 
--- ---- inputs that columns name
-
--- Only what was received from these inputs decides the output.
+-- ---- inputs that columns name: only what was received from these decides the output
 
 module _ (cells : List ℕ) where
   pub cell_in : (c : ℕ) → c < length cells → is_in cells (get_or cells c 0) ≡ true
@@ -282,7 +278,6 @@ map_same f g [] same = refl
 map_same f g (c ∷ cells) same = λ i.
     same c (grind arith) i ∷ map_same f g cells (λ p named. same p (grind arith)) i
 
-module _ (job : Paste) (cells : List ℕ) where
-  pub decided_same : (f g : ℕ → Received) → ((p : ℕ) → is_in cells p ≡ true → f p ≡ g p)
-      → paste_decided job cells f ≡ paste_decided job cells g
-  decided_same f g same = grind (arith, columns_same, used_is_in, map_same)
+pub decided_same : (job : Paste) (cells : List ℕ) (f g : ℕ → Received)
+    → ((p : ℕ) → is_in cells p ≡ true → f p ≡ g p) → paste_decided job cells f ≡ paste_decided job cells g
+decided_same job cells f g same = grind (arith, columns_same, used_is_in, map_same)

@@ -1,5 +1,4 @@
--- For `clear_slots`, the step of its loop: the slot of one more column is empty, those before it stay empty, and
--- clearing it keeps the bounds of the slots (`SlotsBound`).
+-- The slot of one more column is empty, which keeps the bounds.
 use Rattle.ptflow.proofs
 use proofs.Common.{[], get_or-set_same, get_or-set_other, length-set, ◌∙◌, arith}
 use proofs.PasteLemmas.BufferedRows.Rows.{slots_bound_line}

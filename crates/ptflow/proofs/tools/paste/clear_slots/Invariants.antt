@@ -1,5 +1,4 @@
--- The invariant of the loop of `clear_slots`: the slots of the columns so far are empty, bounds of the slots that
--- held before still hold (`SlotsBound`), and the number of slots is the same.
+-- The slots of the columns so far are empty, and bounds that held before still hold.
 use Rattle.ptflow.proofs
 use proofs.Common.{◌≡◌, ◌<◌, ℕ, [], length, Slots, line, SlotsBound}
 use proofs.tools.paste.clear_slots.Given as goal

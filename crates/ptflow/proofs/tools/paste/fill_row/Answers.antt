@@ -1,12 +1,10 @@
--- For `fill_row`: the start, the steps and the exits of its loop over columns. Each line is read into its slot. If
--- the columns before it were all copied, it is copied from there, and the next columns from the buffers. Lemmas: the
--- row after a line was read (`filled`, `filled_to`, `ready`), and that no output was pushed (`sent`).
+-- Each line is read into its slot. If the columns before it were all copied, it is copied from there, and the next
+-- columns from the buffers.
 use Rattle.ptflow.proofs
 use proofs.Common.{◌≡◌, ◌+◌, List, [], ◌++◌, length, take, get_or, set, ◌∙◌, arith, PushEffect}
 use proofs.Common.{Reader, Slots, push_nothing, push_trans, ◌||◌, BegunText, BufferedRowsPre, RowFilledTo, after_cell}
 use proofs.Common.{begun_in, shape_of, rules}
 use proofs.Passes.Exits.{is_fault}
-use borrow.Author.Rules.{scaled_Fits}
 use proofs.PasteLemmas.BufferedRows.{next_reader, filled_to_next, filled_to_failed, with_slot, readable_after}
 use proofs.PasteLemmas.BufferedRows.{filled_to_columns, filled_to_copied, still_readable}
 use Rattle.ptflow.proofs.tools.paste.fill_row.Goals.{After-fill_cell, In_ok-has_line}
@@ -22,10 +20,6 @@ cells-init g c = record {
   wrote = push_nothing _;
   clean = c.requires.clean;
 }
-
-pub offset_bounds-readers-input : goal.offset_bounds-readers-input
-offset_bounds-readers-input g c =
-    let low = c.requires.readable.within c.cells.column 0 c.cells-test.true in search scaled_Fits
 
 pub bounds-readers-input : goal.bounds-readers-input
 bounds-readers-input g c = let low = c.requires.readable.within c.cells.column 0 c.cells-test.true in omega arith
@@ -81,7 +75,7 @@ cells-preserved-in-Some g c =
     record { readers = row.readers; count = count i; any_line = any_line i; text = text i } in
     record {
       filled_to = λ from start a.
-          filled_to_columns (filled_to_copied (filled_to g at.In_ok-has_line from start a) first) (rw resumed at p);
+          filled_to_columns (filled_to_copied (filled_to g at.In_ok-has_line _ _ a) first) (rw resumed at p);
       readable = still_readable p.consumed (ready g at.In_ok-has_line);
       slots = omega arith;
       within = (omega arith, c.copy_columns-begun.ensures.within.0);
@@ -93,7 +87,7 @@ pub cells-preserved : goal.cells-preserved
 cells-preserved g c =
     let at = goal.at.cells-preserved g c in
     record {
-      filled_to = λ from start a. rw c.in-None.ensures.none (filled_to g at.In_ok-has_line from start a);
+      filled_to = λ from start a. rw c.in-None.ensures.none (filled_to g at.In_ok-has_line _ _ a);
       readable = ready g at.In_ok-has_line;
       slots = omega arith;
       within = (omega arith, omega arith);

@@ -1,6 +1,5 @@
--- The invariant of the loop of `fill_row`: the columns before `column` are filled, no matter how the first ones had
--- been filled; the readers can be read, and each column has a slot. Buffered output may have been written out, but
--- none was pushed. Each iteration leaves fewer columns.
+-- The columns before `column` are filled, no matter how the first ones had been filled; the readers can be read, and
+-- each column has a slot. Buffered output may have been written out, but none was pushed.
 use Rattle.ptflow.proofs
 use proofs.Common.{◌≡◌, ◌≤◌, ◌-◌, List, false, [], length, PushEffect, Reader, Slots, BufferedRowsPre, RowFilledTo}
 use proofs.Common.{begun_in, shape_of}

@@ -1,10 +1,8 @@
--- For `paste`, the engine: the preconditions of its calls, the step of its loop over rows, and each exit (no slot, a
--- failed read or write, the end). Each iteration takes the complete rows in the buffers, and finishes the next row
--- and writes it. If that has no line, all readers are at the end of their inputs. Lemmas: the loop has started
--- (`starts`), and its invariant after each push (`pushed`, `sent`).
+-- Each iteration takes the complete rows in the buffers, and finishes the next row and writes it. If that has no line,
+-- all readers are at the end of their inputs. The invariant holds after each push (`pushed`, `sent`).
 use Rattle.ptflow.proofs
 use proofs.Common.{sym, ap, subst, arith, length, paste_job, job_shape, RowShape, RowFilledTo, begun_in, shape_of}
-use proofs.Common.{length-take-le, call_on_failed_output, push_nothing, refl, [], ◌∙◌, Ok, Output}
+use proofs.Common.{call_on_failed_output, push_nothing, refl, [], ◌∙◌, Ok, Output}
 use Rattle.std.proofs.lemmas.Bool.{not-false, not-true}
 use proofs.Passes.Exits.{is_fault}
 use proofs.PasteLemmas.{of_rows, row_job, paste_without_slots, rows_write_failed, paste_done}
@@ -17,9 +15,6 @@ use proofs.tools.paste.paste.Goals as goal
 
 pub returns-then-has_failed : goal.returns-then-has_failed
 returns-then-has_failed g c = call_on_failed_output _ _ (cc) c.requires.not_denied
-
-pub set_terminators-requires : goal.set_terminators-requires
-set_terminators-requires g c = c.requires.within
 
 starts : (g : given.Over) (c : After-ensure_slots g)
     → HasStarted (row_job (job_shape (paste_job c.args.job.now) c.args.cells.now)) c.args.cells.now c.args.readers.now
@@ -66,9 +61,6 @@ returns-in_err-write_shared_rows g c =
 pub copy_rows-copied-requires : goal.copy_rows-copied-requires
 copy_rows-copied-requires g c = still_readable c.write_shared_rows.ensures.rows.consumed (now_readable c.rows.invariant)
 
-pub slice_bounds-push-end : goal.slice_bounds-push-end
-slice_bounds-push-end g c = sym (length-take-le _ c.copy_rows-copied.new.into (omega arith))
-
 pub returns-in_err-push : goal.returns-in_err-push
 returns-in_err-push g c =
     let p = c.copy_rows-copied.ensures.rows in
@@ -81,10 +73,8 @@ fill_row-requires-clause-readable g c = still_readable c.copy_rows-copied.ensure
     (still_readable c.write_shared_rows.ensures.rows.consumed (now_readable c.rows.invariant))
 
 pub fill_row-requires-clause-within : goal.fill_row-requires-clause-within
-fill_row-requires-clause-within g c = omega (
-  arith,
-  ap (λ b. b.count) (c.move_to_front-begun.ensures c.copy_rows-copied.new.readers),
-)
+fill_row-requires-clause-within g c =
+    omega (arith, ap (λ b. b.count) (c.move_to_front-begun.ensures c.copy_rows-copied.new.readers))
 
 pub fill_row-requires-clause-slots : goal.fill_row-requires-clause-slots
 fill_row-requires-clause-slots g c = invariant_slots c.rows.invariant

@@ -1,5 +1,4 @@
--- The invariant of the loop of `paste` (`RowsInvariant`): the rows so far were pushed; those left are the rows of the
--- lines still to come. Each row takes a line, so the sum of the readers' budgets decreases.
+-- The rows so far were pushed; those left are the rows of the lines still to come. Each row takes a line.
 use Rattle.ptflow.proofs
 use proofs.Common.{sum_by, budget, shape_of}
 use proofs.PasteLemmas.{RowsInvariant}

@@ -1,9 +1,6 @@
--- For `set_terminators`: the index of each reader is in bounds, and the terminator is newline or byte 0
--- (`ending_is`). The step of its loop over columns: a reader that several columns use is set more than once, with no
--- further effect.
+-- A reader that several columns use is set more than once, with no further effect.
 use Rattle.ptflow.proofs
-use proofs.Common.{◌≡◌, ◌<◌, Bool, cond, length, get_or, arith, terminator, take_all}
-use borrow.Author.Rules.{scaled_Fits}
+use proofs.Common.{◌≡◌, ◌<◌, Bool, cond, length, get_or, arith, terminator}
 use proofs.PasteLemmas.BufferedRows.Rows.{at_index, set_terminator_more}
 use proofs.tools.paste.set_terminators.Goals as goal
 
@@ -21,10 +18,3 @@ loop-input-preserved g c =
 pub bounds-readers-input : goal.bounds-readers-input
 bounds-readers-input g c =
     let low = c.requires c.loop-input.input-index 0 c.loop-input-test.true in omega arith
-
-pub offset_bounds-readers-input : goal.offset_bounds-readers-input
-offset_bounds-readers-input g c =
-    let low = c.requires c.loop-input.input-index 0 c.loop-input-test.true in search scaled_Fits
-
-pub returns : goal.returns
-returns g c = rw (take_all c.loop-input.input-index c.args.cells.now (omega arith)) at c.loop-input.invariant

@@ -1,5 +1,4 @@
--- The invariant of the loop of `set_terminators`: it is done for the first columns (`SetTerminatorsPost`). The
--- readers that these use have the terminator, and all others are as before.
+-- The readers that the first columns use have the terminator, and all others are as before.
 use Rattle.ptflow.proofs
 use proofs.Common.{take, terminator, SetTerminatorsPost}
 use proofs.tools.paste.set_terminators.Given as goal

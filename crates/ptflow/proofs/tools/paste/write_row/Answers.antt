@@ -1,10 +1,8 @@
--- For `write_row`: the text of the slots from a column on begins with the field of this column (lemma `slots_next`).
--- So each iteration of its loop writes the next part of the row, and at the end nothing is left. A failed write
--- leaves a prefix of the row.
+-- The text of the slots from a column on begins with the field of this column, so each iteration writes the next part
+-- of the row. A failed write leaves a prefix of it.
 use Rattle.ptflow.proofs
 use proofs.Common.{◌≡◌, ℕ, ◌+◌, ◌<◌, ◌≤◌, [], ◌++◌, length, take, refl, ap, ◌∙◌, arith, append-nil, drop_all, drop_more}
-use proofs.Common.{length-take-le, get_or-take, Slots, line, RowShape, after_cell, cells_text}
-use proofs.Common.{shape_of, slots_text}
+use proofs.Common.{length-take-le, get_or-take, Slots, line, RowShape, after_cell, cells_text, shape_of, slots_text}
 use Rattle.std.proofs.lemmas.List.{length-take}
 use proofs.Passes.Exits.{is_fault, prefix_starts, front_more, front_fails, push_failed}
 use proofs.tools.paste.write_row.Goals as goal

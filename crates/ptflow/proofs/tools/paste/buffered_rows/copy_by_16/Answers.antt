@@ -1,10 +1,8 @@
--- A line whose terminator is found in a vector was copied with the vectors up to there (`line_found`). Each vector is
--- copied after those before it (`vector_copied`).
+-- A line whose terminator is found in a vector was copied with the vectors up to there.
 use Rattle.ptflow.proofs
 use proofs.Common.{◌≡◌, ◌≤◌, ◌+◌, ◌++◌, ℕ, List, length, take, drop, ap, arith, take-add, append_assoc, NoneBefore}
 use proofs.Common.{Passes, is_byte, nowhere_trans}
 use Rattle.ptlines.proofs.CopyFacts.{copied_prefix}
-use proofs.PasteLemmas.BufferedRows.{kept}
 use Rattle.ptflow.specs.Private.Paste.BufferedRows.{IsLineCopied}
 use Rattle.ptlines.specs.declared.sizes.TheConstants.{BLOCK}
 use proofs.tools.paste.buffered_rows.copy_by_16.Goals as goal
@@ -15,7 +13,7 @@ line_found : (end at size count : ℕ) (was is bytes : List ℕ) → at ≤ leng
 line_found end at size count was is bytes within room long first here copied = record {
   found = (record { low = first.low; high = omega (arith, first.high); before = first.before }, here);
   fits = omega (arith, first.high);
-  is = copied_prefix at count size was is bytes within (omega (arith, first.high)) copied;
+  is = copied_prefix at _ _ was is _ within (omega (arith, first.high)) copied;
 }
 
 vector_copied : (at from : ℕ) (was before is bytes : List ℕ) → take (at + from) before ≡ take at was ++ take from bytes
@@ -39,28 +37,22 @@ returns-in-Some-clause-line c =
 pub returns-in-Some-copy_16-clause-line : goal.returns-in-Some-copy_16-clause-line
 returns-in-Some-copy_16-clause-line c =
     let (first, here) = c.in-Some-copy_16.ensures.found in
-    let size = c.vectors.size in
     let bytes = c.args.bytes.now in
-    line_found _ _ (size + 16) _ _ _ _ (omega arith) (omega arith) (omega arith) (record {
+    line_found _ _ _ _ _ _ _ (omega arith) (omega arith) (omega arith) (record {
       low = omega arith;
       high = first.high;
-      before = nowhere_trans (Passes (is_byte c.args.terminator) bytes) 0 size _ c.vectors.invariant.none first.before;
-    }) here (vector_copied c.args.at size c.args.into.now c.vectors.into c.copy_16-in-vectors.new.into bytes
+      before = nowhere_trans (Passes (is_byte c.args.terminator) bytes) 0 _ _ c.vectors.invariant.none first.before;
+    }) here (vector_copied _ _ _ _ _ _
     c.vectors.invariant.copied c.copy_16-in-vectors.ensures.copied)
 
 pub vectors-preserved : goal.vectors-preserved
 vectors-preserved c =
-    let size = c.vectors.size in
     let bytes = c.args.bytes.now in
     record {
-      none = nowhere_trans (Passes (is_byte c.args.terminator) bytes) 0 size (size + 16) c.vectors.invariant.none
+      none = nowhere_trans (Passes (is_byte c.args.terminator) bytes) 0 _ _ c.vectors.invariant.none
           c.in_default-copy_16.ensures.found;
-      copied = vector_copied c.args.at size c.args.into.now c.vectors.into c.copy_16-in-vectors.new.into bytes
+      copied = vector_copied _ _ _ _ _ _
           c.vectors.invariant.copied c.copy_16-in-vectors.ensures.copied;
       size_bound = omega arith;
       buffer_size = c.copy_16-in-vectors.array_long;
     }
-
-pub returns-clause-none : goal.returns-clause-none
-returns-clause-none c =
-    kept c.args.at (c.args.at + c.vectors.size) _ _ _ (omega arith) (omega arith) c.vectors.invariant.copied

@@ -1,8 +1,7 @@
--- The loop over columns: its invariant at the start and after one more field, and that the reader of a column is in
--- the slice. A field that cannot be copied ends the loop, and nothing of it was consumed. So does the last column,
--- which has the terminator after it.
+-- One more field after those so far. A field that cannot be copied ends the loop, and nothing of it was consumed. So
+-- does the last column, which has the terminator after it.
 use Rattle.ptflow.proofs
-use proofs.Common.{◌≡◌, take, take_more_set, length, set, get_or, arith, set-get_or, mod-add-mod, rules, eq-eqb, ne_eqb}
+use proofs.Common.{take, take_more_set, length, arith, set-get_or, mod-add-mod, rules, eq-eqb, ne_eqb}
 use proofs.Common.{refl, ◌∙◌, ap, ◌+◌, ◌%◌}
 use borrow.Author.Rules.{scaled_Fits}
 use proofs.PasteLemmas.BufferedRows.{columns_start, columns_more}
@@ -36,12 +35,8 @@ cells-preserved g c =
 
 pub returns-in_default-clause-cells : goal.returns-in_default-clause-cells
 returns-in_default-clause-cells g c =
-    let none = c.in_default.ensures in
-    let readers = c.cells.readers in
-    let input = get_or c.args.row.cells.now c.cells.begun.0 0 in
-    let same : set readers input c.copy_cell.new.reader ≡ readers =
-    ap (set readers input) none.none.0 ∙ set-get_or readers input c.index-readers-row.result in
-    rw (same, none.none.1) c.cells.invariant.copied
+    let (same, none) = c.in_default.ensures.none in
+    rw (same, set-get_or, none) c.cells.invariant.copied
 
 pub returns-then-begun-row-clause-cells : goal.returns-then-begun-row-clause-cells
 returns-then-begun-row-clause-cells g c =

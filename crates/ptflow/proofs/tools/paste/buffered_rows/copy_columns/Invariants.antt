@@ -1,6 +1,5 @@
--- The loop over columns: the text of those so far (`CopyColumnsPost`) and its bounds. `begun` is a tuple: the number
--- of copied columns, the end of their copy, and whether one has a line. `index` is that of the next delimiter. Each
--- iteration copies a column.
+-- The text of the columns so far and its bounds. `begun` is a tuple: the number of copied columns, the end of their
+-- copy, and whether one has a line. `index` is that of the next delimiter.
 use Rattle.ptflow.proofs
 use proofs.Common.{◌≡◌, ◌≤◌, ◌%◌, ◌-◌, length, take, CopyColumnsPost, begun_in, shape_of}
 use proofs.tools.paste.buffered_rows.copy_columns.Given as goal

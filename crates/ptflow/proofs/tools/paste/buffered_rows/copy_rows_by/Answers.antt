@@ -1,6 +1,5 @@
--- For `copy_rows_by`: after some rows the readers can still be read, and the segments are still right. What is copied by
--- segments, and by columns after them, is one copy of columns (`copied`). A complete row is added to those before it,
--- and takes a line. The loop ends at a row that is not complete, or has no line.
+-- What is copied by segments, and by columns after them, is one copy of columns (`copied`). A complete row is added to
+-- those before it. The loop ends at a row that is not complete, or has no line.
 use Rattle.ptflow.proofs
 use Rattle.std.proofs.Math.Bool.{not-not}
 use proofs.Common.{◌≤◌, take, ◌∙◌, ap, not, [], sym, arith, usual, false, shape_of, begun_in, BegunText}
@@ -10,9 +9,6 @@ use proofs.PasteLemmas.Segments.{row_more, still_segments, columns_trans}
 use proofs.tools.paste.buffered_rows.copy_rows_by.Given as given
 use proofs.tools.paste.buffered_rows.copy_rows_by.Goals as goal
 use Rattle.ptflow.proofs.tools.paste.buffered_rows.copy_rows_by.Goals.{After-copy_columns-begun}
-
-pub copy_segments-first-requires-clause-readable : goal.copy_segments-first-requires-clause-readable
-copy_segments-first-requires-clause-readable g c = still_readable c.rows.invariant.consumed c.requires.readable
 
 pub copy_segments-first-requires-clause-segments : goal.copy_segments-first-requires-clause-segments
 copy_segments-first-requires-clause-segments g c =
@@ -38,10 +34,9 @@ module _ (g : given.Over) (c : After-copy_columns-begun g) where
 pub returns-then-begun-row-clause-rows : goal.returns-then-begun-row-clause-rows
 returns-then-begun-row-clause-rows g c =
     let (p, further) = copied g (goal.at.returns-then-begun-row-clause-rows g c).After-copy_columns-begun in
-    let now = c.copy_columns-begun.new.into in
     record {
       mid = c.rows.readers;
-      rows = rw (kept c.rows.end _ c.rows.into now _ further (omega arith) p.is) c.rows.invariant.rows;
+      rows = rw (kept _ _ _ c.copy_columns-begun.new.into _ further (omega arith) p.is) c.rows.invariant.rows;
       fields = p.fields;
       filled = p.filled c.rows.readers [] fill_starts;
       is = grind usual;

@@ -1,5 +1,4 @@
--- The invariant of the loop of `copy_rows_by`: the rows so far were taken from the buffers of the readers, their text
--- is in `into`, and it fits. Each row takes a line, so the sum of the readers' budgets decreases.
+-- The rows so far were taken from the buffers, and their text is in `into`. Each row takes a line.
 use Rattle.ptflow.proofs
 use proofs.Common.{◌≡◌, ◌≤◌, length, take, sum_by, budget, AreConsumed, RowsTaken, shape_of}
 use proofs.tools.paste.buffered_rows.copy_rows_by.Given as goal

@@ -1,5 +1,4 @@
--- For `copy_rows_of_one`: which columns the segment has (`is`), and that a line and the bytes of the segment are a copy
--- of a row (`copied`), which takes a line. If the segment is no row, none is taken.
+-- A line and the bytes of the segment are a copy of a row (`copied`). If the segment is no row, none is taken.
 use Rattle.ptflow.proofs
 use proofs.Common.{◌+◌, ◌||◌, ◌∷◌, [], take, set, get_or, arith, false, true, refl, rules, shape_of, CopyColumnsPost}
 use proofs.Common.{List}
@@ -28,7 +27,7 @@ segment segments = get_or segments 0 (record { input = 0; count = 0; len = 0; by
 is : (g : given.Over) (c : In-len1-up g)
     → IsSegment (shape_of c.args.row) c.args.readers.now 0 (segment c.args.segments.now)
 is g c =
-    (first_segment (shape_of c.args.row) c.args.readers.now 0 c.args.segments.now _ c.in-len1-up.len_at_least
+    (first_segment (shape_of c.args.row) _ 0 _ _ c.in-len1-up.len_at_least
     c.requires.segments).0
 
 pub offset_bounds-readers-segment : goal.offset_bounds-readers-segment

@@ -1,4 +1,4 @@
--- The loop over lines: for each so far a row was taken. Each takes one, so the sum of the readers' budgets decreases.
+-- For each line so far a row was taken.
 use Rattle.ptflow.proofs
 use proofs.Common.{◌≡◌, ◌≤◌, length, take, sum_by, budget, AreConsumed, RowsTaken, shape_of}
 use proofs.tools.paste.buffered_rows.copy_rows_of_one.Given as goal

@@ -1,8 +1,7 @@
--- For `copy_segments`. Facts about the first segment that is left (`segment`, `first`, `low`): which columns it has,
--- and that its reader exists. By these, each copied segment is added to the columns before it. A field that cannot be
+-- The first segment that is left (`segment`, `first`, `low`) is added to the columns before it. A field that cannot be
 -- copied ends the loop, and nothing of it was consumed.
 use Rattle.ptflow.proofs
-use proofs.Common.{rules, ◌≡◌, ◌<◌, [], ◌+◌, drop, set, get_or, arith, set-get_or, ◌∙◌, ap, sym, subst, take_all}
+use proofs.Common.{rules, ◌<◌, [], ◌+◌, drop, get_or, arith, set-get_or, sym, subst, take_all}
 use proofs.Common.{length, length-drop, shape_of}
 use borrow.Author.Rules.{scaled_Fits}
 use proofs.PasteLemmas.BufferedRows.{columns_start}
@@ -22,7 +21,7 @@ module _ (g : given.Over) (c : In-len1-up g) where
 
   first : IsSegment (shape_of c.args.row) c.args.readers.now c.segments.begun.0 segment
       × AreSegments (shape_of c.args.row) c.args.readers.now (c.segments.begun.0 + segment.count) (drop 1 c.segments.rest.now)
-  first = first_segment (shape_of c.args.row) c.args.readers.now c.segments.begun.0 c.segments.rest.now _
+  first = first_segment (shape_of c.args.row) _ _ _ _
       c.in-len1-up.len_at_least c.segments.invariant.are
 
   low : segment.input < length c.args.readers.now
@@ -37,12 +36,8 @@ bounds-readers-segment g c = omega (arith, low g (goal.at.bounds-readers-segment
 
 pub returns-in_default-copy_cell-clause-cells : goal.returns-in_default-copy_cell-clause-cells
 returns-in_default-copy_cell-clause-cells g c =
-    let none = c.in_default-copy_cell.ensures in
-    let readers = c.segments.readers in
-    let input = (segment g (goal.at.returns-in_default-copy_cell-clause-cells g c).In-len1-up).input in
-    let same : set readers input c.copy_cell.new.reader ≡ readers =
-    ap (set readers input) none.none.0 ∙ set-get_or readers input c.index-readers-segment.result in
-    rw (same, none.none.1) c.segments.invariant.copied
+    let (same, none) = c.in_default-copy_cell.ensures.none in
+    rw (same, set-get_or, none) c.segments.invariant.copied
 
 pub segments-preserved : goal.segments-preserved
 segments-preserved g c =

@@ -1,6 +1,5 @@
--- The invariant of the loop of `copy_segments`: the columns so far were copied, the segments in `rest` have the
--- columns after them, and the copy fits. In the loop `begun` is a tuple: the number of copied columns, the end of
--- their copy, and whether one has a line. Each iteration takes a segment from `rest`.
+-- The columns so far were copied, and the segments in `rest` have those after them. In the loop `begun` is a tuple: the
+-- number of copied columns, the end of their copy, and whether one has a line.
 use Rattle.ptflow.proofs
 use proofs.Common.{◌≡◌, ◌≤◌, length, take, CopyColumnsPost, begun_in, shape_of}
 use Rattle.ptflow.specs.Private.Paste.Segments.{AreSegments}

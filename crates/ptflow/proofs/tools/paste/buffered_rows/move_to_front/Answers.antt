@@ -1,5 +1,4 @@
--- For `move_to_front`: the bytes from one index to another, copied to the start of the same bytes, are the first ones
--- there (lemma `moved`).
+-- The bytes that are copied to the start are the first ones there.
 use Rattle.ptflow.proofs
 use proofs.Common.{◌≡◌, ◌+◌, ◌-◌, ◌≤◌, ℕ, List, length, take, drop, arith, length-drop, drop-take, rules}
 use lib.Seq.{paste}

@@ -1,5 +1,4 @@
--- The invariant of the loop of `delimiter_bytes`: the list has one byte for each column so far, and that is the
--- delimiter after the column.
+-- The list has the delimiter after each column so far, which is one byte.
 use Rattle.ptflow.proofs
 use proofs.Common.{◌≡◌, ◌<◌, ℕ, [], ◌∷◌, length, slice_index_or, delimiter}
 use proofs.tools.paste.row.delimiter_bytes.Given as goal

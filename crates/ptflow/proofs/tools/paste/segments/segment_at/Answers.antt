@@ -1,5 +1,4 @@
--- For `segment_at`: the bytes after its first column alone, the step of its loop, which adds those after a column whose
--- input has ended, and its result.
+-- The bytes after the first column alone, and then those after a column whose input has ended.
 use Rattle.ptflow.proofs
 use proofs.Common.{◌≡◌, ◌+◌, ◌-◌, ◌∙◌, ◌++◌, take, subst, ap, refl, arith, shape_of}
 use proofs.PasteLemmas.BufferedRows.{at_index}

@@ -1,5 +1,4 @@
--- The invariant of the loop of `segment_at`: the bytes end the columns before `next`, of which only the first one may
--- have a line. Each iteration leaves fewer columns.
+-- The bytes end the columns before `next`, of which only the first one may have a line.
 use Rattle.ptflow.proofs
 use proofs.Common.{◌<◌, ◌≤◌, ◌-◌, length, take, shape_of}
 use Rattle.ptflow.specs.Private.Paste.Segments.{EndsWith}

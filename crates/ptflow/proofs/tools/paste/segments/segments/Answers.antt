@@ -1,5 +1,4 @@
--- For `segments`, the step of its loop: the segment of the next column is added to the list, and its number of
--- columns to their sum.
+-- The segment of the next column is added to the list.
 use Rattle.ptflow.proofs
 use proofs.Common.{◌≡◌, ◌+◌, ◌∷◌, [], arith, sum_by, sum_by-append, sum_by-cons, shape_of}
 use proofs.PasteLemmas.Segments.{segments_more}
@@ -18,6 +17,6 @@ segments-preserved g c =
         sum_by-append (λ s. s.count) items (next ∷ []),
         sum_by-cons (λ s. s.count) next [],
       ));
-      are = rw c.push.ensures.items (segments_more (shape_of c.args.row) c.args.readers.now 0 items next inv.are
+      are = rw c.push.ensures.items (segments_more (shape_of c.args.row) _ 0 _ _ inv.are
           (rw at at c.segment_at-segment.ensures));
     }

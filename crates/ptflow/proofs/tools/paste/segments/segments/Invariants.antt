@@ -1,5 +1,4 @@
--- The invariant of the loop of `segments`: the list has segments of all columns before `column` (`AreSegments`), and
--- their numbers of columns add up to it. Each iteration leaves fewer columns.
+-- The list has segments of all columns before `column`, whose numbers of columns add up to it.
 use Rattle.ptflow.proofs
 use proofs.Common.{◌≡◌, ◌≤◌, ◌-◌, length, sum_by, shape_of}
 use Rattle.ptflow.specs.Private.Paste.Segments.{AreSegments}

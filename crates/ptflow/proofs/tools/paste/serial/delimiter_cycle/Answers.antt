@@ -1,5 +1,4 @@
--- For `delimiter_cycle`: the cycle of the bytes of all delimiters has, for each number, the delimiter with this
--- number, since both repeat after the length of the list.
+-- Both the cycle and the list of delimiters repeat after the length of the list.
 use Rattle.ptflow.proofs
 use proofs.Common.{◌≡◌, ◌%◌, [], ◌∷◌, None, length, slice_index_or, option_to_list, sym, ◌∙◌, ap, subst, mod-lt}
 use proofs.Common.{mod-eq_of_lt, IsDelimiterCycle}

@@ -1,5 +1,4 @@
--- For `paste_serial`: a call on an output that has failed before does nothing. Any other is a pass of `run_blocks`,
--- since `SerialPaste` is a block filter: at the start of a row the rest of the row is the whole output.
+-- `SerialPaste` is a block filter: at the start of a row the rest of the row is the whole output.
 use Rattle.ptflow.proofs
 use proofs.Common.{[], Reader, ap, arith, refl, paste_job, paste_serial_tool, row_rest, sym, ◌∙◌}
 use proofs.Passes.Exits.{pass_unchanged, pass_set, ready_set}

@@ -1,6 +1,5 @@
--- For `copy_shared_rows`. Up to `rows_end` the buffer has a multiple of a row's number of terminators and ends with
--- one, so it is complete rows. The copy of these bytes is the first part of the copy of the whole buffer, with the
--- terminators replaced.
+-- Up to `rows_end` the buffer has a multiple of a row's number of terminators and ends with one, so it is complete
+-- rows. Their copy is the first part of that of the whole buffer.
 use Rattle.ptflow.proofs
 use proofs.Common.{◌+◌, ◌/◌, ◌-◌, length, take, ap, ◌∙◌, arith, get_or-take, take-append-le, length-take-le, count_by}
 use proofs.Common.{is_byte}
@@ -25,7 +24,6 @@ returns-clause-rows g c =
 pub returns-clause-copied : goal.returns-clause-copied
 returns-clause-copied g c =
     let cycle = c.args.cycle.now in
-    let bytes = c.buffered-bytes.result.now in
     let at = c.rows_end.result in
     let made = c.replace-extra in
     rw (← c.buffered-bytes.ensures.buffered)

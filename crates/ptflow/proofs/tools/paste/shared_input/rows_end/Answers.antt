@@ -1,10 +1,9 @@
--- For `rows_end`. If no byte from an index on passes a test, those before it have the whole count (lemma
--- `none_after`). So each search, which moves back to the last terminator before `at`, lowers the count by one; and if
--- it finds none, no terminator is left.
+-- Each search moves back to the last terminator before `at`, so it lowers the count by one. If it finds none, none is
+-- left.
 use Rattle.ptflow.proofs
 use proofs.Common.{◌≡◌, ℕ, zero, suc, ◌+◌, ◌-◌, ◌<◌, ◌≤◌, Bool, true, List, length, take, get_or, sym, ◌∙◌, ap, arith}
 use proofs.Common.{get_or-take, count_by, false_from_ne_true, length-take-le, take_all, take-take, count_by_more_no}
-use proofs.Common.{count_by_more_yes, usual, eqb-true, is_byte}
+use proofs.Common.{count_by_more_yes, eqb-true, is_byte}
 use proofs.tools.paste.shared_input.rows_end.Goals as goal
 
 none_after : (test : ℕ → Bool) (xs : List ℕ) (from n : ℕ) → from + n ≡ length xs
@@ -34,15 +33,9 @@ loop-found-preserved c =
         arith,
         none_after test searched (last + 1) (length searched - (last + 1)) (omega arith)
             highest.after,
-        count_by_more_yes test searched last 0 highest.high passes,
+        count_by_more_yes test _ _ 0 highest.high passes,
         ap (count_by test) (take-take last at bytes (omega arith)),
       );
       within = omega arith;
-      found = λ some. (
-        omega arith,
-        eqb-true (get_or bytes last 0) _ (rw (get_or-take at bytes last 0 low) at passes),
-      );
+      found = λ some. (omega arith, eqb-true (get_or bytes last 0) _ (rw (get_or-take at bytes last 0 low) at passes));
     }
-
-pub returns-clause-counted : goal.returns-clause-counted
-returns-clause-counted c = grind usual

@@ -1,4 +1,4 @@
--- `_found` terminators are at or after the offset `at`, and if there are any, one is at `at`.
+-- `_found` terminators are at or after `at`, and if there are any, one is at `at`.
 use Rattle.ptflow.proofs
 use proofs.Common.{◌≡◌, ◌+◌, ◌<◌, ◌≤◌, get_or, length, take, count_by, is_byte}
 use proofs.tools.paste.shared_input.rows_end.Given as goal

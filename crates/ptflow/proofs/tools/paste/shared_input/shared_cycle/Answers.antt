@@ -1,5 +1,4 @@
--- For `shared_cycle`: all columns read one input, as was tested, and the cycle has the delimiters between the
--- columns, then the terminator.
+-- The cycle has the delimiters between the columns, then the terminator.
 use Rattle.ptflow.proofs
 use proofs.Common.{nat_tests, ◌≡◌, ◌<◌, [], ◌∷◌, length, get_or, sym, ◌∙◌, ap, arith, All-from_get_or, length-append}
 use proofs.Common.{get_or_append_left, get_or_push, mod-eq_of_lt, eqb-false, shape_of}

@@ -1,4 +1,4 @@
--- The invariant of the loop of `shared_cycle`: the columns so far read the input of the first column.
+-- The columns so far read the input of the first column.
 use Rattle.ptflow.proofs
 use proofs.Common.{◌≡◌, ◌<◌, ℕ, get_or}
 use proofs.tools.paste.shared_input.shared_cycle.Given as goal

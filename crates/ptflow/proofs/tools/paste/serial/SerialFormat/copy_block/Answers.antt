@@ -1,9 +1,8 @@
--- For `SerialFormat::copy_block`: the copy is the output of the block, for every continuation. The terminator that
--- was held back comes first (lemma `held_is`), then all bytes but the last, then the last, which is not counted if it
--- is a terminator (lemma `last_copied`).
+-- The terminator that was held back comes first (`held_is`), then all bytes but the last, then the last, which is not
+-- counted if it is a terminator (`last_copied`).
 use Rattle.ptflow.proofs
 use proofs.Common.{◌≡◌, ◌+◌, ◌-◌, ◌<◌, ◌++◌, ℕ, Bool, true, false, cond, List, [], ◌∷◌, length, take, get_or, refl}
-use proofs.Common.{arith, append_assoc, take_all, take_more_set, from_bool, row_rest, Option, ◌==◌, not, set}
+use proofs.Common.{arith, append_assoc, take_all, take_more_set, from_bool, row_rest, usual, Option, ◌==◌, not, set}
 use proofs.Common.{eqb-true, take-set, length-append}
 use Rattle.std.proofs.lemmas.List.{length-take, take_more}
 use proofs.PasteLemmas.Replaced.{copied_on}
@@ -11,8 +10,7 @@ use proofs.tools.paste.serial.SerialFormat.copy_block.Goals as goal
 
 held_is : (complete : Bool) (end : ℕ) (rest : List ℕ) {size : ℕ} → size ≡ from_bool complete
     → cond complete (end ∷ rest) rest ≡ take size (end ∷ []) ++ rest
-held_is true end rest is = rw is refl
-held_is false end rest is = rw is refl
+held_is = grind usual
 
 -- A last byte that is a terminator is not counted.
 last_copied : (end : ℕ) (delims : List (Option ℕ)) (number last : ℕ) (more into : List ℕ) {at size : ℕ}
@@ -31,7 +29,6 @@ last_copied end delims number last more into {at} low false is one =
 pub returns-clause-copied : goal.returns-clause-copied
 returns-clause-copied c = λ more.
     let block = c.args.block.now in
-    let self = c.args.self.now in
     let last = get_or block (length block - 1) 0 in
     let bytes = take (length block - 1) block in
     let parts : bytes ++ last ∷ [] ≡ block = grind (arith, take_more, take_all) in
@@ -47,6 +44,6 @@ returns-clause-copied c = λ more.
       copied_on (bytes ++ (last ∷ more)) (omega (arith, length-append bytes (last ∷ more)))
           c.copy_cells-front.ensures.copied,
       copied_on (last ∷ more) (omega arith) c.copy_cells-most.ensures.copied,
-      last_copied self.terminator self.delims.now c.copy_cells-most.result.index last more c.copy_cells-most.new.into
+      last_copied _ _ _ _ _ _
           low _ refl c.from.ensures,
     )

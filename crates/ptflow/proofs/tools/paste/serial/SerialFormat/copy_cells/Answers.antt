@@ -1,5 +1,5 @@
--- For `SerialFormat::copy_cells`, if there is a cycle: bytes that are stored at an index follow the first bytes
--- (lemma `put_taken`), and the bytes of the cycle, by which the terminators were replaced, are the delimiters.
+-- Bytes that are stored at an index follow the first bytes (`put_taken`), and the bytes of the cycle, by which the
+-- terminators were replaced, are the delimiters.
 use Rattle.ptflow.proofs
 use proofs.Common.{◌≡◌, ◌+◌, ◌-◌, ◌%◌, ◌≤◌, ◌++◌, ℕ, List, length, take, drop, ◌∙◌, ap, arith, with_replacements}
 use proofs.Common.{length-take-le, take_at, take-append-add, count_by, is_byte}
@@ -18,10 +18,9 @@ put_taken at was xs {n} long room =
 
 pub returns-clause-copied : goal.returns-clause-copied
 returns-clause-copied c =
-    let format = c.args.self.now in
     let cycle = c.in-Some.cycle in
     let bytes = c.args.bytes.now in
-    let is = format.is_cycle cycle c.in-Some.is in
+    let is = c.args.self.now.is_cycle cycle c.in-Some.is in
     record {
       is = put_taken _ _ _ (ap length c.replace-index.ensures.replaced
           ∙ length-replaced _ _ _ _) (omega arith)

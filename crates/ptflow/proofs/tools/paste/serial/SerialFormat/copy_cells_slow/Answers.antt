@@ -1,5 +1,5 @@
--- For `SerialFormat::copy_cells_slow`: the step of its loop, which copies the bytes up to a terminator, and then a
--- delimiter; and the result. After the last terminator the rest is a part of a line, which is copied as it is.
+-- Each step copies the bytes up to a terminator, and then a delimiter. The rest is a part of a line, which is copied as
+-- it is.
 use Rattle.ptflow.proofs
 use proofs.Common.{◌≡◌, ◌+◌, ◌-◌, ◌++◌, length, take, sym, ◌∙◌, ap, arith, length-drop, take_rest, take_all}
 use proofs.Common.{line_if_not_found, mod-eq_of_lt, count_by, is_byte, take-append-drop}
@@ -29,11 +29,8 @@ returns-clause-copied c =
     let inv = c.pieces.invariant in
     let rest = c.pieces.rest.now in
     let all : length rest - 0 ≡ length rest = omega arith in
-    let free = line_if_not_found end rest c.in_default.ensures in
-    let none : c.pieces.index + count_by (is_byte end) rest ≡ c.pieces.index = omega (
-      arith,
-      none_counted end rest free,
-    ) in
+    let free = line_if_not_found end _ c.in_default.ensures in
+    let none : c.pieces.index + count_by (is_byte end) rest ≡ c.pieces.index = omega (arith, none_counted end _ free) in
     inv.on _ _ (record {
       is = rw all at c.copy_short-2.ensures.copied
           ∙ ap (◌++◌ (take c.pieces.at c.pieces.into)) (take_all (length rest) rest (omega arith)

@@ -1,5 +1,4 @@
--- The invariant of the loop of `SerialFormat::copy_cells_slow`: only `rest` is left to be copied, and has room. If it
--- is copied from the delimiter `index` on, all bytes are. Each iteration makes `rest` shorter.
+-- If `rest` is copied from the delimiter `index` on, all bytes are.
 use Rattle.ptflow.proofs
 use proofs.Common.{◌≡◌, ◌<◌, ◌≤◌, ◌+◌, ℕ, List, length, take}
 use Rattle.ptflow.specs.Private.Paste.SerialRest.{CopyCellsPost}
