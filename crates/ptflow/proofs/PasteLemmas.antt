@@ -3,6 +3,7 @@
 -- rows of the lines still to come, for each continuation of the inputs, and each slot has at most one line. At an exit
 -- more rows may have been pushed, and then the first columns of the next row were read, and perhaps a part of a line.
 pub mod BufferedRows
+pub mod TwoColumns
 pub mod Replaced
 pub mod Segments
 use Rattle.ptflow.proofs
