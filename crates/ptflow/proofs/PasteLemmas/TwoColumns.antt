@@ -6,8 +6,8 @@ use proofs.Common.{usual, arith, refl, sym, ap, drop-drop, set-get_or, AreConsum
 use Rattle.std.proofs.lemmas.List.{set-set, set_comm}
 use Rattle.ptlines.specs.Calls.Readers.{IsSound}
 use Rattle.ptlines.specs.Readers.{Reader, reader_at, no_reader}
-use Rattle.ptflow.specs.Private.Paste.BufferedRows.{after_two, BufferedRowsPre, CopyColumnsPost, CopyRowsPost, RowsTaken}
-use Rattle.ptflow.specs.Private.Paste.BufferedRows.{IsLineCopied}
+use Rattle.ptflow.specs.Private.Paste.BufferedRows.{after_two, BufferedRowsPre, CopyColumnsPost, CopyRowsPost}
+use Rattle.ptflow.specs.Private.Paste.BufferedRows.{IsLineCopied, RowsTaken}
 use Rattle.ptflow.specs.Private.Paste.RowCells.{RowShape, BegunText, after_cell}
 use proofs.PasteLemmas.BufferedRows.{columns_more, columns_start, still_readable, sound_after_consume, consumed_trans}
 use proofs.PasteLemmas.BufferedRows.{kept, fill_starts, at_index}
@@ -50,8 +50,8 @@ module _ (readers : List Reader) (one two : ℕ) (apart : one ≢ two) (one_in :
       ≡ after_two readers one n two (m + k)
   two_on n m k = rw (get_two n m no_reader, drop-drop, set-set)
 
-  pub none_yet : after_two readers one 0 two 0 ≡ readers
-  none_yet = grind (usual, set-get_or)
+  nothing_consumed : after_two readers one 0 two 0 ≡ readers
+  nothing_consumed = grind (usual, set-get_or)
 
 -- the readers after the first n bytes of the first column's, and the first m of the other one's
 abbrev pub after : RowShape → List Reader → ℕ → ℕ → List Reader
@@ -62,6 +62,10 @@ abbrev pub begun : RowShape → List Reader → ℕ → ℕ → ℕ → Bool →
 begun row readers n m count any_line text =
     record { readers = after row readers n m; count = count; any_line = any_line; text = text }
 
+pub both_in : {row : RowShape} {readers : List Reader} → BufferedRowsPre row readers → length row.cells ≡ 2
+    → (get_or row.cells 0 0 < length readers) × (get_or row.cells 1 0 < length readers)
+both_in ready wide = (ready.within 0 0 (omega (arith, wide)), ready.within 1 0 (omega (arith, wide)))
+
 -- one more field of the row
 module _ {row : RowShape} {readers : List Reader} (ready : BufferedRowsPre row readers) (wide : length row.cells ≡ 2)
     (apart : get_or row.cells 0 0 ≢ get_or row.cells 1 0) where
@@ -71,11 +75,14 @@ module _ {row : RowShape} {readers : List Reader} (ready : BufferedRowsPre row r
   abbrev two : ℕ
   two = get_or row.cells 1 0
 
-  pub one_in : one < length readers
-  one_in = ready.within 0 0 (omega (arith, wide))
+  one_in : one < length readers
+  one_in = (both_in ready wide).0
 
-  pub two_in : two < length readers
-  two_in = ready.within 1 0 (omega (arith, wide))
+  two_in : two < length readers
+  two_in = (both_in ready wide).1
+
+  pub none_yet : after row readers 0 0 ≡ readers
+  none_yet = nothing_consumed readers one two apart one_in two_in
 
   -- what a call of `buffered` gave, without the first n bytes
   rest_is : (k : ℕ) → k < 2 → {r : Reader} → r ≡ get_or readers (get_or row.cells k 0) r → IsSound r → {bytes : List ℕ}
@@ -96,11 +103,12 @@ module _ {row : RowShape} {readers : List Reader} (ready : BufferedRowsPre row r
       let (sound_one, rest) = rest_is 0 (omega arith) at_one sound given n in
       let is_b = get_one readers one two apart one_in two_in n m no_reader in
       rw (one_on readers one two apart one_in two_in n (size + 1) m) at
-      (columns_more (columns_start {begun = begun row readers n m 0 false (take end was)}) (still_readable consumed ready)
-      (omega (arith, wide)) no_reader (record b { buffered = drop (size + 1) b.buffered })
+      (columns_more (columns_start {begun = begun row readers n m 0 false (take end was)})
+      (still_readable consumed ready) (omega (arith, wide)) no_reader
+      (record b { buffered = drop (size + 1) b.buffered })
       (sound_after_consume sound_one (record { size = n; is = is_b })) true (take (end + size) is)
-      (record { at = size; found = rw (is_b, ← rest) line.found; consumed = refl; is = rw (is_b, ← rest) line.is }) stored
-      refl)
+      (record { at = size; found = rw (is_b, ← rest) line.found; consumed = refl; is = rw (is_b, ← rest) line.is })
+      stored refl)
 
   pub second_copied : (n m : ℕ) → AreConsumed readers (after row readers n m) → {start : BegunText}
       → BufferedRowsPre row start.readers → {end : ℕ} {was : List ℕ}
@@ -116,5 +124,5 @@ module _ {row : RowShape} {readers : List Reader} (ready : BufferedRowsPre row r
       rw (two_on readers one two apart one_in two_in n m (size + 1)) at
       (columns_more p readable (omega (arith, wide)) no_reader (record b { buffered = drop (size + 1) b.buffered })
       (sound_after_consume sound_two (record { size = m; is = is_b })) true (take (end + size) is)
-      (record { at = size; found = rw (is_b, ← rest) line.found; consumed = refl; is = rw (is_b, ← rest) line.is }) stored
-      (grind arith))
+      (record { at = size; found = rw (is_b, ← rest) line.found; consumed = refl; is = rw (is_b, ← rest) line.is })
+      stored (grind arith))

@@ -68,12 +68,7 @@ fn copy_by_16(terminator: u8, bytes: &[u8], into: &mut PaddedBlock, at: usize) -
 // Copies the line at the start of `bytes` like `copy_by_16`, near the end of these or of the block. Returns its length;
 // `None` if it is not complete or does not fit.
 #[inline(never)]
-fn copy_near_end(
-    terminator: u8,
-    bytes: &[u8],
-    into: &mut PaddedBlock,
-    at: usize,
-) -> Option<usize>
+fn copy_near_end(terminator: u8, bytes: &[u8], into: &mut PaddedBlock, at: usize) -> Option<usize>
     ensures line { IfSome result (IsLineCopied terminator bytes.now at into.old into.new) }
     ensures none { IfNone result (take at into.new ≡ take at into.old) }
 {

@@ -7,9 +7,9 @@ use proofs.tools.paste.buffered_rows.copy_rows_of_two.Given as goal
 use Rattle.ptlines.specs.declared.sizes.TheConstants.{BLOCK, PADDED}
 
 abbrev pub invariant-rows : goal.invariant-rows
-invariant-rows g l = record {
-  rows : RowsTaken (shape_of l.row) l.fn.readers (after_two l.fn.readers l.one l.of_one l.two l.of_two) (take l.end l.into);
-  consumed : AreConsumed l.fn.readers (after_two l.fn.readers l.one l.of_one l.two l.of_two);
+invariant-rows g l = let after = after_two l.fn.readers l.one l.of_one l.two l.of_two in record {
+  rows : RowsTaken (shape_of l.row) l.fn.readers after (take l.end l.into);
+  consumed : AreConsumed l.fn.readers after;
   within : (l.of_one ≤ length l.left) × (l.of_two ≤ length l.right);
   size_bound : l.end ≤ BLOCK;
   buffer_size : length l.into ≡ PADDED;
