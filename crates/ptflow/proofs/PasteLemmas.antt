@@ -2,6 +2,7 @@
 -- iterations, when whole rows were taken and pushed, and the rest is the rows of the lines still to come; and the
 -- exits, before which the first columns of the next row were read, and perhaps a part of a line.
 pub mod BufferedRows
+pub mod TwoColumns
 pub mod Replaced
 pub mod Segments
 use Rattle.ptflow.proofs

@@ -2,7 +2,7 @@
 -- ended: what it means that they were taken from the readers (`RowsTaken`), and the contracts of the functions that
 -- copy a field, some columns, or rows (`CopyCellPost`, `CopyColumnsPost`, `CopyRowsPost`), or write rows.
 use Rattle.std.specs.Prelude.{◌≡◌, ℕ, ◌+◌, ◌*◌, ◌<◌, ◌≤◌, Bool, true, false, List, [], ◌++◌, None, Some, All, length}
-use Rattle.std.specs.Prelude.{map, take, drop, sum_by}
+use Rattle.std.specs.Prelude.{map, take, drop, sum_by, slice_set}
 use Rattle.memchr.specs.Find.{IsFirstByte, is_byte}
 use Rattle.ptlines.specs.Text.{unlines}
 use Rattle.ptlines.specs.Calls.Outputs.{Output, PushEffect}
@@ -29,6 +29,14 @@ pub record IsConsumed (old new : Reader) : Type 0 where
 pub record AreConsumed (old new : List Reader) : Type 0 where
   pub count : length new ≡ length old
   pub buffered : (input : ℕ) → IsConsumed (reader_at old input) (reader_at new input)
+
+-- The readers after the first n buffered bytes of one of them were consumed, and the first m of another one.
+abbrev pub after_two : List Reader → ℕ → ℕ → ℕ → ℕ → List Reader
+after_two readers one n two m =
+    let first = reader_at readers one in
+    let second = reader_at readers two in
+    slice_set (slice_set readers one (record first { buffered = drop n first.buffered })) two
+    (record second { buffered = drop m second.buffered })
 
 -- The lines of the next rows were taken from the readers, and these are `taken_rows`.
 pub record AreFirstRows (row : RowShape) (old new : List Reader) (ls : ℕ → List (List ℕ))

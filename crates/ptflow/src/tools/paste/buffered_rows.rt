@@ -1,16 +1,16 @@
 //! Rows of `paste` from the buffers of the readers: each line that is complete there is copied to a buffer for
 //! output, without the store, and after it the byte that follows its column. A row is copied column by column, or by
-//! its segments. A row that is only begun is moved to the front, and lines from slots are added to it. Used by
-//! `paste`.
+//! its segments; rows of two columns have a loop of their own. A row that is only begun is moved to the front, and lines
+//! from slots are added to it. Used by `paste`.
 
 ghost use Rattle.std.specs.Prelude.{◌≡◌, ◌<◌, ◌≤◌, ◌+◌, ◌%◌, ◌++◌, false, length, take, drop, List, IfNone};
-ghost use Rattle.std.specs.Prelude.{IfSome};
+ghost use Rattle.std.specs.Prelude.{IfSome, ◌≢◌, slice_index_or};
 ghost use Rattle.memchr.specs.Find.{IsFirst, Passes, is_byte};
-ghost use Rattle.ptlines.specs.Readers.{Reader};
+ghost use Rattle.ptlines.specs.Readers.{Reader, reader_at};
 ghost use Rattle.ptlines.specs.Calls.Readers.{IsSound};
 ghost use Rattle.ptflow.specs.Private.Paste.RowCells.{after_cell, begun_after, begun_in, shape_of};
 ghost use Rattle.ptflow.specs.Private.Paste.BufferedRows.{BufferedRowsPre, CopyCellPost, CopyColumnsPost, CopyRowsPost};
-ghost use Rattle.ptflow.specs.Private.Paste.BufferedRows.{AreConsumed, IsLineCopied, LineCopied, RowsTaken};
+ghost use Rattle.ptflow.specs.Private.Paste.BufferedRows.{AreConsumed, IsLineCopied, LineCopied, RowsTaken, after_two};
 ghost use Rattle.ptflow.specs.Private.Paste.Segments.{AreSegments};
 ghost use Rattle.ptlines.specs.declared.sizes.TheConstants.{PADDED};
 
@@ -65,11 +65,38 @@ fn copy_by_16(terminator: u8, bytes: &[u8], into: &mut PaddedBlock, at: usize) -
     None
 }
 
+// Copies the line at the start of `bytes` like `copy_by_16`, near the end of these or of the block. Returns its length;
+// `None` if it is not complete or does not fit.
+#[inline(never)]
+fn copy_near_end(terminator: u8, bytes: &[u8], into: &mut PaddedBlock, at: usize) -> Option<usize>
+    ensures line { IfSome result (IsLineCopied terminator bytes.now at into.old into.new) }
+    ensures none { IfNone result (take at into.new ≡ take at into.old) }
+{
+    let count = find_byte(terminator, bytes)?;
+    if at.saturating_add(count) >= BLOCK {
+        return None;
+    }
+    copy_short(bytes, 0, count, into, at);
+    Some(count)
+}
+
+// Copies the line at the start of `bytes` to `at`. Returns its length; `None` if it is not complete or does not fit.
+#[inline(always)]
+fn copy_line(terminator: u8, bytes: &[u8], into: &mut PaddedBlock, at: usize) -> Option<usize>
+    ensures line { IfSome result (IsLineCopied terminator bytes.now at into.old into.new) }
+    ensures none { IfNone result (take at into.new ≡ take at into.old) }
+{
+    if let Some(count) = copy_by_16(terminator, bytes, into, at) {
+        return Some(count);
+    }
+    copy_near_end(terminator, bytes, into, at)
+}
+
 // Copies the next line of a reader to `at` and consumes it; `None` if it is not complete in the buffer or does not fit.
 // For lines near the end of the buffer or the block. Out of line, so that the loop over columns is short (`paste` of 2
 // files).
 #[inline(never)]
-fn copy_near_end<S: Source, R: Source>(
+fn copy_cell_near_end<S: Source, R: Source>(
     terminator: u8,
     reader: &mut LineReader<S, R>,
     into: &mut PaddedBlock,
@@ -81,12 +108,7 @@ fn copy_near_end<S: Source, R: Source>(
     ensures none { IfNone result ((reader.new ≡ reader.old) × (take at into.new ≡ take at into.old)) }
     ensures was_sound { IsSound reader.old }
 {
-    let bytes = reader.buffered();
-    let count = find_byte(terminator, bytes)?;
-    if at.saturating_add(count) >= BLOCK {
-        return None;
-    }
-    copy_short(bytes, 0, count, into, at);
+    let count = copy_near_end(terminator, reader.buffered(), into, at)?;
     reader.consume(count + 1);
     Some(at + count)
 }
@@ -121,7 +143,7 @@ fn copy_cell<S: Source, R: Source>(
             is_line: false,
         });
     } else {
-        copy_near_end(terminator, reader, into, at)?
+        copy_cell_near_end(terminator, reader, into, at)?
     };
     Some(CopiedField { end, is_line: true })
 }
@@ -223,6 +245,74 @@ fn copy_rows_of_one<S: Source, R: Source>(
     }
 }
 
+// Consumes the first bytes of two readers.
+fn consume_two<S: Source, R: Source>(
+    readers: &mut [LineReader<S, R>],
+    one: usize,
+    of_one: usize,
+    two: usize,
+    of_two: usize,
+)
+    requires apart { one ≢ two }
+    requires within { (one < length readers.old) × (two < length readers.old) }
+    requires first { of_one ≤ length (reader_at readers.old one).buffered }
+    requires second { of_two ≤ length (reader_at readers.old two).buffered }
+    ensures { readers.new ≡ after_two readers.old one of_one two of_two }
+{
+    readers[one].consume(of_one);
+    readers[two].consume(of_two);
+}
+
+// Copies rows like `copy_rows`, of two columns with inputs of their own. They are consumed at the end, so that what was
+// copied of each is in a register until then (`paste` of 2 files).
+#[inline(never)]
+fn copy_rows_of_two<S: Source, R: Source>(
+    row: RowFormat,
+    readers: &mut [LineReader<S, R>],
+    into: &mut PaddedBlock,
+) -> CopiedRows
+    requires readable { BufferedRowsPre (shape_of row) readers.old }
+    requires two { length row.cells.now ≡ 2 }
+    requires apart { slice_index_or row.cells.now 0 0 ≢ slice_index_or row.cells.now 1 0 }
+    ensures rows { CopyRowsPost (shape_of row.entry) readers.old (take result.end into.new)
+        (begun_after readers.new result into.new) }
+    ensures within { result.begun.count ≤ length row.entry.cells.now }
+{
+    let one = row.cells[0];
+    let two = row.cells[1];
+    let left = readers[one].buffered();
+    let right = readers[two].buffered();
+    let delim = row.byte_after(0);
+    let mut of_one = 0;
+    let mut of_two = 0;
+    let mut end = 0;
+    'rows: loop {
+        let Some(first) = copy_line(row.terminator, &left[of_one..], into, end) else {
+            consume_two(readers, one, of_one, two, of_two);
+            let begun = BegunRow {
+                count: 0,
+                end,
+                any_line: false,
+            };
+            return CopiedRows { end, begun };
+        };
+        of_one += first + 1;
+        let middle = copy_option(delim, into, end + first);
+        let Some(second) = copy_line(row.terminator, &right[of_two..], into, middle) else {
+            consume_two(readers, one, of_one, two, of_two);
+            let begun = BegunRow {
+                count: 1,
+                end: middle,
+                any_line: true,
+            };
+            return CopiedRows { end, begun };
+        };
+        of_two += second + 1;
+        into[middle + second] = row.terminator;
+        end = middle + second + 1;
+    }
+}
+
 // Copies rows like `copy_rows`, each by these segments first. Inlined, so that over no segments nothing is left of the
 // loop over them (`docs/DECISIONS.md`).
 #[inline(always)]
@@ -269,6 +359,9 @@ pub(crate) fn copy_rows<S: Source, R: Source>(
 {
     if has_ended_column(row, readers) {
         return copy_rows_by(row, &segments(row, readers), readers, into);
+    }
+    if row.cells.len() == 2 && row.cells[0] != row.cells[1] {
+        return copy_rows_of_two(row, readers, into);
     }
     copy_rows_by(row, &[], readers, into)
 }
