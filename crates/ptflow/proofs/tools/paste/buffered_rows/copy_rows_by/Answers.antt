@@ -2,9 +2,10 @@
 -- those before it. The loop ends at a row that is not complete, or has no line.
 use Rattle.ptflow.proofs
 use Rattle.std.proofs.Math.Bool.{not-not}
-use proofs.Common.{◌≤◌, take, ◌∙◌, ap, not, [], sym, arith, usual, false, shape_of, begun_in, BegunText}
+use proofs.Common.{◌≤◌, take, ◌∙◌, ap, not, [], sym, arith, false, shape_of, begun_in, BegunText}
 use proofs.Common.{CopyColumnsPost}
-use proofs.PasteLemmas.BufferedRows.{fill_starts, kept, consumed_trans, still_readable}
+use proofs.PasteLemmas.BufferedRows.{fill_starts, consumed_trans, still_readable}
+use proofs.PasteLemmas.TwoColumns.{rows_begun}
 use proofs.PasteLemmas.Segments.{row_more, still_segments, columns_trans}
 use proofs.tools.paste.buffered_rows.copy_rows_by.Given as given
 use proofs.tools.paste.buffered_rows.copy_rows_by.Goals as goal
@@ -34,14 +35,7 @@ module _ (g : given.Over) (c : After-copy_columns-begun g) where
 pub returns-then-begun-row-clause-rows : goal.returns-then-begun-row-clause-rows
 returns-then-begun-row-clause-rows g c =
     let (p, further) = copied g (goal.at.returns-then-begun-row-clause-rows g c).After-copy_columns-begun in
-    record {
-      mid = c.rows.readers;
-      rows = rw (kept _ _ _ c.copy_columns-begun.new.into _ further (omega arith) p.is) c.rows.invariant.rows;
-      fields = p.fields;
-      filled = p.filled c.rows.readers [] fill_starts;
-      is = grind usual;
-      consumed = consumed_trans c.rows.invariant.consumed p.consumed;
-    }
+    rows_begun c.rows.end _ c.rows.into _ further (omega arith) c.rows.invariant.rows c.rows.invariant.consumed p
 
 pub rows-smaller : goal.rows-smaller
 rows-smaller g c =
