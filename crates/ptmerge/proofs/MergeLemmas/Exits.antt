@@ -52,11 +52,6 @@ sorted_from_parts cmp key last [] ys r = (tt, r)
 sorted_from_parts cmp key last (x ∷ xs) ys (here, more) = grind (arith, sorted_from_parts cmp key _ xs ys more)
 
 module _ (cmp : Cmp) (o : IsKeyOrder cmp) (key : Key) where
-  pub from_key : (k : List ℕ) (ls : Lines) → IsSortedFrom cmp key (Some k) ls → EachKey (AtMost cmp k) key ls
-  from_key k [] r = tt
-  from_key k (x ∷ ls) (here, more) =
-      (here, Each-weaker _ _ (λ y h. at_most_trans cmp o k (key x) y here h) _ (from_key (key x) ls more))
-
   none_below : (xs ys : Lines) → IsSortedFrom cmp key None (xs ++ ys)
       → EachKey (λ k. is_below cmp k (last_or None (map key xs)) ≡ false) key ys
   none_below xs ys r =
@@ -64,7 +59,7 @@ module _ (cmp : Cmp) (o : IsKeyOrder cmp) (key : Key) where
     where
       by : (l : Option (List ℕ)) → IsSortedFrom cmp key l ys → EachKey (λ k. is_below cmp k l ≡ false) key ys
       by None h = Each-all _ (λ k. refl) (map key ys)
-      by (Some x) h = Each-weaker _ _ (λ k a. not_below cmp o k x a) _ (from_key x ys h)
+      by (Some x) h = Each-weaker _ _ (λ k a. not_below cmp o k x a) _ (from_key cmp o key x ys h)
 
 -- ---- the bytes received
 

@@ -169,6 +169,12 @@ none_disordered : (cmp : Cmp) (key : Key) (last : Option (List ℕ)) (n : ℕ) (
 none_disordered cmp key last n [] e = tt
 none_disordered cmp key last n (x ∷ ls) e = grind (arith, none_disordered cmp key (Some (key x)) (n + 1) ls)
 
+module _ (cmp : Cmp) (o : IsKeyOrder cmp) (key : Key) where
+  pub from_key : (k : List ℕ) (ls : Lines) → IsSortedFrom cmp key (Some k) ls → EachKey (AtMost cmp k) key ls
+  from_key k [] r = tt
+  from_key k (x ∷ ls) (here, more) =
+      (here, Each-weaker _ _ (λ y h. at_most_trans cmp o k (key x) y here h) _ (from_key (key x) ls more))
+
 pub sorted_from_none : (cmp : Cmp) (key : Key) (ls : Lines) → first_disorder cmp key ls ≡ None
     → IsSortedFrom cmp key None ls
 sorted_from_none cmp key ls e = grind (arith, none_disordered, first_disorder_is)
