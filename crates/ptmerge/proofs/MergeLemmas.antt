@@ -16,6 +16,7 @@ use specs.Calls.MergeSteps.{current_key, previous_key}
 use specs.Private.BlockLines.{entries_alone}
 use Rattle.ptlines.specs.Calls.Engines.{AllPushed}
 pub use Exits.*
+use Rattle.std.proofs.Common.{arith, rules}
 
 -- ---- keys that may follow
 
@@ -28,7 +29,6 @@ pub current_key_is_above : (cmp : Cmp) (o : IsKeyOrder cmp) (key : Key) (x : Lis
     → PrecedesInput cmp x status (key (line store cursor.current_slot)) (key (line store cursor.previous_slot))
     → MatchesStatus cmp key status cursor store now ls p b → IsAbove cmp key x b × IsLater cmp key (AtLeast x) b
 current_key_is_above cmp o key x Head cursor store now ls p b before line_is =
-    let head = key (line store cursor.current_slot) in
     let above = is_greater _ before in
     rw line_is.bound (search (rules, Each-weaker, at_most_trans, greater_flips cmp o, less_flips cmp o))
 current_key_is_above cmp o key x Ended cursor store now ls p b before (bound, _) = grind arith
@@ -374,7 +374,6 @@ line_moves {key} {cmp} {old} {new} {before = before} {after} slots some at stays
     let head_is : line after new.current_slot ≡ e.line = rw (at, e.stored)
     (line_of_with_line before _ e.line slots.previous_slot) in
     let step = later_status key cmp old.number (line before old.current_slot) e.line _ some (cc) in
-    let status_is = status ∙ step.0 in
     let same_is = same ∙ step.1 in
     record {
       next_line = e;
@@ -382,7 +381,7 @@ line_moves {key} {cmp} {old} {new} {before = before} {after} slots some at stays
         current_slot = at i;
         previous_slot = stays i;
         number = count i;
-        status = status_is i;
+        status = (status ∙ step.0) i;
         same = same_is i;
         key = new.key;
       };

@@ -374,8 +374,7 @@ pub fields_after_nth : (c number at : ℕ) (line : List ℕ) → 1 < number → 
     → IsNth (is_byte c) 0 (number - 2) (take (length line) line) (at - 1)
     → drop (number - 1) (join_fields (Some c) line) ≡ join_fields (Some c) (drop at line)
 fields_after_nth c number at line some after nth =
-    let all = take_all (length line) line (omega arith) in
-    let (within, passes, counted) = rw all at nth in
+    let (within, passes, counted) = rw (take_all (length line) line (omega arith)) at nth in
     let count : suc (0 + count_by (is_byte c) (take (at - 1) line)) ≡ number - 1 = omega (arith, counted) in
     let next : at - 1 + 1 ≡ at = omega arith in
     let here = rw (eqb-true (get_or line (at - 1) 0) c passes, next) at (drop_more line (at - 1) 0 within) in
@@ -386,7 +385,7 @@ pub no_field_after : (c number : ℕ) (line : List ℕ) → 1 < number
 no_field_after c number line some few =
     let left = number - 2 - count_by (is_byte c) (take (length line) line) in
     let count : suc (left + count_by (is_byte c) (take (length line) line)) ≡ number - 1 = omega (arith, few) in
-    let none : Lines = [] in
+    let none = [] in
     rw (count, drop_all (length line) line (omega arith)) at (pieces_passed c line (length line) left)
     ∙ drop_all left none (omega arith)
 
@@ -414,7 +413,7 @@ module _ {c : ℕ} {line : List ℕ} {number start : ℕ} (within : start ≤ le
   last_at none =
       let tail = drop start line in
       let more : Lines = [] in
-      let all : drop (number - 1) (join_fields (Some c) line) ≡ tail ∷ [] =
+      let all =
       fields ∙ split_whole (is_byte c) tail (sym (first_is_position (is_byte c) tail None none)) in
       grind (usual, all, more, within)
 

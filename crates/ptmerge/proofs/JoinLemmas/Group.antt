@@ -70,7 +70,6 @@ clears_more a s t slot from within c is =
     let rest = drop 4 s.lines in
     let back : 4 + (slot - 4) ≡ slot = omega arith in
     let all = total_bytes_set s.lines slot [] (omega arith) in
-    let at : get_or rest (slot - 4) [] ≡ line a slot = grind (arith, back) in
     let here = total_bytes_set rest (slot - 4) [] (omega (arith, length-drop 4 s.lines)) in
     let grows = ap total_bytes (group_more a 4 slot from within)
     ∙ sum_by_push length (lines_of_slots a 4 slot) (line a slot) in
@@ -88,7 +87,7 @@ record EnsuredSlot (before made : Slots) (slot : ℕ) : Type 0 where
 
 ensured_slot : (before made : Slots) (slot : ℕ) → EnsureSlotPost before made slot → EnsuredSlot before made slot
 ensured_slot before made slot g =
-    ⊎_elim (λ e. let more : Lines = [] in grind usual) (λ e. grind usual) g.grown
+    ⊎_elim (λ e. grind usual) (λ e. grind usual) g.grown
 
 pub failed_copy : (before made : Slots) (to : ℕ) → EnsureSlotPost before made to
     → CopyToGroupErrPost before (with_denied (with_line made to [])) to

@@ -33,6 +33,7 @@ pub use specs.Calls.MergeCall.{both_sides, merge_end}
 pub use specs.Calls.MergeSpec.{merge_engine}
 pub use specs.Private.BlockLines.{IsLineByLine}
 use Rattle.ptlines.specs.declared.sizes.TheConstants.{BLOCK}
+use Rattle.std.proofs.Common.{arith, rules}
 
 -- ---- bounded lag: lines in order
 
@@ -168,9 +169,8 @@ module _ (tool : MergeTool) (o : IsKeyOrder tool.cmp) (eof : Side → Bool) (ls 
       → IsPrefix (unlines terminator (decided_entries tool eof ls)) (output_of tool p)
   decided_of_passed p differ =
       let dec = is_decided tool eof ls in
-      let down = downward_decided tool o eof ls in
       let rest = entries_by_key tool (λ k. not (dec k)) p in
-      let is = downward_splits tool o all_keys dec down p in
+      let is = downward_splits tool o all_keys dec (downward_decided tool o eof ls) p in
       let none = λ (side : Side) (l : Lines) (e : EachKey _ (tool.key side) l). kept_none dec (tool.key side) l
       (Each-weaker _ _ undecided _ e) in
       -- the lists differ only in lines that are left out
