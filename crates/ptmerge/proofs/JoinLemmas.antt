@@ -24,7 +24,6 @@ use specs.Join.{unpaired_entries1, join_entries}
 use specs.Private.BlockLines as lines
 use specs.Calls.Join.{join_with, join_key, join_tool}
 use Group.*
-use Rattle.std.proofs.Common.{arith, rules}
 
 -- ---- the output, by lines and by pairs
 
@@ -254,7 +253,8 @@ module _ {job : Join} {cmp : Cmp} {key : Side → Key} {old now : MergeState} {o
 
       one_for_all : a.kept ≡ [] → IsOneForAll call a.k (line made two2.previous_slot) a.kept grown
       one_for_all none =
-          record { none = none; own = rw (last_stays (a.heads Second) comes) (a.heads Second).is; same_pairs = search (rules, all_copied, a) }
+          let same = last_stays (a.heads Second) comes in
+          record { none = none; own = rw same (a.heads Second).is; same_pairs = search (rules, all_copied, a) }
 
       record GrownGroup (after : Slots) (to : ℕ) : Type 0 where
         kept : Lines

@@ -16,7 +16,6 @@ use specs.Calls.MergeSteps.{current_key, previous_key}
 use specs.Private.BlockLines.{entries_alone}
 use Rattle.ptlines.specs.Calls.Engines.{AllPushed}
 pub use Exits.*
-use Rattle.std.proofs.Common.{arith, rules}
 
 -- ---- keys that may follow
 
@@ -374,7 +373,6 @@ line_moves {key} {cmp} {old} {new} {before = before} {after} slots some at stays
     let head_is : line after new.current_slot ≡ e.line = rw (at, e.stored)
     (line_of_with_line before _ e.line slots.previous_slot) in
     let step = later_status key cmp old.number (line before old.current_slot) e.line _ some (cc) in
-    let same_is = same ∙ step.1 in
     record {
       next_line = e;
       cursor = λ i. record {
@@ -382,7 +380,7 @@ line_moves {key} {cmp} {old} {new} {before = before} {after} slots some at stays
         previous_slot = stays i;
         number = count i;
         status = (status ∙ step.0) i;
-        same = same_is i;
+        same = (same ∙ step.1) i;
         key = new.key;
       };
       sound = sound;

@@ -188,7 +188,8 @@ module _ {A : Type 0} where
   of_some f p q all (k ∷ ks) =
       let own = flat_map f (filter q ks) in
       let first = IsPermutation-append_right (f k) _ _ (of_some f p q all ks) in
-      grind (arith, append_assoc, all k, of_some f p q all ks, first, (IsPermutation-trans _ _ _ first (changed _ own _)))
+      let second = IsPermutation-trans _ _ _ first (changed _ own _) in
+      grind (arith, append_assoc, all k, of_some f p q all ks, first, second)
 
   -- part by part, from part `a` on
   of_each : (f : List ℕ → List A) (part_of : List ℕ → ℕ) (w : List ℕ → Bool) (a n : ℕ)

@@ -385,9 +385,8 @@ pub no_field_after : (c number : ℕ) (line : List ℕ) → 1 < number
 no_field_after c number line some few =
     let left = number - 2 - count_by (is_byte c) (take (length line) line) in
     let count : suc (left + count_by (is_byte c) (take (length line) line)) ≡ number - 1 = omega (arith, few) in
-    let none = [] in
     rw (count, drop_all (length line) line (omega arith)) at (pieces_passed c line (length line) left)
-    ∙ drop_all left none (omega arith)
+    ∙ drop_all left [] (omega arith)
 
 -- the first match from an index on, in the bytes from there on
 first_of_rest : (test : ℕ → Bool) (hay : List ℕ) (start : ℕ) → start ≤ length hay → (r : Option ℕ)
@@ -413,8 +412,7 @@ module _ {c : ℕ} {line : List ℕ} {number start : ℕ} (within : start ≤ le
   last_at none =
       let tail = drop start line in
       let more : Lines = [] in
-      let all =
-      fields ∙ split_whole (is_byte c) tail (sym (first_is_position (is_byte c) tail None none)) in
+      let all = fields ∙ split_whole (is_byte c) tail (sym (first_is_position (is_byte c) tail None none)) in
       grind (usual, all, more, within)
 
   found_at : (n : ℕ) → IsFirstByte (is_byte c) (drop start line) (Some n) → IsFieldAt (Some c) number line

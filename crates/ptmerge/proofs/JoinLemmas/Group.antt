@@ -86,8 +86,7 @@ record EnsuredSlot (before made : Slots) (slot : ℕ) : Type 0 where
   denied : made.denied ≡ before.denied
 
 ensured_slot : (before made : Slots) (slot : ℕ) → EnsureSlotPost before made slot → EnsuredSlot before made slot
-ensured_slot before made slot g =
-    ⊎_elim (λ e. grind usual) (λ e. grind usual) g.grown
+ensured_slot before made slot g = ⊎_elim (λ e. grind usual) (λ e. grind usual) g.grown
 
 pub failed_copy : (before made : Slots) (to : ℕ) → EnsureSlotPost before made to
     → CopyToGroupErrPost before (with_denied (with_line made to [])) to

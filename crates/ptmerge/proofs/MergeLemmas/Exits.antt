@@ -33,7 +33,6 @@ pub use specs.Calls.MergeCall.{both_sides, merge_end}
 pub use specs.Calls.MergeSpec.{merge_engine}
 pub use specs.Private.BlockLines.{IsLineByLine}
 use Rattle.ptlines.specs.declared.sizes.TheConstants.{BLOCK}
-use Rattle.std.proofs.Common.{arith, rules}
 
 -- ---- bounded lag: lines in order
 

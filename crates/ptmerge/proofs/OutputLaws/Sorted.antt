@@ -1,5 +1,4 @@
--- The output of sorted texts is the entries of all keys; and a merge by whole lines is `comm`, one by join fields
--- `join`.
+-- The output of sorted texts is the entries of all keys.
 use Rattle.ptmerge.proofs
 use Rattle.ptmerge.specs
 use Rattle.std.proofs.lemmas.List.{map-id}
@@ -7,16 +6,10 @@ use proofs.Common.{lines}
 use specs.Calls.Comm.{comm_tool}
 use specs.Calls.Join.{join_tool}
 use specs.Calls.Sides.{both}
-use specs.Laws.Outputs.{CommIsMerge, CommOfSorted, JoinIsMerge, JoinOfSorted}
-use proofs.MergeLemmas.Exits.Invariant.{refl, ap, ◌∙◌, ◌++◌, flat_map, unlines, entries_of_key, distinct_keys}
+use specs.Laws.Outputs.{CommOfSorted, JoinOfSorted}
+use proofs.MergeLemmas.Exits.Invariant.{ap, ◌∙◌, ◌++◌, flat_map, unlines, entries_of_key, distinct_keys}
 use proofs.MergeLemmas.Exits.Invariant.{line_order}
 use proofs.OutputLaws.Counts.{in_order}
-
-pub comm_is_merge : CommIsMerge
-comm_is_merge job = refl
-
-pub join_is_merge : JoinIsMerge
-join_is_merge job = refl
 
 pub comm_of_sorted : CommOfSorted
 comm_of_sorted job first second e =

@@ -76,7 +76,8 @@ step-requires g c = c.in_ok-merge_in_blocks.ensures.valid_cursors
 
 pub pass_line-requires : goal.pass_line-requires
 pass_line-requires g c =
-    write_pre (on_by_blocks g (goal.at.pass_line-requires g c).After-step).iteration sides.First c.in-First.ensures.status_is
+    let i = on_by_blocks g (goal.at.pass_line-requires g c).After-step in
+    write_pre i.iteration sides.First c.in-First.ensures.status_is
 
 pub pass_line-requires-in-Second : goal.pass_line-requires-in-Second
 pass_line-requires-in-Second g c =

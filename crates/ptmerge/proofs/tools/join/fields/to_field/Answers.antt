@@ -9,9 +9,9 @@ use proofs.tools.join.fields.to_field.Goals as goal
 pub returns-clause-none : goal.returns-clause-none
 returns-clause-none c past =
     no_field_after c.args.separator c.args.number c.args.line.now (omega arith)
-    (few_from_start (is_byte c.args.separator) c.args.line.now (omega arith) c.requires.start c.after_nth.ensures past)
+    (few_from_start _ _ (omega arith) c.requires.start c.after_nth.ensures past)
 
 pub returns-clause-field : goal.returns-clause-field
 returns-clause-field c within =
     fields_after_nth c.args.separator c.args.number _ c.args.line.now (omega arith) c.after_nth.ensures.some
-    (nth_from_start (is_byte c.args.separator) c.args.line.now (omega arith) c.requires.start c.after_nth.ensures within)
+    (nth_from_start _ _ (omega arith) c.requires.start c.after_nth.ensures within)

@@ -6,6 +6,7 @@ use proofs.tools.join.output.write_pair.Goals as goal
 
 pub returns-then-is_unchanged-2 : goal.returns-then-is_unchanged-2
 returns-then-is_unchanged-2 g c =
+    let begins = c.is_unchanged.ensures c.if-is_unchanged.true in
     let ends = c.is_unchanged-then-is_unchanged.ensures c.if-is_unchanged-2.true in
-    rw (pair_is (join_job c.args.job.now) c.args.key.now c.args.terminator (c.is_unchanged.ensures c.if-is_unchanged.true) ends c.requires.one c.requires.two)
+    rw (pair_is (join_job c.args.job.now) c.args.key.now c.args.terminator begins ends c.requires.one c.requires.two)
     at c.push_line.ensures.pushed
