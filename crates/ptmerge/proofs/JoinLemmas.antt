@@ -1,7 +1,6 @@
--- The loops of `join`: its output by lines and by pairs, the invariants of the loops, and what each iteration and each
--- fault does to them. Between groups the invariant is that of the merge. An iteration there writes an unpaired line,
+-- The loops of `join`. Between groups the invariant is that of the merge; an iteration there writes an unpaired line,
 -- ends the loop, or runs the loops of a group: one reads the second input's lines of the key, and one writes the pairs
--- of the first input's lines. Each reads a line, so the reads that are left decrease.
+-- of the first input's lines.
 pub mod Group
 pub mod Fields
 pub mod FieldMasks
@@ -10,15 +9,12 @@ use Rattle.ptmerge.specs
 use proofs.Common.{cond, Err, flat_map-append, Cmp, MergeFault, IsReadyToContinue, AdvanceOkPost, MergePost}
 use proofs.Common.{MergeRunPre, merge_state, both, lines_of, Memory, HaveEqualKeys, HasOnlyLeastKey, ◌⊎◌, AdvancePre}
 use proofs.Common.{push_nothing, inl, inr, ◌==◌, length_push, nil_from_length}
-use specs.Private.JoinGroup.{IsInItsSlot, IsCopiedToGroup, ReadGroupLineOkPost, ReadGroupLinePost, IsGroup}
-use specs.Private.JoinGroup.{group_lines}
+use specs.Private.JoinGroup.{IsInItsSlot, IsCopiedToGroup, ReadGroupLineOkPost, ReadGroupLinePost, IsGroup, group_lines}
 use specs.Private.WriteAndAdvance.{WriteThenAdvancePre}
-use proofs.MergeLemmas.{BetweenSteps, between_next, advance_pre, wrote_alone}
-use proofs.MergeLemmas.{alone_breaks, place_is, LoopInvariant, Extends, input_split_of, extends}
-use proofs.MergeLemmas.{extends_on, runs_on, valid_cursors_kept, wrote_and_sent, others_stay, open_merge, IsKeyOrder}
-use proofs.MergeLemmas.{IsOpenMerge}
-use proofs.MergeLemmas.{exit_is_merge_post, continues, same_bound, bounds_change, EachKey-at, Kept, reads_ahead}
-use proofs.MergeLemmas.{reads_less}
+use proofs.MergeLemmas.{BetweenSteps, between_next, advance_pre, wrote_alone, alone_breaks, place_is, LoopInvariant}
+use proofs.MergeLemmas.{Extends, input_split_of, extends, extends_on, runs_on, valid_cursors_kept, wrote_and_sent}
+use proofs.MergeLemmas.{others_stay, open_merge, IsKeyOrder, IsOpenMerge, exit_is_merge_post, continues, same_bound}
+use proofs.MergeLemmas.{bounds_change, EachKey-at, Kept, reads_ahead, reads_less}
 use Rattle.std.proofs.lemmas.Bool.{false≢true}
 use specs.Join.{unpaired_entries1, join_entries}
 use specs.Private.BlockLines as lines

@@ -1,7 +1,5 @@
--- The loop of a merge: its invariant at the start, after each step, and at its exits. A line that precedes everything
--- in the other input is processed, and its input advances; the next line has no lesser key, so the invariant holds
--- again. A fault ends the loop with a prefix of the output. Also the reads that are left, which decrease, and the
--- contract of the cursor's `next`.
+-- The loop of a merge. A line that precedes everything in the other input is processed, and its input advances; the
+-- next line has no lesser key, so the invariant holds again. A fault ends the loop with a prefix of the output.
 pub mod Exits
 use Rattle.ptmerge.proofs
 use Rattle.ptmerge.specs
@@ -10,9 +8,7 @@ use proofs.Common.{Ok, IsErrAnd, HasOnlyLeastKey}
 use specs.declared.faults.MergeFault.TheVariants as faults
 use specs.Calls.Cursor.{NextErrPost, NextLinePost, HasDistinctSlots, initial_cursor, base_slot}
 use specs.Calls.MergeSteps.{StartErrPost, StartFirstPost, MergeInputs, IsReaderOf, IsReportable, AreValidCursors}
-use specs.Calls.MergeSteps.{StartOkPost}
-use specs.Calls.MergeSteps.{merge_inputs, IsDisorderDecided}
-use specs.Calls.MergeSteps.{current_key, previous_key}
+use specs.Calls.MergeSteps.{StartOkPost, merge_inputs, IsDisorderDecided, current_key, previous_key}
 use specs.Private.BlockLines.{entries_alone}
 use Rattle.ptlines.specs.Calls.Engines.{AllPushed}
 pub use Exits.*

@@ -1,7 +1,6 @@
--- Output of inputs in parts. Inputs split at the same key: the keys of the first parts are below those of the second,
--- so the entries of the first come first, and a disorder can only be in the second. Inputs distributed by a function of
--- the key: a filter by keys commutes with computing the distinct keys, so each part has the entries of its keys, and
--- the entries of all parts are a permutation of all entries.
+-- Output of inputs in parts. If they are split at the same key, the entries of the first parts come first, and a
+-- disorder can only be in the second. If they are distributed by keys, each part has the entries of its keys, since a
+-- filter by keys commutes with computing the distinct keys.
 use Rattle.ptmerge.proofs
 use Rattle.ptmerge.specs
 use Rattle.std.proofs.lemmas

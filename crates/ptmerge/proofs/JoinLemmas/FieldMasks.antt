@@ -1,7 +1,5 @@
 -- Fields of a line of `join`, found by masks of its blanks or of its separators. A mask is the number of a list of
--- bits, so each fact is by induction on that list: no blank is misplaced if two masks are zero; and the first run of set
--- bits is the first word, after which the words of the rest of the line follow. Last, the fields after a number of
--- separators.
+-- bits, so each fact is by induction on that list. The first run of set bits is the first word.
 use Rattle.ptmerge.proofs
 use Rattle.ptmerge.specs
 use Rattle.std.proofs.lemmas

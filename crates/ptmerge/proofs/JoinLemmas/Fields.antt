@@ -1,7 +1,5 @@
--- Fields of a line of `join`: how they are found by a split, where they are in the line, and how they are written, in
--- several writes of which one may fail. A line is split by repeatedly taking the bytes before the first separator.
--- Joining undoes splitting, so a line can be written unchanged: its fields give the line back, and the fields after a
--- field are the bytes after it.
+-- Fields of a line of `join`: how they are found, and written in several writes of which one may fail. Joining undoes
+-- splitting, so a line can be written unchanged, and the fields after a field are the bytes after it.
 use Rattle.ptmerge.proofs
 use Rattle.ptmerge.specs
 use Rattle.std.proofs.lemmas

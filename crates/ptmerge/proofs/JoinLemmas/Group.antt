@@ -1,19 +1,17 @@
--- The group of one key: the slots of its lines, how they are copied and emptied, and the largest group, which bounds
--- the store; and tools that write pairs. The lines are read, paired and then closed. Lesser keys are complete and the
--- pairs of the group are written in their final order, so output during a group is a prefix of the output for all
--- inputs. Once both inputs are past the key, the group counts as processed.
+-- The group of one key, in slots, of which the largest bounds the store. Lesser keys are complete and the pairs of the
+-- group are written in their final order, so output during a group is a prefix of the output for all inputs. Once both
+-- inputs are past the key, the group counts as processed.
 use Rattle.ptmerge.proofs
 use Rattle.ptmerge.specs
 use Rattle.std.proofs.lemmas
 pub use proofs.Common.{◌≡◌, ⊎_elim, ℕ, ◌+◌, ◌-◌, ◌≤◌, ◌<◌, suc, true, false, length-drop, List, [], ◌∷◌, ◌++◌, length}
 pub use proofs.Common.{map, drop, get_or, set, max, refl, ap, ◌∙◌, arith, append_assoc, length-append, length-set}
 pub use proofs.Common.{drop_more, Slots, line, total_bytes, with_line, with_denied, unlines, max_length, Join, usual}
-pub use proofs.Common.{ClearGroupPost, CopyToGroupPost, entry, join_fields, pair_entries, Lines, lines_with_key}
-pub use proofs.Common.{Reader, Side, First, Second, Sorted, Key, with_side, MergeTool, ◌&&◌, Bool, Some, sym, subst}
-pub use proofs.Common.{bytes_eq, bytes_decides, append-nil, Output, PushEffect, push_trans, unlines-append}
-pub use proofs.Common.{CursorStatus, Head, Ended, Disorder, entries_by_key, MergeState, NextOkPost, other}
-pub use proofs.Common.{PrecedesInput, disorder, merged_entries, sorted_prefixes, is_up_to, line_of_with_line}
-pub use proofs.Common.{lines_of_slots}
+pub use proofs.Common.{ClearGroupPost, CopyToGroupPost, entry, join_fields, pair_entries, Lines, lines_with_key, Reader}
+pub use proofs.Common.{Side, First, Second, Sorted, Key, with_side, MergeTool, ◌&&◌, Bool, Some, sym, subst, bytes_eq}
+pub use proofs.Common.{bytes_decides, append-nil, Output, PushEffect, push_trans, unlines-append, CursorStatus, Head}
+pub use proofs.Common.{Ended, Disorder, entries_by_key, MergeState, NextOkPost, other, PrecedesInput, disorder}
+pub use proofs.Common.{merged_entries, sorted_prefixes, is_up_to, line_of_with_line, lines_of_slots}
 use proofs.JoinLemmas.Fields.{partial_starts}
 pub use proofs.MergeLemmas.{total_within, low_slot, same_bytes, AtLeast, all_keys, at_current_line, both_begun, IsAbove}
 pub use proofs.MergeLemmas.{EndsIfFails}

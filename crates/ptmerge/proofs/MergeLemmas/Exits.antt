@@ -1,7 +1,5 @@
--- The invariant of one input of a merge, which holds again after its next line; the bound of the lag, by which all
--- output is written that was decided two blocks earlier; and the exits of a tool. At an exit the lines read, the
--- processed ones and a bound on the others are known for each input; the contract of the tool follows from these and
--- from the output.
+-- The bound of the lag; the invariant of one input, which holds again after its next line; and the exits of a tool,
+-- whose contract follows from the lines read, the processed ones, a bound on the others, and the output.
 pub mod Invariant
 pub mod SlotLines
 use Rattle.ptmerge.proofs
@@ -10,8 +8,7 @@ pub use proofs.Common.{⊎_elim, IsPrefix, nat_tests, length_push, line_of_with_
 pub use proofs.Common.{Ended, Disorder, status_at, same_key_at, NextOkPost, Result, Err, Memory, advance_trans, Write}
 pub use proofs.Common.{MergeFault, lines_of, MergeState, MergePost, merge_state, terminator}
 use Rattle.ptlines.proofs.LineSearch.{IsLine-append}
-use specs.Calls.MergeSpec.{decided_output, decided_entries, merge_output}
-use specs.Calls.MergeSpec.{lines_decide_disorder, disorder_is_decided}
+use specs.Calls.MergeSpec.{decided_output, decided_entries, merge_output, lines_decide_disorder, disorder_is_decided}
 use Rattle.ptlines.proofs.Calls.{call_ends, call_set, call_without_slots, given_before, given_by, CallProgress}
 use Rattle.ptlines.proofs.Calls.{DecidedIfReadFailed, call_on_failed_output}
 use Rattle.std.proofs.lemmas.List.{append_cancel_right, map-append}

@@ -1,6 +1,5 @@
 -- The laws of the columns of `comm`. An input and itself have all lines in the third column, since sorted lines are
--- those of each key, one key after another. Exchanged inputs have exchanged columns, since keys may be inserted in any
--- order.
+-- those of each key. Exchanged inputs have exchanged columns, since keys may be inserted in any order.
 use Rattle.ptmerge.proofs
 use Rattle.ptmerge.specs
 use Rattle.std.proofs.Common.{◌-◌, bytes_eq, min, replicate}

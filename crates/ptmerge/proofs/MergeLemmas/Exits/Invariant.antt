@@ -1,7 +1,6 @@
--- The invariant of a merge, and what it is built on: keys and lines in order, the least key, the lines that may follow
--- in an input (`Bound`), and the output for some of the keys. No line that may follow has a lesser key than a
--- processed one, so the output for the processed lines is a prefix of the output for all inputs that begin with the
--- lines read. Also the invariant if a write may have failed (`LagInvariant`), and which keys are decided.
+-- The invariant of a merge. No line that may follow in an input (`Bound`) has a lesser key than a processed one, so the
+-- output for the processed lines is a prefix of the output for all inputs that begin with the lines read. If a write may
+-- have failed, `LagInvariant` holds.
 use Rattle.ptmerge.proofs
 use Rattle.ptmerge.specs
 use Rattle.std.proofs.lemmas

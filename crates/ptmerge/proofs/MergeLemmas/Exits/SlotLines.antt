@@ -1,6 +1,5 @@
 -- The lines that were read of an input, and how they lie in the slots of a store. A slot changes only if its own input
--- reads, so two lines of each input, none longer than its longest line, bound the bytes stored. Also functions of the
--- side, changed for one side.
+-- reads, so two lines of each input, none longer than its longest line, bound the bytes stored.
 use Rattle.ptmerge.proofs
 use Rattle.std.proofs.lemmas
 pub use proofs.Common.{◌≡◌, ◌⊎◌, ℕ, ◌+◌, ◌<◌, ◌≤◌, true, false, List, [], ◌∷◌, ◌++◌, length, max, refl, ◌∙◌, arith}

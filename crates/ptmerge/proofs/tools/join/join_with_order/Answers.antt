@@ -1,6 +1,5 @@
 -- The loops of `join`: one lemma of `JoinLemmas` for each iteration, and one of `JoinLemmas` or `MergeLemmas` for each
--- exit. Also the state after the lines of the blocks were merged (`on_by_blocks`), what the calls require, and the
--- reads that are left, which decrease in each loop.
+-- exit.
 use Rattle.ptmerge.proofs
 use Rattle.ptmerge.specs
 use proofs.Common.{refl, sym, ◌∙◌, arith, ℕ, ◌<◌, ◌≤◌, both, join_job, merge_state, Ok}
@@ -8,8 +7,7 @@ use proofs.JoinLemmas.{BetweenGroups, LoopOfJoin, alone_continues, alone_fails, 
 use proofs.JoinLemmas.{group_opens, read_group_less, write_pairs_less}
 use proofs.JoinLemmas.{read_group_in, read_group_pre, read_group_continues, read_group_fails, write_pairs_next}
 use proofs.JoinLemmas.{write_pairs_pre, write_pairs_group, write_pairs_continues, pair_fails, group_there, group_closed}
-use proofs.MergeLemmas.{fails_by, start_fault, start_ok, ends_well, ends_fallen, kept_order}
-use proofs.MergeLemmas.{fails, ends, reads_less}
+use proofs.MergeLemmas.{fails_by, start_fault, start_ok, ends_well, ends_fallen, kept_order, fails, ends, reads_less}
 use proofs.PassedLemmas.{blocks_fail, blocks_pre, blocks_read, reads_once}
 use proofs.PairLemmas.{blocks_joined, joined_by_blocks}
 use specs.declared.key_order.Side.TheVariants as sides

@@ -1,9 +1,7 @@
--- `write_pair_entries`: each iteration writes the pair with the next line of the group, whose slot exists
--- (`ends_within`). A write that fails leaves a prefix of the pairs.
+-- Each iteration writes the pair with the next line of the group. A write that fails leaves a prefix of the pairs.
 use Rattle.ptmerge.proofs
 use Rattle.std.proofs.Common.{◌++◌, ◌+◌, ◌<◌, ◌≤◌, ◌≡◌, ◌==◌, Bool, true, false, [], ◌∷◌, List, ℕ, ap, arith, sym, map}
-use Rattle.std.proofs.Common.{⊎_elim, if◌then◌else◌}
-use Rattle.std.proofs.Common.{Ok, subst}
+use Rattle.std.proofs.Common.{⊎_elim, if◌then◌else◌, Ok, subst}
 use proofs.Common.{lines_of_slots, join_job, pair_entries, unlines, usual}
 use Rattle.ptmerge.specs.Private.Write.{WriteBytesPost}
 use Rattle.ptlines.specs.declared.out.WriteFault.{WriteFault}

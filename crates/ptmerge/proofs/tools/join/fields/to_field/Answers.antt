@@ -2,7 +2,6 @@
 use Rattle.ptmerge.proofs
 use Rattle.ptlines.proofs.MatchWindows.{few_from_start, nth_from_start}
 use Rattle.std.proofs.Common.{arith}
-use Rattle.memchr.specs.Find.{is_byte}
 use proofs.JoinLemmas.FieldMasks.{fields_after_nth, no_field_after}
 use proofs.tools.join.fields.to_field.Goals as goal
 

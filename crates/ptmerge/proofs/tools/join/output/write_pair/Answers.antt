@@ -1,4 +1,4 @@
--- Lines that are written as they are in them are the key and their other fields, so the first one is written unchanged.
+-- The first line is its key and its other fields, so it is written unchanged.
 use Rattle.ptmerge.proofs
 use proofs.Common.{join_job}
 use proofs.JoinLemmas.Fields.{pair_is}

@@ -1,5 +1,4 @@
--- `write_alone`: a canonical line is its key and its other fields, so it is written unchanged. Any other is written by
--- `write_entry`.
+-- A canonical line is its key and its other fields, so it is written unchanged.
 use Rattle.ptmerge.proofs
 use proofs.Common.{ap, join_job}
 use proofs.JoinLemmas.Fields.{alone_is, one_line_is}

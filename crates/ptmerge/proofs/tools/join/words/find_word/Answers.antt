@@ -1,5 +1,4 @@
--- `find_word`: if no bit is left after the loop, the line has too few words. The mask of those that are left is less
--- than 2^63, as `after_first_run` requires.
+-- If no bit is left after the loop, the line has too few words.
 use Rattle.ptmerge.proofs
 use proofs.Common.{arith, rules}
 use proofs.JoinLemmas.FieldMasks.{none_left, words_small}

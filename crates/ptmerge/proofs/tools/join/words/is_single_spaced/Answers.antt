@@ -1,5 +1,5 @@
--- If a blank among the next 64 bytes is misplaced, the line is not single-spaced. Otherwise the rest of the line
--- decides, with whether the last of these bytes is a space.
+-- If no blank among the next 64 bytes is misplaced, the rest of the line decides, with whether the last of these bytes
+-- is a space.
 use Rattle.ptmerge.proofs
 use proofs.Common.{◌==◌, ◌∙◌, ◌+◌, ◌^◌, ◌≤◌, ◌-◌, ◌<◌, length, ap, arith, drop, is_single_spaced, length-drop, sym}
 use Rattle.std.proofs.Common.{◌/◌, take}

@@ -1,4 +1,4 @@
--- The loop of `Group::clear`: before it nothing is emptied, and each iteration empties the next slot of the group.
+-- Each iteration empties the next slot of the group.
 use Rattle.ptmerge.proofs
 use Rattle.std.proofs.Common.{arith, rules}
 use proofs.JoinLemmas.Group.{clears_more, clears_none}

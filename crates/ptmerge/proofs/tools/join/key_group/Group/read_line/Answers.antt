@@ -1,5 +1,4 @@
--- After `Group::read_line` has copied a line, both inputs are ready for the next call, since the copy changes only
--- slots from 4 on.
+-- Both inputs are ready for the next call, since the copy changes only slots from 4 on.
 use Rattle.ptmerge.proofs
 use proofs.MergeLemmas.{copied_continues}
 use proofs.tools.join.key_group.Group.read_line.Goals as goal
