@@ -29,7 +29,7 @@ cond_of_empty = grind arith
 module _ (job : Join) (cmp : Cmp) (key : Side → Key) where
   first_alone : (k : List ℕ) (g : Lines) → join_entries job k g [] ≡ unpaired_entries1 job k g
   first_alone k [] = grind arith
-  first_alone k (a ∷ g) = refl
+  first_alone k _ = refl
 
   pub join_opens : {first second : Reader} {out : Output} {store : Slots} → IsKeyOrder cmp
       → MergeRunPre job.terminator first second out store
@@ -111,7 +111,7 @@ module _ {job : Join} {cmp : Cmp} {key : Side → Key} {old : MergeState}
   iteration_continues s {one2} {two2} continues here = record {
     w = t.w;
     keys = t.keys;
-    here = rw (← place_is s one two one2 two2 continues.others) here;
+    here = rw (← place_is s one two _ _ continues.others) here;
     between = between_next t.between s continues;
   }
 
@@ -202,7 +202,7 @@ module _ {job : Join} {cmp : Cmp} {key : Side → Key} {old now : MergeState} {o
   read_group_in = end_in a.q
 
   pub read_group_pre : AdvancePre key Second one two (now.reader Second) now.store
-  read_group_pre = advance_pre t.between Second (a.heads Second).head
+  read_group_pre = advance_pre t.between _ (a.heads Second).head
 
   pub read_group_less : {one2 two2 : Sorted} {reader : Reader} {made after : Slots} {out : Output}
       → NextOkPost (key Second) cmp two two2 (now.reader Second) reader now.store made
@@ -295,7 +295,7 @@ module _ {job : Join} {cmp : Cmp} {key : Side → Key} {old now : MergeState} {o
       read_group_continues same =
           let r = grown_group h.came h.kept in
           let (head, has_key) = continues_key (a.heads Second) h.came same in
-          iteration_continues t Second continues (record {
+          iteration_continues t _ continues (record {
             k = a.k;
             g = grown;
             kept = r.kept;
@@ -311,14 +311,14 @@ module _ {job : Join} {cmp : Cmp} {key : Side → Key} {old now : MergeState} {o
           (state_after_read now Second reader out after) one2 two2
       write_pairs_next same =
           let r = grown_group h.came h.kept in
-          iteration_continues t Second continues (record {
+          iteration_continues t _ continues (record {
             k = a.k;
             g = both [] grown;
             kept = r.kept;
             q = r.q;
             lines_in = r.lines_in;
             some = omega (arith, length_push a.g y);
-            above = is_past r.q Second
+            above = is_past r.q _
                 (λ e has. leaves_key (a.heads Second) h.came same e (rw (stays h.came after r.same) at has));
             head = record { head = (a.heads First).head; is = key1_on h.came after r.same };
           })
@@ -377,7 +377,7 @@ module _ {job : Join} {cmp : Cmp} {key : Side → Key} {old now : MergeState} {o
   writing = join_call job cmp key t.w
 
   pub write_pairs_pre : WriteThenAdvancePre (join_tool job) key First one two (now.reader First) now.store now.out
-  write_pairs_pre = write_pre t First state.head.head
+  write_pairs_pre = write_pre t _ state.head.head
 
   pub write_pairs_less : {one2 two2 : Sorted} {reader : Reader} {after : Slots} {new : Output}
       → AdvanceOkPost key cmp First one two one2 two2 (now.reader First) reader now.store after new
@@ -407,8 +407,8 @@ module _ {job : Join} {cmp : Cmp} {key : Side → Key} {old now : MergeState} {o
     keyed = λ slot from low. sym (t.keys Second (line now.store slot)) ∙ ⊎_elim (λ same.
         let first = rw (is_kept same) at from in
         let last = rw (is_kept same) at low in
-        rw (kept_line state.q.keeps slot first (omega (arith, state.q.at))) (EachKey-at _ _
-        state.kept (slot - 4) (omega (arith, state.q.at)) (rw (← same) at (state.q.within.own Second))))
+        rw (kept_line state.q.keeps _ first (omega (arith, state.q.at))) (EachKey-at _ _
+        _ _ (omega (arith, state.q.at)) (rw (← same) at (state.q.within.own Second))))
         (λ h. let is : slot ≡ two.previous_slot = omega
         (arith, rw (is_alone h.none) at from, rw (is_alone h.none) at low) in rw is h.own) state.lines_in
         ∙ sym state.head.is;
@@ -444,7 +444,7 @@ module _ {job : Join} {cmp : Cmp} {key : Side → Key} {old now : MergeState} {o
 
       pub write_pairs_continues : one2.same ≡ true
           → IterationInvariant job cmp key old (WritePairs end) (state_after_read now First reader new after) one2 two2
-      write_pairs_continues same = iteration_continues t First h.continues (record {
+      write_pairs_continues same = iteration_continues t _ h.continues (record {
         k = state.k;
         g = with_added_line now (both one two) First state.g;
         kept = state.kept;

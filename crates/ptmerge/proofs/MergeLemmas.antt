@@ -27,7 +27,7 @@ current_key_is_above cmp o key x Head cursor store now ls p b before line_is =
     let above = is_greater _ before in
     rw line_is.bound (search (rules, Each-weaker, at_most_trans, greater_flips cmp o, less_flips cmp o))
 current_key_is_above cmp o key x Ended cursor store now ls p b before (bound, _) = grind arith
-current_key_is_above cmp o key x (Disorder n) cursor store now ls p b before st = grind arith
+current_key_is_above cmp o key x _ _ _ now ls p b before st = grind arith
 
 -- ---- one line
 
@@ -130,7 +130,7 @@ module _ {tool : MergeTool} {old : MergeState} (w : IsOpenMerge tool old) (now :
       omega (arith, next.fits all (λ side. extends_itself _))) (order new f.piece f.line)
       (put_each (λ side (r : Reader). r.failed ≡ true → IsFailedRead r (ls side) (p side)) s new _
       (grind (arith, f, w.unfailed s)) (λ side fail. cc ((facts side).lines_read.advance_ok.failed, w.unfailed side)))
-      (Err fault) (grind (arith, w.unfailed, put_same, side_case, put_other, e))
+      _ (grind (arith, w.unfailed, put_same, side_case, put_other, e))
 
 -- ---- between two steps
 
@@ -242,7 +242,7 @@ module _ {tool : MergeTool} {old : MergeState} {w : IsOpenMerge tool old} {now :
       let (above, _) = current_key_is_above _ w.o _ _ _ _ _ _ _ _ _ (grind (arith, is_greater, dec.named)) st in
       rw (named_is _ w.o _ s d _ _ _ _ _ _ _ dec.named st (λ side. first_disorder cmp (key side) (l side))
       (rw disordered at (f s)) (f (other s))) (
-        none_wanted tool (λ k. is_le (cmp k d.last_key)) r (side_case _ s (rw (rw disordered at (c s)) tt)
+        none_wanted tool _ r (side_case _ s (rw (rw disordered at (c s)) tt)
             (Each-weaker _ _ (λ k h. ap is_le h) _ (above _ (c (other s))))),
         refl,
       )
@@ -319,7 +319,7 @@ reads_ahead reader one two =
 
 pub place_is : (s : Side) (one two one2 two2 : Sorted) → both one2 two2 (other s) ≡ both one two (other s)
     → with_side s (both one2 two2 s) (both one two) ≡ both one2 two2
-place_is s one two one2 two2 same = grind arith
+place_is s one two _ _ same = grind arith
 
 pub record BetweenSteps (key : Side → Key) (now : MergeState) (one two : Sorted) : Type 0 where
   pub valid_cursors : AreValidCursors key one two now.store
@@ -343,7 +343,7 @@ module _ {key : Side → Key} {now : MergeState} {one two : Sorted} (t : Between
 -- writing out the buffer does not change what was pushed
 pub wrote_and_sent : (was mid is : Output) (pushed : List ℕ) → mid.write_failed ≡ false → PushEffect was mid pushed
     → PushEffect mid is [] → PushEffect was is pushed
-wrote_and_sent was mid is pushed clean wrote written_out =
+wrote_and_sent was mid is _ clean wrote written_out =
     rw append-nil at (push_trans was mid is _ [] clean wrote written_out)
 
 -- ---- keys in slots
@@ -423,7 +423,7 @@ module _ {tool : MergeTool} {old : MergeState} (w : IsOpenMerge tool old) where
   first_line : (side : Side) {new : Reader} {cursor : Sorted} {before after : Slots} → 4 ≤ length before.lines
       → NextOkPost (key side) cmp (initial_cursor side) cursor (old.reader side) new before after
       → SideAfterNext tool side (old.reader side) new cursor (base_slot side) before after [] None
-  first_line side four comes = next_invariant tool w.o side _ _ _ _ _ _ _ _ (fresh_slots side) four (none_read _)
+  first_line side four comes = next_invariant tool w.o side _ _ _ _ _ _ _ _ (fresh_slots _) four (none_read _)
       refl (grind (arith, sorted_prefix_is, first_disorder_is)) refl comes
 
   abbrev no_lines : Side → Lines

@@ -34,7 +34,7 @@ kept_parts p key (x ∷ xs) ys (here, more) f = search (rules, kept_parts p key 
 
 key_split : (tool : MergeTool) (P : List ℕ → Type 0) (ls : Side → Lines) → Each P (keys tool ls) → (side : Side)
     → EachKey P (tool.key side) (ls side)
-key_split tool P ls e = let (first, second) = Each-parts P (map (tool.key First) (ls First)) _ e in
+key_split _ P ls e = let (first, second) = Each-parts P _ _ e in
     elim [ First ↦ first | Second ↦ second ]
 
 -- the key is below all of these
@@ -65,7 +65,7 @@ module _ (cmp : Cmp) (o : IsKeyOrder cmp) (key : Key) where
   -- only the line number depends on the number of lines before
   uncounted : (last : Option (List ℕ)) (n m : ℕ) (ys : Lines)
       → without_line_number (disorder_after cmp key last n ys) ≡ without_line_number (disorder_after cmp key last m ys)
-  uncounted last n m [] = refl
+  uncounted _ n m [] = refl
   uncounted last n m (y ∷ ys) = grind (arith, uncounted (Some (key y)) (n + 1) (m + 1) ys)
 
   -- A list appended to a sorted list with keys of at most its own has its own disorder.
@@ -74,8 +74,8 @@ module _ (cmp : Cmp) (o : IsKeyOrder cmp) (key : Key) where
       → (sorted_after cmp key last (xs ++ ys) ≡ xs ++ sorted_after cmp key None ys)
       × (without_line_number (disorder_after cmp key last n (xs ++ ys))
       ≡ without_line_number (disorder_after cmp key None 0 ys))
-  appended last n [] [] e h b = grind arith
-  appended last n [] (y ∷ ys) e (here, _) b = grind (arith, uncounted)
+  appended _ n [] [] e h b = grind arith
+  appended _ n [] (y ∷ ys) e (here, _) b = grind (arith, uncounted)
   appended last n (x ∷ xs) ys (here, more) h (below, below_all) =
       grind (arith, appended (Some (key x)) (n + 1) xs ys more below below_all)
 
@@ -83,7 +83,7 @@ module _ (cmp : Cmp) (o : IsKeyOrder cmp) (key : Key) where
       → (sorted_prefix cmp key (xs ++ ys) ≡ xs ++ sorted_prefix cmp key ys)
       × (without_line_number (first_disorder cmp key (xs ++ ys)) ≡ without_line_number (first_disorder cmp key ys))
   together xs ys e b =
-      let all = appended _ 0 xs ys (sorted_from_none cmp key xs e) (Each-all _ (λ k. refl) (map key ys)) b in
+      let all = appended _ 0 xs ys (sorted_from_none cmp key xs e) (Each-all _ (λ k. refl) _) b in
       grind (arith, all, first_disorder_is, sorted_prefix_is)
 
   each_ordered : (P : List ℕ → Type 0) (ys : Lines) → EachKey P key ys → EachKey P key (sorted_prefix cmp key ys)
@@ -94,12 +94,12 @@ module _ (cmp : Cmp) (o : IsKeyOrder cmp) (key : Key) where
   from_below : (k : List ℕ) (ys : Lines) → EachKey (AtMost cmp k) key ys
       → IsDisorderFrom cmp k (first_disorder cmp key ys)
   from_below k [] e = tt
-  from_below k (y ∷ ys) (here, _) = rw (first_disorder_is cmp key _) (grind (arith, after_from))
+  from_below k _ (here, _) = rw (first_disorder_is cmp key _) (grind (arith, after_from))
 
   kept_after : (p : List ℕ → Bool) (last from : Option (List ℕ)) (xs : Lines)
       → ((k : List ℕ) → is_disordered cmp last k ≡ false → is_disordered cmp from k ≡ false)
       → IsSortedFrom cmp key last xs → IsSortedFrom cmp key from (filter p xs)
-  kept_after p last from [] up s = tt
+  kept_after p _ _ [] up s = tt
   kept_after p last from (x ∷ xs) up (here, more) =
       let left_out = kept_after p (Some (key x)) from xs (λ k g. grind (arith, at_most_trans, g)) more in
       grind (arith, kept_after p (Some (key x)) (Some (key x)) xs (λ k g. g) more)
@@ -178,7 +178,7 @@ join_of_parts = search (rules, of_parts, line_order)
 module _ {A : Type 0} where
   changed : (u v w : List A) → IsPermutation (u ++ (v ++ w)) (v ++ (u ++ w))
   changed u v w = rw (← append_assoc u v w, ← append_assoc v u w)
-      (IsPermutation-append_left w (u ++ v) (v ++ u) (IsPermutation-append_comm u v))
+      (IsPermutation-append_left w _ _ (IsPermutation-append_comm u v))
 
   of_some : (f : List ℕ → List A) (p q : List ℕ → Bool) → ((k : List ℕ) → q k ≡ true → p k ≡ true) → (ks : Lines)
       → IsPermutation (flat_map f (filter p ks))
@@ -197,7 +197,7 @@ module _ {A : Type 0} where
       (flat_map (λ i. flat_map f (filter (λ k. part_of k == i) ks)) (range_with_len a n))
   of_each f part_of w a zero h [] = IsPermutation-refl []
   of_each f part_of w a zero h (k ∷ ks) = let out : w k ≡ false = grind (arith, nat_tests, h k) in
-      rw out (of_each f part_of w a zero h ks)
+      rw out (of_each f _ w a _ h ks)
   of_each f part_of w a (suc n) h ks =
       IsPermutation-trans _ _ _ (of_some f w (λ k. part_of k == a) (λ k here. grind (arith, nat_tests, h k, here)) ks)
       (IsPermutation-append_right _ _ _ (of_each f part_of (λ k. w k && not (part_of k == a)) (a + 1) n
@@ -214,7 +214,7 @@ lines_of_each end f ks (e ∷ es) = search (rules, the_lines_of_parts, lines_of_
 
 lines_dealt : (end : ℕ) (q : List ℕ → Bool) (bytes : List ℕ)
     → lines end (unlines end (filter q (lines end bytes))) ≡ filter q (lines end bytes)
-lines_dealt end q bytes = lines-unlines end _
+lines_dealt end q _ = lines-unlines end _
     (recursion_from_All _ _ (All-filter q (IsLine end) _ (grind (usual, lines_are))))
 
 split_by_key : (tool : MergeTool) → IsKeyOrder tool.cmp → IsSplittableByKey tool

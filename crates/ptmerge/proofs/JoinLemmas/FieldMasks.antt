@@ -37,7 +37,7 @@ and_bits b c x y = grind (arith, and_step (bit b + 2 * x) (bit c + 2 * y), halve
 no_misplaced : (blank : Bool) (bytes : List ℕ) → cond (eqb (mask_l (map (is_byte 9) bytes)) 0)
     (eqb (bit_and (mask_l (map (is_byte 32) bytes)) (bit blank + 2 * mask_l (map (is_byte 32) bytes))) 0) false
     ≡ has_single_spaces blank bytes
-no_misplaced blank [] = cc
+no_misplaced _ [] = cc
 no_misplaced blank (b ∷ bytes) = grind (arith, and_bits, no_misplaced (b == 32) bytes)
 
 pub single_spaces_is : (spaces tabs before : ℕ) (bytes : List ℕ) → before ≤ 1 → length bytes ≤ 64
@@ -68,7 +68,7 @@ power_fits = search (rules, pow-lt)
 
 end_bit : (test : ℕ → Bool) (bytes : List ℕ)
     → mask_l (map test (bytes ++ 32 ∷ [])) ≡ mask_l (map test bytes) + cond (test 32) (2 ^ length bytes) 0
-end_bit test [] = grind arith
+end_bit _ [] = grind arith
 end_bit test (b ∷ bytes) = grind (arith, end_bit test bytes)
 
 spaced_to_end : (blank : Bool) (bytes : List ℕ)
@@ -94,20 +94,20 @@ last_blank blank (b ∷ bytes) = last_blank (b == 32) bytes
 
 spaced_append : (blank : Bool) (v back : List ℕ) → is_single_spaced blank (v ++ back) ≡ cond
     (has_single_spaces blank v) (is_single_spaced (last_blank blank v) back) false
-spaced_append blank [] back = refl
+spaced_append _ [] back = refl
 spaced_append blank (b ∷ v) back = grind (arith, spaced_append (b == 32) v back)
 
 pub top_bit : (n : ℕ) (blank : Bool) (v : List ℕ) → length v ≡ suc n
     → mask_l (map (is_byte 32) v) / 2 ^ n ≡ bit (last_blank blank v)
-top_bit n blank [] size = absurd (omega arith)
+top_bit n _ [] size = absurd (omega arith)
 top_bit zero blank (b ∷ []) size = grind arith
 top_bit zero blank (b ∷ c ∷ v) size = absurd (omega arith)
 top_bit (suc n) blank (b ∷ v) size =
     let m = mask_l (map (is_byte 32) v) in
     let twice : 2 ^ suc n ≡ 2 * 2 ^ n = omega arith in
     cc (
-      top_bit n (b == 32) v (omega arith),
-      (halves (b == 32) m).0,
+      top_bit n _ v (omega arith),
+      (halves _ m).0,
       div-div-eq-div-mul (bit (b == 32) + 2 * m) 2 (2 ^ n),
     )
 
@@ -188,7 +188,7 @@ length-after_run (b ∷ bits) = grind (arith, length-after_ones bits, length-aft
 
 lowest : (bits : List Bool) → length bits ≤ 64 → 0 < mask_l bits
     → count_trailing_zeros 64 (mask_l bits) ≡ prefix_len not bits
-lowest bits few some = cc (map-id bits, trailing_mask_l (λ b. b) 64 bits few (rw (map-id bits) some))
+lowest bits few some = cc (map-id bits, trailing_mask_l (λ b. b) 64 _ few (rw (map-id bits) some))
 
 -- ---- a word is a run of bytes that are no blanks
 
@@ -263,7 +263,7 @@ word_at zero (b ∷ v) low some =
       is = rw (size, split_byte b v e, w.split, w.words);
       rest = search w.rest;
       spaced = λ blank s. w.spaced (grind (arith, s));
-    })) (cases_Bool (is_blank b))
+    })) (cases_Bool _)
 
 no_words : (at : ℕ) (v : List ℕ) → mask_l (from at v) ≡ 0 → join_fields None (drop at v) ≡ []
 no_words zero [] none = refl
@@ -331,7 +331,7 @@ module _ {line : List ℕ} {passed words : ℕ} (short : length line < 64) (left
 
     pub word_found : (number : ℕ) → passed ≡ number - 1 → IsFieldAt None number line
         (record { start = count_trailing_zeros 64 words; end = count_trailing_zeros 64 after })
-    word_found number is = let w = first_word in
+    word_found _ is = let w = first_word in
         rw (start_is, end_is) (record {
           more = join_fields None (drop (prefix_len not (after_run bits)) line);
           is = cc w.is;
@@ -347,7 +347,7 @@ pub ruleset word_steps = (any_fits, words_start, word_passed, none_left, word_fo
 onto_first_drop : (b m : ℕ) (pieces : Lines) → drop (suc m) (onto_first b pieces) ≡ drop (suc m) pieces
 onto_first_drop b zero [] = refl
 onto_first_drop b (suc m) [] = refl
-onto_first_drop b m (piece ∷ pieces) = refl
+onto_first_drop b m _ = refl
 
 byte_passed : (b k m : ℕ) (pieces rest : Lines) → drop (suc (m + k)) pieces ≡ rest → (ends : Bool)
     → drop (suc (m + (cond ends 1 0 + k))) (cond ends ([] ∷ pieces) (onto_first b pieces)) ≡ rest

@@ -98,7 +98,7 @@ module _ {was now new : Output} {all next pushed : List ℕ} (row left piece res
   pub piece_added : (now.write_failed ≡ false → new.write_failed ≡ false) → PartialWrite was new all (left ++ rest)
   piece_added clean = record {
     done = a.done ++ pushed;
-    split = a.split ∙ ap (λ l. a.done ++ l) (row_whole row left piece rest next pushed is split)
+    split = a.split ∙ ap (λ l. a.done ++ l) (row_whole row _ _ _ _ _ is split)
         ∙ sym (append_assoc a.done pushed (left ++ rest));
     wrote = wrote_then a.clean a.wrote wrote;
     clean = λ fine. clean (a.clean fine);
@@ -107,7 +107,7 @@ module _ {was now new : Output} {all next pushed : List ℕ} (row left piece res
   pub piece_fails : new.write_failed ≡ true → {E : Type 0} {r : Result (Unit {0}) E} (P : E → Type 0) → IsErrAnd r P
       → WriteBytesPost was new all r
   piece_fails fault P err_is =
-      partial_fails P err_is (left ++ rest) (row_whole row left piece rest next pushed is split) a wrote fault
+      partial_fails P err_is (left ++ rest) (row_whole row _ _ _ _ _ is split) a wrote fault
 
 pub first_piece_fails : {was new : Output} {all pushed : List ℕ} (row left piece rest : List ℕ) → row ≡ []
     → all ≡ piece ++ rest → row ++ piece ≡ pushed ++ left → PushEffect was new pushed → new.write_failed ≡ true
@@ -131,7 +131,7 @@ pub first_is_position : (test : ℕ → Bool) (bytes : List ℕ) (r : Option ℕ
     → r ≡ position test bytes
 first_is_position test bytes None none =
     grind (arith, (position_or_len_is test bytes (length bytes) 0), none, nat_tests)
-first_is_position test bytes (Some at) (range, found) = grind (arith, position_or_len_is)
+first_is_position _ _ _ (range, found) = grind (arith, position_or_len_is)
 
 -- ---- the field with a number
 
@@ -139,7 +139,7 @@ pub none_past : (fs : Lines) (i n : ℕ) → drop i fs ≡ [] → i ≤ n → dr
 none_past fs i n none le = grind (arith, drop-drop (n - i) i fs)
 
 pub drop_next : (fs more : Lines) (f : List ℕ) (i : ℕ) → drop i fs ≡ f ∷ more → drop (i + 1) fs ≡ more
-drop_next fs more f i some = rw (← drop-drop 1 i fs, some)
+drop_next fs _ f i some = rw (← drop-drop 1 i fs, some)
 
 abbrev pub remaining_length : Option (List ℕ) → ℕ
 remaining_length None = 0
@@ -208,7 +208,7 @@ prefixed_fields c [] = refl
 prefixed_fields c (x ∷ xs) = search (rules, prefixed_fields c xs)
 
 join_is_prefixed : (byte : ℕ) (f : List ℕ) (fs : Lines) → join_with_byte byte (f ∷ fs) ≡ f ++ with_prefix byte fs
-join_is_prefixed byte f [] = sym (append-nil f)
+join_is_prefixed _ f [] = sym (append-nil f)
 join_is_prefixed byte f (g ∷ fs) = cc (join_is_prefixed byte g fs)
 
 -- ---- the other fields, after `count` of them
@@ -256,7 +256,7 @@ WordsAre false bytes = (c : ℕ) → words_of (onto_first c (slice_split is_blan
 
 word_more : (c b : ℕ) (split : Lines) {l : List ℕ} → words_of (onto_first b split) ≡ 32 ∷ b ∷ l
     → words_of (onto_first c (onto_first b split)) ≡ 32 ∷ c ∷ b ∷ l
-word_more c b split is = grind arith
+word_more c b _ is = grind arith
 
 pub single_spaced_words : (blank : Bool) (bytes : List ℕ) → is_single_spaced blank bytes ≡ true → WordsAre blank bytes
 single_spaced_words true [] tidy = cc
@@ -291,23 +291,23 @@ second_is job key {line} w keyed = grind (arith, entry_plain job key None (Some 
 pub alone_is : (job : Join) (key : List ℕ) (side : Side) {line : List ℕ} → IsUnchanged job side line
     → join_key job side line ≡ key → line ≡ entry_alone job side key line
 alone_is job key First w keyed = first_is job key w keyed
-alone_is job key Second w keyed = second_is job key w keyed
+alone_is job key _ w keyed = second_is job key w keyed
 
 pub one_line_is : {job same : Join} {key k : List ℕ} (side : Side) (line : List ℕ) (one two : Option (List ℕ))
     → same ≡ job → k ≡ key → HasOneLine side line one two
     → entry_with_list same same.list k one two ≡ entry_alone job side key line
 one_line_is First line one two jobs keys is = rw (jobs, keys, is.0, is.1)
-one_line_is Second line one two jobs keys is = rw (jobs, keys, is.0, is.1)
+one_line_is _ _ one two jobs keys is = rw (jobs, keys, is.0, is.1)
 
 -- ---- blanks
 
 pub space_is : (blank : Bool) (b : ℕ) (v : List ℕ) → is_blank b ≡ true → is_single_spaced blank (b ∷ v) ≡ true
     → (b ≡ 32) × (is_single_spaced true v ≡ true)
-space_is blank b v here spaced = grind (arith, here, spaced)
+space_is _ b v here spaced = grind (arith, here, spaced)
 
 spaced_suffix : (blank : Bool) (xs : List ℕ) (b : ℕ) (ys : List ℕ) → is_single_spaced blank (xs ++ b ∷ ys) ≡ true
     → is_blank b ≡ true → (b ≡ 32) × (is_single_spaced true ys ≡ true)
-spaced_suffix blank [] b ys s here = space_is _ b ys here s
+spaced_suffix _ [] b ys s here = space_is _ b ys here s
 spaced_suffix blank (x ∷ xs) b ys s here = grind (arith, spaced_suffix (x == 32) xs b ys)
 
 -- ---- the bytes before a field and after it
@@ -348,7 +348,7 @@ remove_at (g ∷ fs) (suc i) f more is = cc (remove_at fs i f _ is)
 cut_before : (c : ℕ) (before more line : List ℕ) → before ++ (c ∷ more) ≡ c ∷ line → (rest : List ℕ)
     → before ++ rest ≡ cond (length before == 0) rest (c ∷ take (length before - 1) line ++ rest)
 cut_before c [] more line is rest = refl
-cut_before c (x ∷ before) more line is rest = grind usual
+cut_before c _ _ _ is _ = grind usual
 
 -- without a field: the bytes before it, except the separator, and those after it
 pub around_is : (separator : Option ℕ) (number : ℕ) (line : List ℕ) (found : Option Span)

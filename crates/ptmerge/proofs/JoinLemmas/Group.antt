@@ -185,11 +185,11 @@ module _ {tool : MergeTool} {before store : Slots} {ls : Side → Lines} {g : Li
   pub group_store_copied : {after : Slots} {from to : ℕ} → to ≡ 4 + length g → from < 4
       → CopyToGroupPost store after from to → {y : List ℕ} → line store from ≡ y
       → ((all : Side → Lines) → AllExtend ls all → HasRoom tool (g ++ y ∷ []) all) → CopiedLine after y
-  group_store_copied {after} {from} {to} at low e {y} is largest = let w = ensured_slot store e.made to e.grown in
-      rw (e.copied, made_same w from low, is) (kept w y at e.grown.within largest)
+  group_store_copied {after} {from} {to} at low e {y} is largest = let w = ensured_slot _ _ to e.grown in
+      rw (e.copied, made_same w _ low, is) (kept w y at e.grown.within largest)
 
   pub kept_line : (slot : ℕ) → 4 ≤ slot → slot < 4 + length g → line store slot ≡ get_or g (slot - 4) []
-  kept_line slot from low = search (rules, k.split, get_or-append)
+  kept_line _ from low = search (rules, k.split, get_or-append)
 
   pub group_is : {end : ℕ} → end ≡ 4 + length g → lines_of_slots store 4 end ≡ g
   group_is at = grind (arith, take_at)
@@ -252,7 +252,7 @@ module _ {tool : MergeTool} {old : MergeState} (w : IsOpenMerge tool old) {mid :
     is_wanted = is_up_to cmp (disorder tool all)
 
     front_is_first : entries_by_key tool is_wanted p ≡ front
-    front_is_first = all_wanted tool is_wanted p (λ side. Each-weaker _ _ wanted _ (m.merge_invariant.under First side))
+    front_is_first = all_wanted tool _ p (λ side. Each-weaker _ _ wanted _ (m.merge_invariant.under First side))
 
     group_comes_first : {extra : Lines} → OutputStartsWith tool g d k extra → (rest : Lines)
         × (merged_entries tool all ≡ (front ++ extra) ++ rest)
@@ -278,9 +278,9 @@ module _ {tool : MergeTool} {old : MergeState} (w : IsOpenMerge tool old) {mid :
     wrote = m.merge_invariant.wrote;
     bytes = unlines terminator extra;
     more = wrote;
-    all = sym (unlines-append terminator front extra);
+    all = sym (unlines-append _ _ _);
     split = λ side. refl;
-    under = λ of side. Each-weaker _ _ (m.later of).under _ (passed_keys of side);
+    under = λ of side. Each-weaker _ _ (m.later of).under _ (passed_keys of _);
     under_bound = passed_keys;
     may_follow = rest_not_less;
     first = λ all seen. group_comes_first all seen begins;
@@ -333,7 +333,7 @@ module _ (call : JoinCall) {mid : Output} {p g : Side → Lines} {d : Side → B
   -- the pairs of a group come first, for all lines of its key that the first input still has
   starts_pairs : (f c s : Lines) → 0 < length s → (rest : Lines) × (entries k (f ++ c) s ≡ pairs k f s ++ rest)
   starts_pairs [] c s some = (entries k c s, rw (laws.none k s))
-  starts_pairs (a ∷ f) c s some = (pairs k c s, grind arith)
+  starts_pairs _ c s some = (pairs k c s, grind arith)
 
   pub starts_none : OutputStartsWith tool g d k []
   starts_none = record { rest = λ w r c wanted. (entries_by_key tool w (λ side. g side ++ r side), refl) }
@@ -342,7 +342,7 @@ module _ (call : JoinCall) {mid : Output} {p g : Side → Lines} {d : Side → B
       → OutputStartsWith tool g d k (pairs k (g First) (g Second))
   starts some above = record {
     rest = λ w r c wanted.
-        let none = lines_with_key-above tool o (key Second) k (r Second) (above (r Second) (c Second)) in
+        let none = lines_with_key-above tool o _ k _ (above (r Second) (c Second)) in
         let (rest, is) = starts_pairs (g First) (lines_with_key (key First) (r First) k) (g Second) some in (
           rest ++ later_entries tool o w k (call.w.alone.none k) r,
           front_is tool o w k (call.w.alone.none k) g r m.own (none_less r c)

@@ -39,13 +39,13 @@ use Rattle.ptlines.specs.declared.sizes.TheConstants.{BLOCK}
 
 sorted_from_after : (cmp : Cmp) (key : Key) (last : Option (List ℕ)) (ls : Lines)
     → IsSortedFrom cmp key last (sorted_after cmp key last ls)
-sorted_from_after cmp key last [] = tt
+sorted_from_after cmp key _ [] = tt
 sorted_from_after cmp key last (x ∷ ls) = grind (arith, sorted_from_after cmp key (Some (key x)) ls)
 
 sorted_from_parts : (cmp : Cmp) (key : Key) (last : Option (List ℕ)) (xs ys : Lines)
     → IsSortedFrom cmp key last (xs ++ ys) → IsSortedFrom cmp key last xs
     × IsSortedFrom cmp key (last_or last (map key xs)) ys
-sorted_from_parts cmp key last [] ys r = (tt, r)
+sorted_from_parts cmp key _ [] ys r = (tt, r)
 sorted_from_parts cmp key last (x ∷ xs) ys (here, more) = grind (arith, sorted_from_parts cmp key _ xs ys more)
 
 module _ (cmp : Cmp) (o : IsKeyOrder cmp) (key : Key) where
@@ -55,7 +55,7 @@ module _ (cmp : Cmp) (o : IsKeyOrder cmp) (key : Key) where
       let (_, rest) = sorted_from_parts cmp key _ xs ys r in by _ rest
     where
       by : (l : Option (List ℕ)) → IsSortedFrom cmp key l ys → EachKey (λ k. is_below cmp k l ≡ false) key ys
-      by None h = Each-all _ (λ k. refl) (map key ys)
+      by None h = Each-all _ (λ k. refl) _
       by (Some x) h = Each-weaker _ _ (λ k a. not_below cmp o k x a) _ (from_key cmp o key x ys h)
 
 -- ---- the bytes received
@@ -195,7 +195,7 @@ module _ (tool : MergeTool) (o : IsKeyOrder tool.cmp) (eof : Side → Bool) (ls 
 -- ---- the output decided two blocks earlier
 
 front_has : (P : List ℕ → Type 0) (key : Key) (xs ys : Lines) → EachKey P key (xs ++ ys) → EachKey P key xs
-front_has P key xs ys e = let (front, _) = Each-parts P (map key xs) (map key ys) (rw map-append at e) in front
+front_has P key xs ys e = let (front, _) = Each-parts P _ _ (rw map-append at e) in front
 
 -- `q` are the processed lines; the output for the first of them is complete, and the rest of `q` follows it
 module _ {tool : MergeTool} (o : IsKeyOrder tool.cmp) (given : Side → Received) {b : Side → Bound} {q : Side → Lines}
@@ -397,7 +397,7 @@ module _ (tool : MergeTool) (o : IsKeyOrder tool.cmp) (s : Side) (old now new : 
         → IsProcessedPrefix cmp own (ls ++ e.line ∷ []) ls b
         → MatchesStatus cmp own status (next_cursor status (cursor.number + 1) same) after new (ls ++ e.line ∷ []) ls b
         → IsLater cmp own (bound_after last) b → Goal last (next_cursor status (cursor.number + 1) same)
-    at_status last status b processed status_is later =
+    at_status _ _ b processed status_is later =
         at_next _ _ _ _ _ _ b (lines_read_more lines_read e)
         (inr (omega (arith, length_push ls e.line))) sound (inr (e.line, refl, refl))
         (omega (arith, length_push ls e.line)) processed status_is later e.stored
@@ -421,7 +421,7 @@ module _ (tool : MergeTool) (o : IsKeyOrder tool.cmp) (s : Side) (old now new : 
       → IsSortedUpTo cmp own ls last → IsLastKey own last cursor before
       → NextOkPost own cmp cursor next now new before after → Goal last next
   next_invariant {last} lines_read number sorted_up_to is (inl e) =
-      rw (e.cursor, status_after_next cmp own last cursor before e.next_line.line is)
+      rw (e.cursor, status_after_next cmp own _ _ _ _ is)
       (at_line e.next_line e.sound lines_read number _ _ sorted_up_to is _ refl)
   next_invariant lines_read number sorted_up_to is (inr e) =
       rw e.cursor (at_next _ [] [] Ended cursor.number false NothingMore (search rules) (inl e.done) e.sound
@@ -434,7 +434,7 @@ pub group_store_next : {tool : MergeTool} {before store after : Slots} {ls : Sid
     → GroupStore tool before store ls g
     → (n : SideAfterNext tool s old new next cursor.previous_slot store after (ls s) last)
     → GroupStore tool before after (with_side s n.now_ls ls) g
-group_store_next s cursor slots k n = search (rules, group_store_line, side_extends, put_same)
+group_store_next s _ slots k n = search (rules, group_store_line, side_extends, put_same)
 
 -- ---- an exit
 
@@ -543,7 +543,7 @@ module _ {tool : MergeTool} {old : MergeState} (w : IsOpenMerge tool old) (new :
 
   pub continues : (texts : Side → List ℕ) → AreAllConsistent both_sides given texts → (side : Side)
       → Continues (now side) (ls side) (lines tool.terminator (texts side))
-  continues texts agree side = (input_lines _ agree _).continues
+  continues _ agree _ = (input_lines _ agree _).continues
 
   known : (side : Side) → KnownLines (g side).lines_read (g side).reads (g side).line
       (known_lines tool.terminator (given side))
@@ -585,9 +585,9 @@ module _ {tool : MergeTool} {old : MergeState} (w : IsOpenMerge tool old) (new :
           };
           going = f.eof;
           rest = [];
-          split = rw ((known side).exact f.buffered f.eof, f.all) (sym (append-nil (p side)));
+          split = rw ((known _).exact f.buffered f.eof, f.all) (sym (append-nil (p side)));
         } in
-        decided_by w.o given lag whole_input_split side point given refl refl
+        decided_by w.o given lag whole_input_split _ point given refl refl
 
     progress : Fits tool old.store now ls piece new.store
         → CallProgress both_sides (merge_engine tool) old new took (unlines tool.terminator done)
@@ -598,11 +598,11 @@ module _ {tool : MergeTool} {old : MergeState} (w : IsOpenMerge tool old) (new :
       writable = w.writable;
       wrote = rw lag.all at (push_trans _ _ _ _ _ lag.clean lag.wrote lag.more);
       is_prefix = λ texts agree.
-          let come = lag.first _ (input_split_of (lines_of tool texts) (continues texts agree)) in
+          let come = lag.first _ (input_split_of _ (continues _ agree)) in
           search (rules, unlines-append);
       -- everything was written that was decided two blocks of an input earlier
       bounded_lag = λ of read. rw lag.all at (bounded_lag_after _ _ old.out lag.mid _
-          (lag_bound w.o given lag whole_input_split of (backs of)) lag.wrote lag.clean new.out lag.bytes lag.more);
+          (lag_bound w.o given lag whole_input_split of (backs of)) lag.wrote lag.clean _ _ lag.more);
       peak = λ texts agree. (fits (lines_of tool texts) (input_lines _ agree)).0;
       slots = λ texts agree. (fits (lines_of tool texts) (input_lines _ agree)).1;
       least = omega (arith, has);
@@ -621,7 +621,7 @@ module _ {tool : MergeTool} {old : MergeState} (w : IsOpenMerge tool old) (new :
         → CallOutcome both_sides (merge_engine tool) old new given (unlines tool.terminator done) (merge_end result)
         → MergePost tool old new result
     unfolding call_ends
-    exit_is_merge_post fits order failed result ends = record {
+    exit_is_merge_post fits order failed _ ends = record {
       call = grind (arith, call_ends, progress, by);
       stops_at_disorder = λ of clean_then. unsettled w.o given lag whole_input_split of (backs of);
       first_reads = λ clean_then. record {

@@ -146,7 +146,7 @@ by_length cmp key last n part ls = if nat_lt (length part) (length ls) then Some
 
 by_length_is : (cmp : Cmp) (key : Key) (last : Option (List ℕ)) (n : ℕ) (ls : Lines)
     → by_length cmp key last n (sorted_after cmp key last ls) ls ≡ disorder_after cmp key last n ls
-by_length_is cmp key last n [] = refl
+by_length_is cmp key _ n [] = refl
 by_length_is cmp key last n (x ∷ w) = search (rules, by_length_is cmp key (Some (key x)) (n + 1) w)
 
 pub first_disorder_is : (cmp : Cmp) (key : Key) (ls : Lines)
@@ -155,7 +155,7 @@ first_disorder_is cmp key ls = grind (arith, sorted_prefix_is cmp key ls, by_len
 
 sorted_from_whole : (cmp : Cmp) (key : Key) (last : Option (List ℕ)) (n : ℕ) (ls : Lines) → IsSortedFrom cmp key last ls
     → (sorted_after cmp key last ls ≡ ls) × (disorder_after cmp key last n ls ≡ None)
-sorted_from_whole cmp key last n [] r = (refl, refl)
+sorted_from_whole cmp key _ n [] r = (refl, refl)
 sorted_from_whole cmp key last n (x ∷ ls) (here, more) =
     grind (arith, sorted_from_whole cmp key (Some (key x)) (n + 1) ls more)
 
@@ -165,7 +165,7 @@ sorted_from_start cmp key ls r = grind (arith, sorted_from_whole cmp key _ 0 ls 
 
 none_disordered : (cmp : Cmp) (key : Key) (last : Option (List ℕ)) (n : ℕ) (ls : Lines)
     → disorder_after cmp key last n ls ≡ None → IsSortedFrom cmp key last ls
-none_disordered cmp key last n [] e = tt
+none_disordered cmp key _ n [] e = tt
 none_disordered cmp key last n (x ∷ ls) e = grind (arith, none_disordered cmp key (Some (key x)) (n + 1) ls)
 
 module _ (cmp : Cmp) (o : IsKeyOrder cmp) (key : Key) where
@@ -196,7 +196,7 @@ after_from cmp o key k n (x ∷ w) =
     let ih = after_from cmp o key (key x) (n + 1) w in
     let (more, _) = ih in
     let weaker : is_gt _ ≡ false → EachKey (AtMost cmp k) key _ =
-    λ h. Each-weaker _ _ (λ y a. at_most_trans cmp o k (key x) y h a) _ more in
+    λ h. Each-weaker _ _ (λ y a. at_most_trans cmp o k _ y h a) _ more in
     grind (arith, weaker, at_most_trans)
 
 -- The lines that may follow in an input: any; those with keys of at least k; none, after a disorder; none, at its end.
@@ -375,7 +375,7 @@ module _ (cmp : Cmp) (o : IsKeyOrder cmp) where
   only_key : (key1 key2 : Key) (k : List ℕ) (xs ys : Lines) → EachKey (λ x. x ≡ k) key1 xs
       → EachKey (λ x. x ≡ k) key2 ys
       → (distinct_keys cmp (map key1 xs ++ map key2 ys) ≡ k ∷ []) ⊎ ((xs ≡ []) × (ys ≡ []))
-  only_key key1 key2 k [] [] e h = inr (refl, refl)
+  only_key _ _ k [] [] e h = inr (refl, refl)
   only_key key1 key2 k [] (y ∷ ys) e (here, more) = grind (arith, only_key key1 key2 k [] ys tt more)
   only_key key1 key2 k (x ∷ xs) ys (here, more) h = grind (arith, only_key _ _ k xs ys more h)
 
@@ -420,7 +420,7 @@ module _ (tool : MergeTool) where
     front_is f r own above =
         let p = λ (x : List ℕ). is_le (cmp x k) in
         let ls : Side → Lines = λ side. f side ++ r side in
-        let s = λ (side : Side). least_lines cmp o (key side) k (f side) (r side) (own side) (above side) in
+        let s = λ (side : Side). least_lines cmp o _ k _ _ (own side) (above side) in
         let first = sym (by_keys_kept p tool o ls w) ∙ (λ i. entries_by_key tool w (λ side. (s side).least i))
         ∙ of_one_key _ (λ side. (s side).own) (λ side. (s side).all) in
         let rest = sym (by_keys_kept (λ x. not (p x)) tool o ls w)
@@ -459,7 +459,7 @@ pub input_split : {tool : MergeTool} (o : IsKeyOrder tool.cmp) {b : Side → Bou
     ++ entries_by_key tool (is_up_to tool.cmp (disorder tool ls)) (λ side. (s side).rest)
 input_split {tool} o {b} {p} {ls} m s =
     let w = is_up_to tool.cmp (disorder tool ls) in
-    let first = all_wanted tool w p (λ side. both_under (tool.key side) _ _ _
+    let first = all_wanted tool w p (λ side. both_under _ _ _ _
     (λ k u1 u2. written_is_wanted _ o _ _ _ _ k (s First).may_disorder (s Second).may_disorder u1 u2)
     _ (m.under First side) (m.under Second side)) in
     (λ i. entries_by_key tool w (λ side. (s side).is i))
@@ -613,7 +613,7 @@ IsExactStop tool b found = (ls r : Side → Lines) → MayCome tool b r
 
 last_has : (key : Key) (P : List ℕ → Type 0) (last : Option (List ℕ)) (xs : Lines) (x : List ℕ)
     → last_or last (map key xs) ≡ Some x → ((y : List ℕ) → last ≡ Some y → P y) → EachKey P key xs → P x
-last_has key P last [] x e f h = f x e
+last_has key P _ [] x e f h = f x e
 last_has key P last (y ∷ xs) x e f (here, more) =
     last_has key P (Some (key y)) xs x e (λ z same. (let is : key y ≡ z = cc in subst P is here)) more
 

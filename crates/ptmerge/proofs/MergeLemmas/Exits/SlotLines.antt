@@ -60,7 +60,7 @@ HasBegun now ls = IsDone now ⊎ (0 < length ls)
 
 pub one_line_at_most : (end : ℕ) (piece : List ℕ) → IsLine end piece → length (lines end piece) ≤ 1
 one_line_at_most end [] free = omega arith
-one_line_at_most end (b ∷ piece) free = grind (usual, lines_of_last)
+one_line_at_most end _ free = grind (usual, lines_of_last)
 
 pub lines_read_more : {end : ℕ} {old now new : Reader} {ls : List (List ℕ)} {before after : Slots} {slot : ℕ}
     → LinesRead end old now ls → (e : FillLine now new before after slot) → LinesRead end old new (ls ++ e.line ∷ [])
@@ -101,7 +101,7 @@ module _ {end : ℕ} {old now new : Reader} {ls : List (List ℕ)} {piece : List
 
   front_of : c.given ≡ unlines end ls → (rest : List ℕ)
       → ((c.given ++ piece) ++ new.buffered) ++ rest ≡ unlines end ls ++ (piece ++ (new.buffered ++ rest))
-  front_of is rest = rw is (simp append_assoc)
+  front_of is _ = rw is (simp append_assoc)
 
   pub lines_read_of_input : (input : List ℕ) → IsConsistent came input → HoldsLines now ls piece (lines end input)
   lines_read_of_input = search (
@@ -147,7 +147,7 @@ module _ {end : ℕ} {old now new : Reader} {ls : List (List ℕ)} {piece : List
 pub put_both : {X Y : Type 0} (P : Side → X → Y → Type 0) (s : Side) (x : X) (f : Side → X) (y : Y) (g : Side → Y)
     → P s x y → P (other s) (f (other s)) (g (other s))
     → (side : Side) → P side (with_side s x f side) (with_side s y g side)
-put_both P s x f y g p q side = grind (arith, p, q)
+put_both P s x f y g p q _ = grind (arith, p, q)
 
 module _ {X : Type 0} (P : Side → X → Type 0) where
   pub put_each : (s : Side) (x : X) (f : Side → X) → P s x → ((side : Side) → P side (f side)) → (side : Side)

@@ -32,7 +32,7 @@ module _ (g : given.Over) (c : After-step g) where
       LoopOfJoin (join_job c.args.job.now) g.K.KeyOrder.order g.K.KeyOrder.key_of
       (merge_state c.args.first.now c.args.second.now c.args.out.now c.args.store.now) BetweenGroups
       (merge_state is.first is.second is.out is.store) is.merge.first is.merge.second is.merge.order c.args.order
-  on_by_blocks = joined_by_blocks g.K.KeyOrder.order g.K.KeyOrder.key_of c.steps.invariant by_blocks
+  on_by_blocks = joined_by_blocks _ _ c.steps.invariant by_blocks
       c.merge_in_blocks.ensures.order c.in_ok-merge_in_blocks.ensures.valid_cursors
 
 pub returns-in_err-merge : goal.returns-in_err-merge
@@ -60,7 +60,7 @@ steps-init g c =
 pub merge_in_blocks-requires : goal.merge_in_blocks-requires
 merge_in_blocks-requires g c =
     let t = c.steps.invariant.iteration in
-    blocks_pre t.here t.between (join_tool (join_job c.args.job.now)) refl t.w.alone t.keys
+    blocks_pre t.here t.between _ refl t.w.alone t.keys
 
 pub returns-in_err-merge_in_blocks : goal.returns-in_err-merge_in_blocks
 returns-in_err-merge_in_blocks g c =
@@ -80,7 +80,7 @@ pass_line-requires g c =
 pub pass_line-requires-in-Second : goal.pass_line-requires-in-Second
 pass_line-requires-in-Second g c =
     let i = on_by_blocks g (goal.at.pass_line-requires-in-Second g c).After-step in
-    write_pre i.iteration sides.Second c.in-Second.ensures.status_is
+    write_pre i.iteration _ c.in-Second.ensures.status_is
 
 pub steps-preserved-in-Continue-branch-3 : goal.steps-preserved-in-Continue-branch-3
 steps-preserved-in-Continue-branch-3 g c =

@@ -12,5 +12,5 @@ returns-clause-none c past =
 
 pub returns-clause-field : goal.returns-clause-field
 returns-clause-field c within =
-    fields_after_nth c.args.separator c.args.number _ c.args.line.now (omega arith) c.after_nth.ensures.some
+    fields_after_nth _ _ _ _ (omega arith) c.after_nth.ensures.some
     (nth_from_start _ _ (omega arith) c.requires.start c.after_nth.ensures within)

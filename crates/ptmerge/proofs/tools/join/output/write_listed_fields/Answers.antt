@@ -26,7 +26,7 @@ pub returns-in_err-add-2 : goal.returns-in_err-add-2
 returns-in_err-add-2 g c =
     let e = c.args.entry.now in
     let add = c.add-in-len1-up-rest.ensures in
-    let more = first_then_rest _ c.items.rest.now _ c.in-len1-up-rest.len_at_least
+    let more = first_then_rest _ _ _ c.in-len1-up-rest.len_at_least
     c.item_or_filler-in-len1-up-rest.ensures in
     piece_fails _ _ _ _ c.items.invariant (ap (with_prefix (output_separator (join_job e.job.now).separator)) more)
     (rw (c.unwrap_or-separator.ensures ∙ sym (between_is (join_job e.job.now).separator)) at add.split)
@@ -36,7 +36,7 @@ pub items-preserved : goal.items-preserved
 items-preserved g c =
     let e = c.args.entry.now in
     let add = c.add-in-len1-up-rest.ensures in
-    let more = first_then_rest _ c.items.rest.now _ c.in-len1-up-rest.len_at_least
+    let more = first_then_rest _ _ _ c.in-len1-up-rest.len_at_least
     c.item_or_filler-in-len1-up-rest.ensures in
     piece_added _ _ _ _ c.items.invariant (ap (with_prefix (output_separator (join_job e.job.now).separator)) more)
     (rw (c.unwrap_or-separator.ensures ∙ sym (between_is (join_job e.job.now).separator)) at add.split)

@@ -47,6 +47,6 @@ returns c =
     let long = length-drop at bytes in
     let all = take_all left (drop at bytes) (omega (arith, long)) in
     let short : length (take left (drop at bytes)) < 64 = omega (arith, c.loop-at-test.false, ap length all, long) in
-    spaced_rest (c.loop-at.before == 1) _ _ (take left (drop at bytes)) short c.masks_of-spaces.ensures.first
+    spaced_rest _ _ _ _ short c.masks_of-spaces.ensures.first
     c.masks_of-spaces.ensures.second c.are_single_spaces-2.ensures
     ∙ ap (is_single_spaced (c.loop-at.before == 1)) all ∙ sym c.loop-at.invariant.same
