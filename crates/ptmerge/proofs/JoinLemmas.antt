@@ -81,9 +81,6 @@ pub record WritePairs (end : ℕ) (call : JoinCall) (now : MergeState) (cursor :
 abbrev pub BetweenGroups : JoinCall → MergeState → (Side → Sorted) → Type 0
 BetweenGroups call now cursor = LoopInvariant call.w now cursor
 
-copied_end : (n : ℕ) → 0 < n → (4 + n == 4) ≡ false
-copied_end = grind arith
-
 -- ---- an iteration
 
 abbrev pub join_call : (job : Join) (cmp : Cmp) (key : Side → Key) {old : MergeState}
@@ -247,11 +244,6 @@ module _ {job : Join} {cmp : Cmp} {key : Side → Key} {old now : MergeState} {o
         stays : line after two2.current_slot ≡ line made two2.current_slot
         stays = same _ (low_slot Second two2 (on_second.group.sides Second).slots).current
 
-      one_for_all : a.kept ≡ [] → IsOneForAll call a.k (line made two2.previous_slot) a.kept grown
-      one_for_all none =
-          let same = last_stays (a.heads Second) comes in
-          record { none = none; own = rw same (a.heads Second).is; same_pairs = search (rules, all_copied, a) }
-
       record GrownGroup (after : Slots) (to : ℕ) : Type 0 where
         kept : Lines
         q : GroupState call (state_after_read now Second reader out after) (with_side Second two2 (both one two)) to
@@ -271,7 +263,11 @@ module _ {job : Join} {cmp : Cmp} {key : Side → Key} {old now : MergeState} {o
             same = λ i low. refl;
             copied = λ s. none ∙ ⊎_elim (λ without i. cond ((sym without) i) grown [])
                 (λ (left, _). absurd (false≢true (sym left ∙ s))) e.stays;
-            lines_in = inr (one_for_all none);
+            lines_in = inr (record {
+              none = none;
+              own = rw (last_stays (a.heads Second) comes) (a.heads Second).is;
+              same_pairs = search (rules, all_copied, a);
+            });
           })
       grown_group {after} (inr e) =
           let all : a.kept ++ y ∷ [] ≡ grown = cc (all_copied e.keeps) in
@@ -385,7 +381,7 @@ module _ {job : Join} {cmp : Cmp} {key : Side → Key} {old now : MergeState} {o
   write_pairs_less h = reads_less t.between First h.continues state.head.head h.came
 
   is_kept : state.kept ≡ state.g Second → (end == 4) ≡ false
-  is_kept same = rw (state.q.at, same) (copied_end _ state.some)
+  is_kept same = rw (state.q.at, same) (grind arith)
 
   is_alone : state.kept ≡ [] → (end == 4) ≡ true
   is_alone none = rw (state.q.at, none)

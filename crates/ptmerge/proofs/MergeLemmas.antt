@@ -391,19 +391,6 @@ pub kept_line : (before after : Slots) (from to slot : ℕ) → slot < to → Co
     → line after slot ≡ line before slot
 kept_line = grind (arith, line_added, line_other)
 
--- copying a line to the group changes only slots from 4 on, so the cursors stay valid
-pub copied_continues : {key : Side → Key} {s : Side} {one two one2 two2 : Sorted} {reader : Reader}
-    {before after : Slots} {out : Output} {from to : ℕ} → 4 ≤ to → CopyToGroupPost before after from to
-    → IsReadyToContinue key s one two one2 two2 reader before out
-    → IsReadyToContinue key s one two one2 two2 reader after out
-copied_continues low copied c = record {
-  clean = c.clean;
-  others = c.others;
-  valid_cursors = valid_cursors_kept _ _ _ _ _ c.valid_cursors (search rules)
-      (λ slot small. kept_line _ _ _ _ _ (omega arith) copied);
-  own_reader = c.own_reader;
-}
-
 -- ---- the start
 
 -- Slots are added and the first line of each input is read; nothing is processed yet, and the output is empty.

@@ -18,7 +18,7 @@ pub use proofs.MergeLemmas.{EndsIfFails}
 use proofs.MergeLemmas.{line_other, HasLines, GroupStore, AllExtend, HasRoom, side_extends, group_store_next, put_each}
 use proofs.MergeLemmas.{put_same, put_both, put_other, side_case, EachKey, Bound, MayFollow, IsUnder, MergeInvariant}
 use proofs.MergeLemmas.{IsFuture, MayCome, write_least_run, all_wanted, written_is_wanted, LagInvariant, IsLater}
-use proofs.MergeLemmas.{EachKey-append, front_is, later_entries, lines_with_key-above, Each-weaker, AtMost}
+use proofs.MergeLemmas.{HaveKey, EachKey-append, front_is, later_entries, lines_with_key-above, Each-weaker, AtMost}
 use proofs.MergeLemmas.{self_at_most, equal_is, SideAfterNext, IsAtCurrentLine, MatchesStatus, read_facts_after_line}
 use proofs.MergeLemmas.{IsOpenMerge, ReadFactsOf, SidesInvariant, current_key_is_above, next_at, sides_next}
 use proofs.MergeLemmas.{advance_fails}
@@ -99,7 +99,7 @@ record IsLineMeasure (m : Lines → ℕ) : Type 0 where
   more : (x : List ℕ) (xs : Lines) → m (x ∷ xs) ≡ weight x + m xs
 
 module _ (m : Lines → ℕ) (laws : IsLineMeasure m) (key : Key) where
-  group_measure_max : (k : List ℕ) (p g c : Lines) → EachKey (λ x. x ≡ k) key g
+  group_measure_max : (k : List ℕ) (p g c : Lines) → HaveKey key k g
       → m g ≤ m (lines_with_key key (p ++ (g ++ c)) k)
   group_measure_max k [] [] c e = omega arith
   group_measure_max k [] (x ∷ g) c (here, more) = grind (arith, same_bytes, group_measure_max k [] g c more)
@@ -110,7 +110,7 @@ module _ (m : Lines → ℕ) (laws : IsLineMeasure m) (key : Key) where
   greatest_has ls [] y w = omega arith
   greatest_has ls (x ∷ p) y w = omega (arith, greatest_has ls p y w)
 
-  measure_in : (k : List ℕ) (p g w : Lines) → EachKey (λ x. x ≡ k) key g → 0 < length g
+  measure_in : (k : List ℕ) (p g w : Lines) → HaveKey key k g → 0 < length g
       → m g ≤ max_over_keys m key ((p ++ g) ++ w) ((p ++ g) ++ w)
   measure_in k p [] w own some = absurd (omega arith)
   measure_in k p (x ∷ g) w (is, more) some = rw (append_assoc p (x ∷ g) w) (omega (
@@ -122,7 +122,7 @@ module _ (m : Lines → ℕ) (laws : IsLineMeasure m) (key : Key) where
 abbrev pub InLargest : Key → Lines → Lines → Type 0
 InLargest key g ls = (total_bytes g ≤ max_group_bytes key ls) × (length g ≤ max_group_lines key ls)
 
-pub group_in : (key : Key) (k : List ℕ) (p g w : Lines) → EachKey (λ x. x ≡ k) key g → 0 < length g
+pub group_in : (key : Key) (k : List ℕ) (p g w : Lines) → HaveKey key k g → 0 < length g
     → InLargest key g ((p ++ g) ++ w)
 group_in key k p g w own some = (
   measure_in total_bytes (record { weight = length; none = refl; more = λ x xs. sum_by-cons length x xs })
@@ -212,7 +212,7 @@ pub record OutputInGroup (tool : MergeTool) (was mid : Output) (p g : Side → L
     (k : List ℕ) : Type 0 where
   pub merge_invariant : MergeInvariant tool (λ side. AtLeast k) p was mid
   pub clean : mid.write_failed ≡ false
-  pub own : (side : Side) → EachKey (λ x. x ≡ k) (tool.key side) (g side)
+  pub own : (side : Side) → HaveKey (tool.key side) k (g side)
   pub later : (side : Side) → IsLater tool.cmp (tool.key side) (AtLeast k) (d side)
 
 -- `extra` is a prefix of the group's entries, for all lines that may follow
@@ -468,7 +468,7 @@ module _ {call : JoinCall} {now : MergeState} {cursor : Side → Sorted} {end : 
   pub with_head : q.ls s ≡ q.p s ++ (g s ++ head_of now cursor s ∷ [])
   with_head = at_head.all ∙ append_assoc (q.p s) (g s) (x ∷ [])
 
-  pub own_more : (side : Side) → EachKey (λ z. z ≡ k) (key side) (added side)
+  pub own_more : (side : Side) → HaveKey (key side) k (added side)
   own_more = grind (usual, q.within.own, l.is)
 
   pub within_more : OutputInGroup tool old.out q.mid q.p added q.d k

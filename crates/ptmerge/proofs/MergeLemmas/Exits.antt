@@ -482,16 +482,7 @@ IsFaultBehind real out after (faults.Disorder side number) = ⊥
 
 behind : {was virtual real : Reader} {given : Received} → virtual ≡ record real { buffered = virtual.buffered }
     → HasReceived was virtual given → HasReceived was real given
-behind {was} {virtual} {real} {given} same h = record {
-  moved = h.moved ∙ ap (λ (r : Reader). prepend_known given.bytes r.left) same;
-  count = ap (λ (r : Reader). r.pulled + length was.buffered) (sym same) ∙ h.count;
-  eof = h.eof ∙ ap (λ (r : Reader). r.eof) same;
-  refused = ap (λ (r : Reader). r.refused) (sym same) ∙ h.refused;
-  still = λ ended. let (none, eof) = h.still ended in
-      (ap (λ (r : Reader). r.pulled) (sym same) ∙ none, ap (λ (r : Reader). r.eof) (sym same) ∙ eof);
-  end = λ before ended. subst (λ (r : Reader). IsAtEnd r.left) same
-      (h.end before (ap (λ (r : Reader). r.eof) same ∙ ended));
-}
+behind same h = grind (arith, h)
 
 -- The second input is unread until the first has begun; until the second has, at most one line of the first was read.
 pub record FirstReads (end : ℕ) (old now new : Side → Reader) (ls : Side → Lines) (piece : Side → List ℕ) : Type 0 where
@@ -552,6 +543,9 @@ module _ {tool : MergeTool} {old : MergeState} (w : IsOpenMerge tool old) (new :
   whole_input_split : (side : Side)
       → IsFuture cmp (key side) (known_lines tool.terminator (given side)) (p side) (b side)
   whole_input_split = input_split_of _ (λ side. (known _).known)
+
+  has_line : (side : Side) → HasBegun (now side) (ls side) → ¬ HasNoLine tool.terminator (given side)
+  has_line side = begun_gives_line (g side).lines_read (g side).reads (g side).line
 
   backs : (side : Side) → LagPoint tool.terminator (given side) (p side)
   backs side = back _ _ _ _ _ _ (new.reader side) (g side).lines_read.so_far
@@ -638,9 +632,6 @@ module _ {tool : MergeTool} {old : MergeState} (w : IsOpenMerge tool old) (new :
         by (ReadFault input) = λ side read fail. decided _ (failed side fail)
         by other = tt
 
-        has_line : (side : Side) → HasBegun (now side) (ls side) → ¬ HasNoLine tool.terminator (given side)
-        has_line side begun none = begun_gives_line (g side).lines_read (g side).reads (g side).line begun none
-
     -- A fault while bytes are still buffered that the readers have consumed here: `real` are the readers then.
     pub exit_behind : Fits tool old.store now ls piece new.store → ((side : Side) → HasBegun (now side) (ls side))
         → (real : Side → Reader)
@@ -668,10 +659,8 @@ module _ {tool : MergeTool} {old : MergeState} (w : IsOpenMerge tool old) (new :
       };
       stops_at_disorder = λ of clean_then. unsettled w.o given lag whole_input_split of (backs of);
       first_reads = λ clean_then. record {
-        second_unread = λ none. absurd (begun_gives_line (g First).lines_read (g First).reads (g First).line
-            (begun First) none);
-        first_waits = λ none. absurd (begun_gives_line (g Second).lines_read (g Second).reads (g Second).line
-            (begun Second) none);
+        second_unread = λ none. absurd (has_line First (begun First) none);
+        first_waits = λ none. absurd (has_line Second (begun Second) none);
       };
     }
       where
@@ -681,17 +670,8 @@ module _ {tool : MergeTool} {old : MergeState} (w : IsOpenMerge tool old) (new :
         outcome_behind : (fault : MergeFault) → IsFaultBehind real new.out new.store fault
             → CallOutcome both_sides (merge_engine tool) old (state_by_side real new.out new.store) given
             (unlines tool.terminator done) (merge_end (Err fault))
-        outcome_behind Write e = record {
-          write_failed = e.write_failed;
-          unfailed = λ side read. e.unfailed side ∙ sym (w.unfailed side);
-          not_denied = e.not_denied;
-        }
-        outcome_behind Memory e = record {
-          denied = e.denied;
-          unfailed = λ side read. e.unfailed side ∙ sym (w.unfailed side);
-          clean = e.clean;
-          left = λ enough. inl (e.side, refl, e.left);
-        }
+        outcome_behind Write e = search (rules, w.unfailed)
+        outcome_behind Memory e = search (rules, w.unfailed)
         outcome_behind (faults.Read s) e = elim e [ ]
         outcome_behind (faults.Disorder s n) e = elim e [ ]
 

@@ -17,7 +17,7 @@ use specs.Private.OrderLaws.{reversed_same_bytes}
 use Rattle.ptlines.specs.Private.ByteOrder.{byte_cmp_equal}
 pub use Rattle.std.proofs.Common.{rules}
 use proofs.MergeLemmas.Exits.SlotLines.{put_each}
-pub use specs.Private.BlockLines.{AtMost, Each, EachKey, IsSortedFrom, is_disordered}
+pub use specs.Private.BlockLines.{AtMost, Each, EachKey, HaveKey, IsSortedFrom, is_disordered}
 pub use specs.MergeSpec.{MergeDisorder, is_past, earlier_disorder, insert_key, is_below}
 pub use specs.Calls.MergeSpec.{is_decided}
 use lemmas.Cmp.{back_total, nat_list_cmp_total, upto}
@@ -121,62 +121,54 @@ module _ (tool : MergeTool) (o : IsKeyOrder tool.cmp) where
 
 -- ---- lines in order
 
--- after a line with the key `last`, if there is one
-abbrev pub sorted_after : Cmp → Key → Option (List ℕ) → Lines → Lines
-sorted_after cmp key last [] = []
-sorted_after cmp key last (x ∷ w) = cond (is_disordered cmp last (key x)) [] (x ∷ sorted_after cmp key (Some (key x)) w)
-
 abbrev pub disorder_at : Option (List ℕ) → ℕ → FirstDisorder
 disorder_at last n = record { last_key = unwrap_or last []; line = n + 1 }
 
-abbrev pub disorder_after : Cmp → Key → Option (List ℕ) → ℕ → Lines → Option FirstDisorder
-disorder_after cmp key last n [] = None
-disorder_after cmp key last n (x ∷ w) =
-    cond (is_disordered cmp last (key x)) (Some (disorder_at last n)) (disorder_after cmp key (Some (key x)) (n + 1) w)
+module _ (cmp : Cmp) (key : Key) where
+  -- after a line with the key `last`, if there is one
+  abbrev pub sorted_after : Option (List ℕ) → Lines → Lines
+  sorted_after last [] = []
+  sorted_after last (x ∷ w) = cond (is_disordered cmp last (key x)) [] (x ∷ sorted_after (Some (key x)) w)
 
-pub sorted_prefix_is : (cmp : Cmp) (key : Key) (ls : Lines) → sorted_prefix cmp key ls ≡ sorted_after cmp key None ls
-sorted_prefix_is cmp key [] = refl
-sorted_prefix_is cmp key (x ∷ []) = refl
-sorted_prefix_is cmp key (x ∷ y ∷ more) = grind (arith, sorted_prefix_is cmp key (y ∷ more))
+  abbrev pub disorder_after : Option (List ℕ) → ℕ → Lines → Option FirstDisorder
+  disorder_after last n [] = None
+  disorder_after last n (x ∷ w) =
+      cond (is_disordered cmp last (key x)) (Some (disorder_at last n)) (disorder_after (Some (key x)) (n + 1) w)
 
--- the first disorder, by the length of the sorted prefix
-abbrev by_length : Cmp → Key → Option (List ℕ) → ℕ → Lines → Lines → Option FirstDisorder
-by_length cmp key last n part ls = if nat_lt (length part) (length ls) then Some
-    (record { last_key = unwrap_or (last_or last (map key part)) []; line = (n + length part) + 1 }) else None
+  pub sorted_prefix_is : (ls : Lines) → sorted_prefix cmp key ls ≡ sorted_after None ls
+  sorted_prefix_is [] = refl
+  sorted_prefix_is (x ∷ []) = refl
+  sorted_prefix_is (x ∷ y ∷ more) = grind (arith, sorted_prefix_is (y ∷ more))
 
-by_length_is : (cmp : Cmp) (key : Key) (last : Option (List ℕ)) (n : ℕ) (ls : Lines)
-    → by_length cmp key last n (sorted_after cmp key last ls) ls ≡ disorder_after cmp key last n ls
-by_length_is cmp key _ n [] = refl
-by_length_is cmp key last n (x ∷ w) = search (rules, by_length_is cmp key (Some (key x)) (n + 1) w)
+  -- the first disorder, by the length of the sorted prefix
+  abbrev by_length : Option (List ℕ) → ℕ → Lines → Lines → Option FirstDisorder
+  by_length last n part ls = if nat_lt (length part) (length ls) then Some
+      (record { last_key = unwrap_or (last_or last (map key part)) []; line = (n + length part) + 1 }) else None
 
-pub first_disorder_is : (cmp : Cmp) (key : Key) (ls : Lines)
-    → first_disorder cmp key ls ≡ disorder_after cmp key None 0 ls
-first_disorder_is cmp key ls = grind (arith, sorted_prefix_is cmp key ls, by_length_is cmp key None 0 ls)
+  by_length_is : (last : Option (List ℕ)) (n : ℕ) (ls : Lines)
+      → by_length last n (sorted_after last ls) ls ≡ disorder_after last n ls
+  by_length_is last n [] = refl
+  by_length_is last n (x ∷ w) = search (rules, by_length_is (Some (key x)) (n + 1) w)
 
-sorted_from_whole : (cmp : Cmp) (key : Key) (last : Option (List ℕ)) (n : ℕ) (ls : Lines) → IsSortedFrom cmp key last ls
-    → (sorted_after cmp key last ls ≡ ls) × (disorder_after cmp key last n ls ≡ None)
-sorted_from_whole cmp key _ n [] r = (refl, refl)
-sorted_from_whole cmp key last n (x ∷ ls) (here, more) =
-    grind (arith, sorted_from_whole cmp key (Some (key x)) (n + 1) ls more)
+  pub first_disorder_is : (ls : Lines) → first_disorder cmp key ls ≡ disorder_after None 0 ls
+  first_disorder_is ls = grind (arith, sorted_prefix_is ls, by_length_is None 0 ls)
 
-pub sorted_from_start : (cmp : Cmp) (key : Key) (ls : Lines) → IsSortedFrom cmp key None ls
-    → (sorted_prefix cmp key ls ≡ ls) × (first_disorder cmp key ls ≡ None)
-sorted_from_start cmp key ls r = grind (arith, sorted_from_whole cmp key _ 0 ls r, sorted_prefix_is)
+  sorted_from_whole : (last : Option (List ℕ)) (n : ℕ) (ls : Lines) → IsSortedFrom cmp key last ls
+      → (sorted_after last ls ≡ ls) × (disorder_after last n ls ≡ None)
+  sorted_from_whole last n [] r = (refl, refl)
+  sorted_from_whole last n (x ∷ ls) (here, more) = grind (arith, sorted_from_whole (Some (key x)) (n + 1) ls more)
 
-none_disordered : (cmp : Cmp) (key : Key) (last : Option (List ℕ)) (n : ℕ) (ls : Lines)
-    → disorder_after cmp key last n ls ≡ None → IsSortedFrom cmp key last ls
-none_disordered cmp key _ n [] e = tt
-none_disordered cmp key last n (x ∷ ls) e = grind (arith, none_disordered cmp key (Some (key x)) (n + 1) ls)
+  pub sorted_from_start : (ls : Lines) → IsSortedFrom cmp key None ls
+      → (sorted_prefix cmp key ls ≡ ls) × (first_disorder cmp key ls ≡ None)
+  sorted_from_start ls r = grind (arith, sorted_from_whole _ 0 ls r, sorted_prefix_is)
 
-module _ (cmp : Cmp) (o : IsKeyOrder cmp) (key : Key) where
-  pub from_key : (k : List ℕ) (ls : Lines) → IsSortedFrom cmp key (Some k) ls → EachKey (AtMost cmp k) key ls
-  from_key k [] r = tt
-  from_key k (x ∷ ls) (here, more) =
-      (here, Each-weaker _ _ (λ y h. at_most_trans cmp o k (key x) y here h) _ (from_key (key x) ls more))
+  none_disordered : (last : Option (List ℕ)) (n : ℕ) (ls : Lines) → disorder_after last n ls ≡ None
+      → IsSortedFrom cmp key last ls
+  none_disordered last n [] e = tt
+  none_disordered last n (x ∷ ls) e = grind (arith, none_disordered (Some (key x)) (n + 1) ls)
 
-pub sorted_from_none : (cmp : Cmp) (key : Key) (ls : Lines) → first_disorder cmp key ls ≡ None
-    → IsSortedFrom cmp key None ls
-sorted_from_none cmp key ls e = grind (arith, none_disordered, first_disorder_is)
+  pub sorted_from_none : (ls : Lines) → first_disorder cmp key ls ≡ None → IsSortedFrom cmp key None ls
+  sorted_from_none ls e = grind (arith, none_disordered, first_disorder_is)
 
 -- lines in order, up to a last key
 pub record IsSortedUpTo (cmp : Cmp) (key : Key) (q : Lines) (last : Option (List ℕ)) : Type 0 where
@@ -188,16 +180,21 @@ abbrev pub IsDisorderFrom : Cmp → List ℕ → Option FirstDisorder → Type 0
 IsDisorderFrom cmp k None = Unit {0}
 IsDisorderFrom cmp k (Some d) = AtMost cmp k d.last_key
 
-pub after_from : (cmp : Cmp) (o : IsKeyOrder cmp) (key : Key) (k : List ℕ) (n : ℕ) (w : Lines)
-    → EachKey (AtMost cmp k) key (sorted_after cmp key (Some k) w)
-    × IsDisorderFrom cmp k (disorder_after cmp key (Some k) n w)
-after_from cmp o key k n [] = (tt, tt)
-after_from cmp o key k n (x ∷ w) =
-    let ih = after_from cmp o key (key x) (n + 1) w in
-    let (more, _) = ih in
-    let weaker : is_gt _ ≡ false → EachKey (AtMost cmp k) key _ =
-    λ h. Each-weaker _ _ (λ y a. at_most_trans cmp o k _ y h a) _ more in
-    grind (arith, weaker, at_most_trans)
+module _ (cmp : Cmp) (o : IsKeyOrder cmp) (key : Key) where
+  pub from_key : (k : List ℕ) (ls : Lines) → IsSortedFrom cmp key (Some k) ls → EachKey (AtMost cmp k) key ls
+  from_key k [] r = tt
+  from_key k (x ∷ ls) (here, more) =
+      (here, Each-weaker _ _ (λ y h. at_most_trans cmp o k (key x) y here h) _ (from_key (key x) ls more))
+
+  pub after_from : (k : List ℕ) (n : ℕ) (w : Lines) → EachKey (AtMost cmp k) key (sorted_after cmp key (Some k) w)
+      × IsDisorderFrom cmp k (disorder_after cmp key (Some k) n w)
+  after_from k n [] = (tt, tt)
+  after_from k n (x ∷ w) =
+      let ih = after_from (key x) (n + 1) w in
+      let (more, _) = ih in
+      let weaker : is_gt _ ≡ false → EachKey (AtMost cmp k) key _ =
+      λ h. Each-weaker _ _ (λ y a. at_most_trans cmp o k _ y h a) _ more in
+      grind (arith, weaker, at_most_trans)
 
 -- The lines that may follow in an input: any; those with keys of at least k; none, after a disorder; none, at its end.
 pub data Bound : Type 0 where
@@ -354,11 +351,11 @@ module _ (p : List ℕ → Bool) where
 record LeastLines (cmp : Cmp) (key : Key) (k : List ℕ) (f r : Lines) : Type 0 where
   least : filter (λ line. is_le (cmp (key line) k)) (f ++ r) ≡ f ++ lines_with_key key r k
   other : filter (λ line. not (is_le (cmp (key line) k))) (f ++ r) ≡ filter (λ line. not (is_le (cmp (key line) k))) r
-  own : EachKey (λ x. x ≡ k) key (f ++ lines_with_key key r k)
+  own : HaveKey key k (f ++ lines_with_key key r k)
   all : lines_with_key key (f ++ lines_with_key key r k) k ≡ f ++ lines_with_key key r k
 
 module _ (cmp : Cmp) (o : IsKeyOrder cmp) where
-  least_lines : (key : Key) (k : List ℕ) (f r : Lines) → EachKey (λ x. x ≡ k) key f → EachKey (AtMost cmp k) key r
+  least_lines : (key : Key) (k : List ℕ) (f r : Lines) → HaveKey key k f → EachKey (AtMost cmp k) key r
       → LeastLines cmp key k f r
   least_lines key k [] [] e h = grind arith
   least_lines key k [] (x ∷ r) e (here, more) = grind (arith, least_lines key k [] r tt more, rules, same_bytes)
@@ -372,8 +369,8 @@ module _ (cmp : Cmp) (o : IsKeyOrder cmp) where
         all = simp (same_bytes here, ih.all);
       }
 
-  only_key : (key1 key2 : Key) (k : List ℕ) (xs ys : Lines) → EachKey (λ x. x ≡ k) key1 xs
-      → EachKey (λ x. x ≡ k) key2 ys
+  only_key : (key1 key2 : Key) (k : List ℕ) (xs ys : Lines) → HaveKey key1 k xs
+      → HaveKey key2 k ys
       → (distinct_keys cmp (map key1 xs ++ map key2 ys) ≡ k ∷ []) ⊎ ((xs ≡ []) × (ys ≡ []))
   only_key _ _ k [] [] e h = inr (refl, refl)
   only_key key1 key2 k [] (y ∷ ys) e (here, more) = grind (arith, only_key key1 key2 k [] ys tt more)
@@ -403,7 +400,7 @@ module _ (tool : MergeTool) where
 
   -- lines of the least key, followed by lines with no lesser keys
   module _ (o : IsKeyOrder cmp) (w : List ℕ → Bool) (k : List ℕ) (none : tool.entries k [] [] ≡ []) where
-    of_one_key : (ls : Side → Lines) → ((side : Side) → EachKey (λ x. x ≡ k) (key side) (ls side))
+    of_one_key : (ls : Side → Lines) → ((side : Side) → HaveKey (key side) k (ls side))
         → ((side : Side) → lines_with_key (key side) (ls side) k ≡ ls side)
         → entries_by_key tool w ls ≡ cond (w k) (tool.entries k (ls First) (ls Second)) []
     of_one_key ls own all =
@@ -412,7 +409,7 @@ module _ (tool : MergeTool) where
     abbrev pub later_entries : (Side → Lines) → Lines
     later_entries r = entries_by_key tool (λ x. w x && not (is_le (cmp x k))) r
 
-    pub front_is : (f r : Side → Lines) → ((side : Side) → EachKey (λ x. x ≡ k) (key side) (f side))
+    pub front_is : (f r : Side → Lines) → ((side : Side) → HaveKey (key side) k (f side))
         → ((side : Side) → EachKey (AtMost cmp k) (key side) (r side))
         → entries_by_key tool w (λ side. f side ++ r side)
         ≡ cond (w k) (tool.entries k (f First ++ lines_with_key (key First) (r First) k)
@@ -521,7 +518,7 @@ lag_invariant_starts o {b} {p} {mid = mid} m clean more = record {
 
 -- the lines `f`, all with the key `k`, may follow at the bound `b`, and precede all lines that may follow at `d`
 pub record IsLeastKeyRun (cmp : Cmp) (key : Key) (b d : Bound) (k : List ℕ) (f : Lines) : Type 0 where
-  pub own : EachKey (λ y. y ≡ k) key f
+  pub own : HaveKey key k f
   pub may_follow : (r : Lines) → MayFollow cmp key d r → MayFollow cmp key b (f ++ r)
   pub own_under : IsUnder cmp b k
   pub under : (j : List ℕ) → IsUnder cmp b j → IsUnder cmp d j
@@ -592,7 +589,7 @@ pub bounds_change : {tool : MergeTool} {b d : Side → Bound} {p : Side → Line
     → ((side : Side) → IsLater tool.cmp (tool.key side) (b side) (d side)) → MergeInvariant tool b p was is
     → MergeInvariant tool d p was is
 bounds_change later m = record {
-  splits = λ w r c. m.splits w r (λ side. (later side).may_follow (r side) (c side));
+  splits = λ w r c. m.splits w r (λ side. (later side).may_follow _ (c side));
   under = λ of side. Each-weaker _ _ (later of).under _ (m.under of side);
   wrote = m.wrote;
 }

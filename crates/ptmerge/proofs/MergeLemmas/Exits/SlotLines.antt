@@ -26,7 +26,7 @@ pub use Rattle.ptmerge.specs.Private.MergeSlots.{ClearFourSlotsPost}
 -- The bytes received are the lines read so far, and all but the last have their terminator. So every input that begins
 -- with these bytes begins with these lines.
 
-ended_more : (end : ℕ) (ls : List (List ℕ)) (bytes : List ℕ) → AreLines end ls
+ended_more : (end : ℕ) (ls : Lines) (bytes : List ℕ) → AreLines end ls
     → complete_lines end (unlines end ls ++ bytes) ≡ ls ++ complete_lines end bytes
 ended_more end [] bytes w = refl
 ended_more end (line ∷ ls) bytes (free, more) = grind (
@@ -37,10 +37,10 @@ ended_more end (line ∷ ls) bytes (free, more) = grind (
 )
 
 -- `ls` are the lines of `given`: all have their terminator, or the last one lacks it at the end of the source
-abbrev pub IsReadAs : ℕ → List ℕ → List (List ℕ) → Reader → Type 0
+abbrev pub IsReadAs : ℕ → List ℕ → Lines → Reader → Type 0
 IsReadAs end given ls now = ((given ≡ unlines end ls) × AreLines end ls) ⊎ ((lines end given ≡ ls) × IsDone now)
 
-pub record LinesRead (end : ℕ) (old now : Reader) (ls : List (List ℕ)) : Type 0 where
+pub record LinesRead (end : ℕ) (old now : Reader) (ls : Lines) : Type 0 where
   pub given : List ℕ
   pub so_far : IsReadAs end given ls now
   pub advance_ok : AdvanceOk old now given
@@ -55,14 +55,14 @@ done_gives_nothing : {now new : Reader} {bytes : List ℕ} → IsDone now → Re
     → GivesNothing new bytes
 done_gives_nothing = grind usual
 
-abbrev pub HasBegun : Reader → List (List ℕ) → Type 0
+abbrev pub HasBegun : Reader → Lines → Type 0
 HasBegun now ls = IsDone now ⊎ (0 < length ls)
 
 pub one_line_at_most : (end : ℕ) (piece : List ℕ) → IsLine end piece → length (lines end piece) ≤ 1
 one_line_at_most end [] free = omega arith
 one_line_at_most end _ free = grind (usual, lines_of_last)
 
-pub lines_read_more : {end : ℕ} {old now new : Reader} {ls : List (List ℕ)} {before after : Slots} {slot : ℕ}
+pub lines_read_more : {end : ℕ} {old now new : Reader} {ls : Lines} {before after : Slots} {slot : ℕ}
     → LinesRead end old now ls → (e : FillLine now new before after slot) → LinesRead end old new (ls ++ e.line ∷ [])
 lines_read_more {end} {old} {now} {new} c e =
     record {
@@ -81,17 +81,17 @@ lines_read_more {end} {old} {now} {new} c e =
       terminator = grind arith;
     }
 
-pub record Continues (now : Reader) (ls all : List (List ℕ)) : Type 0 where
-  pub more : List (List ℕ)
+pub record Continues (now : Reader) (ls all : Lines) : Type 0 where
+  pub more : Lines
   pub is : all ≡ ls ++ more
   pub done : IsDone now → more ≡ []
 
 -- no line of `ls`, nor this piece of a further line, is longer than the longest line of `all`
-pub record HoldsLines (now : Reader) (ls : List (List ℕ)) (piece : List ℕ) (all : List (List ℕ)) : Type 0 where
+pub record HoldsLines (now : Reader) (ls : Lines) (piece : List ℕ) (all : Lines) : Type 0 where
   pub continues : Continues now ls all
   pub longest : max (max_length ls) (length piece) ≤ max_length all
 
-module _ {end : ℕ} {old now new : Reader} {ls : List (List ℕ)} {piece : List ℕ} (c : LinesRead end old now ls)
+module _ {end : ℕ} {old now new : Reader} {ls : Lines} {piece : List ℕ} (c : LinesRead end old now ls)
     (reads : ReaderAdvance now new piece) (line : IsLine now.terminator piece) where
   abbrev came : Received
   came = received_with (c.given ++ piece) new
@@ -115,7 +115,7 @@ module _ {end : ℕ} {old now new : Reader} {ls : List (List ℕ)} {piece : List
   )
 
   -- the lines that are known to be complete: `ls` and, if a read failed, no more
-  pub record KnownLines (ws : List (List ℕ)) : Type 0 where
+  pub record KnownLines (ws : Lines) : Type 0 where
     pub known : Continues now ls ws
     pub exact : new.buffered ≡ [] → new.eof ≡ false → ws ≡ ls
 
@@ -180,7 +180,7 @@ slots_apart = grind arith
 pub line_other : (s : Slots) (a b : ℕ) (bytes : List ℕ) → a ≢ b → line (with_line s a bytes) b ≡ line s b
 line_other = search rules
 
-added_same : (xs : List (List ℕ)) (i : ℕ) → get_or (xs ++ [] ∷ []) i [] ≡ get_or xs i []
+added_same : (xs : Lines) (i : ℕ) → get_or (xs ++ [] ∷ []) i [] ≡ get_or xs i []
 added_same [] i = grind arith
 added_same (x ∷ xs) zero = refl
 added_same (x ∷ xs) (suc i) = added_same xs i
@@ -189,27 +189,27 @@ pub line_added : (s : Slots) (slot : ℕ) → line (with_new_slot s) slot ≡ li
 line_added s slot = added_same s.lines slot
 
 -- Two lines of each input, of at most `m` bytes each, and `more` bytes in the other slots.
-abbrev pub HasLines : (Side → ℕ) → ℕ → List (List ℕ) → Type 0
+abbrev pub HasLines : (Side → ℕ) → ℕ → Lines → Type 0
 HasLines m more (a ∷ b ∷ c ∷ d ∷ rest) =
     (length a ≤ m First) × (length b ≤ m First) × (length c ≤ m Second) × (length d ≤ m Second)
     × (total_bytes rest ≡ more)
 HasLines m more few = ⊥
 
-four_total : (a b c d : List ℕ) (rest : List (List ℕ))
+four_total : (a b c d : List ℕ) (rest : Lines)
     → total_bytes (a ∷ b ∷ c ∷ d ∷ rest) ≡ ((length a + length b) + length c) + length d + total_bytes rest
 four_total = grind usual
 
-pub record LinesTotal (xs : List (List ℕ)) (m : Side → ℕ) (more : ℕ) : Type 0 where
+pub record LinesTotal (xs : Lines) (m : Side → ℕ) (more : ℕ) : Type 0 where
   pub four : 4 ≤ length xs
   pub most : total_bytes xs ≤ 2 * m First + 2 * m Second + more
   pub is : total_bytes xs ≡ ((length (get_or xs 0 []) + length (get_or xs 1 [])) + length (get_or xs 2 [])) + length
       (get_or xs 3 []) + more
 
-pub has_lines_total : (xs : List (List ℕ)) (m : Side → ℕ) (more : ℕ) → HasLines m more xs → LinesTotal xs m more
+pub has_lines_total : (xs : Lines) (m : Side → ℕ) (more : ℕ) → HasLines m more xs → LinesTotal xs m more
 has_lines_total = grind (arith, four_total)
 
 -- the next line of an input replaces its previous line
-set_line : (s : Side) (cursor : Sorted) (xs : List (List ℕ)) (m k : Side → ℕ) (more : ℕ) (x : List ℕ)
+set_line : (s : Side) (cursor : Sorted) (xs : Lines) (m k : Side → ℕ) (more : ℕ) (x : List ℕ)
     → HasSlots s cursor → HasLines m more xs → ((side : Side) → m side ≤ k side) → length x ≤ k s
     → HasLines k more (set xs cursor.previous_slot x)
 set_line = search rules
@@ -289,7 +289,7 @@ group_store_line {tool} {store = store} {ls = ls} {now} {g} s cursor slots x k u
       denied = k.denied;
     })
 
-cleared : (lines : List (List ℕ)) (peak : ℕ) (denied : Bool) → 4 ≤ length lines
+cleared : (lines : Lines) (peak : ℕ) (denied : Bool) → 4 ≤ length lines
     → let s : Slots = record { lines = lines; peak = peak; denied = denied } in
     ClearFourSlotsPost s (with_line (with_line (with_line (with_line s 0 []) 1 []) 2 []) 3 [])
 cleared (a ∷ b ∷ c ∷ d ∷ rest) peak denied four = search (rules, four_total)

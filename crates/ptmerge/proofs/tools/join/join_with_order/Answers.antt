@@ -2,7 +2,7 @@
 -- exit.
 use Rattle.ptmerge.proofs
 use Rattle.ptmerge.specs
-use proofs.Common.{refl, sym, ◌∙◌, arith, ℕ, ◌<◌, ◌≤◌, both, join_job, merge_state, Ok}
+use proofs.Common.{refl, sym, ◌∙◌, arith, both, join_job, merge_state, Ok}
 use proofs.JoinLemmas.{BetweenGroups, LoopOfJoin, alone_continues, alone_fails, join_opens, write_pre}
 use proofs.JoinLemmas.{group_opens, read_group_less, write_pairs_less}
 use proofs.JoinLemmas.{read_group_in, read_group_pre, read_group_continues, read_group_fails, write_pairs_next}
@@ -11,7 +11,7 @@ use proofs.MergeLemmas.{fails_by, start_fault, start_ok, ends_well, ends_fallen,
 use proofs.PassedLemmas.{blocks_fail, blocks_pre, blocks_read, reads_once}
 use proofs.PairLemmas.{blocks_joined, joined_by_blocks}
 use specs.declared.key_order.Side.TheVariants as sides
-use specs.Calls.Join.{join_tool, join_with}
+use specs.Calls.Join.{join_with}
 use specs.Private.Passed.{BlocksPost}
 use proofs.tools.join.join_with_order.Given as given
 use Rattle.ptmerge.proofs.tools.join.join_with_order.Goals.{After-step}
@@ -233,16 +233,16 @@ steps-preserved g c =
     kept_order p.order i.order (group_closed i.iteration p.wrote ok.advances c.clear.ensures
     (sym ok.has_more ∙ c.if-branch-2.false))
 
--- each loop of a group reads at least one line
-fewer_after : {a b c d e : ℕ} → a < b → b ≤ c → c < d → d ≤ e → a < e
-fewer_after pair pairs line lines = omega (arith, pair, pairs, line, lines)
-
 pub steps-smaller : goal.steps-smaller
 steps-smaller g c =
     let line = c.in_ok-read_line-in-Both.ensures in
-    reads_once (fewer_after
-    (write_pairs_less c.pairs.invariant.kept.iteration c.in_ok-write_pairs-in-Both.ensures.advances)
-    c.pairs.invariant.fewer
-    (read_group_less c.lines.invariant.kept.iteration line.reads_line.1.came line.continues) c.lines.invariant.fewer)
+    -- each loop of a group reads at least one line
+    reads_once (omega (
+      arith,
+      write_pairs_less c.pairs.invariant.kept.iteration c.in_ok-write_pairs-in-Both.ensures.advances,
+      c.pairs.invariant.fewer,
+      read_group_less c.lines.invariant.kept.iteration line.reads_line.1.came line.continues,
+      c.lines.invariant.fewer,
+    ))
     (blocks_read c.steps.invariant.iteration.here c.steps.invariant.iteration.between
     (by_blocks g (goal.at.steps-smaller g c).After-step))
