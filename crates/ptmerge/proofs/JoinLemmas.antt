@@ -77,7 +77,6 @@ pub record WritePairs (end : ℕ) (call : JoinCall) (now : MergeState) (cursor :
   pub above : IsAbove call.cmp (call.key Second) k (q.d Second)
   pub head : IsAtGroupLine q First
 
--- between groups
 abbrev pub BetweenGroups : JoinCall → MergeState → (Side → Sorted) → Type 0
 BetweenGroups call now cursor = LoopInvariant call.w now cursor
 
@@ -213,11 +212,9 @@ module _ {job : Join} {cmp : Cmp} {key : Side → Key} {old now : MergeState} {o
   abbrev y : List ℕ
   y = line now.store two.current_slot
 
-  -- the group with the current line of the second input
   abbrev grown : Lines
   grown = a.g ++ y ∷ []
 
-  -- buffered output was written out
   module _ {out : Output} (written_out : PushEffect now.out out []) where
     wrote_none : PushEffect a.q.mid out []
     wrote_none = wrote_and_sent _ _ _ _ t.clean (rw (call.laws.none a.k a.g) at a.q.wrote) written_out

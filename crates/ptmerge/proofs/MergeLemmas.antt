@@ -29,8 +29,6 @@ current_key_is_above cmp o key x Head cursor store now ls p b before line_is =
 current_key_is_above cmp o key x Ended cursor store now ls p b before (bound, _) = grind arith
 current_key_is_above cmp o key x _ _ _ now ls p b before st = grind arith
 
--- ---- one line
-
 abbrev pub alone : Side → List ℕ → Side → Lines
 alone s x = with_side s (x ∷ []) (λ side. [])
 
@@ -50,7 +48,6 @@ abbrev pub SidesInvariant : MergeTool → (Side → Reader) → (Side → Reader
 SidesInvariant tool old now cursor store ls p b =
     (side : Side) → SideInvariant tool side (old side) (now side) (cursor side) store (ls side) (p side) (b side)
 
--- the input `s`, at a line, advances
 module _ {tool : MergeTool} (o : IsKeyOrder tool.cmp) {old now : Side → Reader} {cursor : Side → Sorted} {store : Slots}
     {ls p : Side → Lines} {b : Side → Bound} (sides : SidesInvariant tool old now cursor store ls p b) (s : Side)
     (head : (cursor s).status ≡ Head) {new : Reader} {next : Sorted} {after : Slots}
@@ -70,8 +67,6 @@ module _ {tool : MergeTool} (o : IsKeyOrder tool.cmp) {old now : Side → Reader
       (with_side s next_at.now_ls ls) (with_side s (ls s) p) (with_side s next_at.bound b)
   sides_next = side_case _ s (simp put_same next_at.side_invariant)
       (simp put_other (grind (arith, others_stay.0, others_stay.1, next_at.side_invariant.four)))
-
--- ---- the end of the loop
 
 module _ (cmp : Cmp) (o : IsKeyOrder cmp) where
   -- a disorder of the other input is not the one to report
@@ -110,7 +105,6 @@ failed_advance : (s : Side) (cursor : Sorted) (was is : Reader) (before after : 
     → FailedAdvance cursor was is before after
 failed_advance = search rules
 
--- the input `s` is to advance: all its lines are processed
 module _ {tool : MergeTool} {old : MergeState} (w : IsOpenMerge tool old) (now : MergeState) {s : Side}
     (cursor : Sorted) {ls p : Side → Lines} {b : Side → Bound}
     (facts : (side : Side) → ReadFactsOf tool old now.reader ls p b side (now.reader side) []) (all : p s ≡ ls s)
@@ -140,7 +134,6 @@ pub open_merge : {tool : MergeTool} {first second : Reader} {out : Output} {stor
     → IsOpenMerge tool (merge_state first second out store)
 open_merge = grind arith
 
--- what the loop invariant says of the cursors and the store
 pub record CursorsInvariant {tool : MergeTool} {old : MergeState} (w : IsOpenMerge tool old) (reader : Side → Reader)
     (cursor : Side → Sorted) (store : Slots) (ls p : Side → Lines) (b : Side → Bound) : Type 0 where
   pub sides : SidesInvariant tool old.reader reader cursor store ls p b
@@ -166,7 +159,6 @@ module _ {tool : MergeTool} {old : MergeState} {w : IsOpenMerge tool old} {reade
   begun : (side : Side) → HasBegun (reader side) (ls side)
   begun side = (a.sides side).begun
 
-  -- if the lines `q` are processed
   abbrev ReadFactsBy : Side → Lines → Type 0
   ReadFactsBy side q = ReadFactsOf tool old reader ls (λ t. q) b side (reader side) []
 
@@ -184,7 +176,6 @@ module _ {tool : MergeTool} {old : MergeState} {w : IsOpenMerge tool old} {reade
       (side_case _ s (rw same (passing_now s head)) rest) same (λ r piece free. both_begun begun) a.keeps
       (a.sides s).slots lag
 
-  -- an input advances
   module _ (s : Side) (head : (cursor s).status ≡ Head) {next : Sorted} {new : Reader} {after : Slots}
       (comes : NextOkPost (key s) cmp (cursor s) next (reader s) new store after) where
     abbrev pub n : SideAfterNext tool s (old.reader s) new next (cursor s).previous_slot store after (ls s)
@@ -211,7 +202,6 @@ module _ {tool : MergeTool} {old : MergeState} {w : IsOpenMerge tool old} {now :
   open tool use {cmp, key}
   open loop use {ls, p, b, cursors as a, sides, merge_invariant as m}
 
-  -- the current line of the input `s` is written
   module _ {s : Side} (step : HasOnlyLeastKey cmp key cursor now.store s) {new : Output}
       (wrote : PushEffect now.out new (unlines (now.reader s).terminator (entries_alone tool.entries s
       (current_key key cursor now.store s) (line now.store (cursor s).current_slot)))) where
@@ -340,7 +330,6 @@ module _ {key : Side → Key} {now : MergeState} {one two : Sorted} (t : Between
         → reads_ahead (with_side s reader now.reader) one2 two2 < reads_ahead now.reader one two
     reads_less head came = grind arith
 
--- writing out the buffer does not change what was pushed
 pub wrote_and_sent : (was mid is : Output) (pushed : List ℕ) → mid.write_failed ≡ false → PushEffect was mid pushed
     → PushEffect mid is [] → PushEffect was is pushed
 wrote_and_sent was mid is _ clean wrote written_out =

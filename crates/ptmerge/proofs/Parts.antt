@@ -37,7 +37,6 @@ key_split : (tool : MergeTool) (P : List ℕ → Type 0) (ls : Side → Lines) �
 key_split _ P ls e = let (first, second) = Each-parts P _ _ e in
     elim [ First ↦ first | Second ↦ second ]
 
--- the key is below all of these
 abbrev is_under : Cmp → Lines → List ℕ → Bool
 is_under cmp [] k = true
 is_under cmp (x ∷ ls) k = is_lt (cmp k x) && is_under cmp ls k
@@ -190,7 +189,6 @@ module _ {A : Type 0} where
       let second = IsPermutation-trans _ _ _ first (changed _ own _) in
       grind (arith, append_assoc, all k, of_some f p q all ks, first, second)
 
-  -- part by part, from part `a` on
   of_each : (f : List ℕ → List A) (part_of : List ℕ → ℕ) (w : List ℕ → Bool) (a n : ℕ)
       → ((k : List ℕ) → (w k ≡ not (nat_lt (part_of k) a)) × part_of k < a + n) → (ks : Lines)
       → IsPermutation (flat_map f (filter w ks))
@@ -202,8 +200,6 @@ module _ {A : Type 0} where
       IsPermutation-trans _ _ _ (of_some f w (λ k. part_of k == a) (λ k here. grind (arith, nat_tests, h k, here)) ks)
       (IsPermutation-append_right _ _ _ (of_each f part_of (λ k. w k && not (part_of k == a)) (a + 1) n
       (λ k. (grind (arith, nat_tests, h k), omega (arith, h k))) ks))
-
--- ---- texts
 
 lines_of_each : (end : ℕ) (f : List ℕ → Lines) (ks es : Lines)
     → lines end (unlines end (es ++ flat_map f ks)) ≡ flat_map (λ e. lines end (e ++ end ∷ [])) es ++ flat_map

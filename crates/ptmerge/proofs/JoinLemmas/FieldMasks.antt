@@ -27,8 +27,6 @@ use specs.Join.{is_nonempty}
 use specs.Private.JoinFields.{IsFieldAt, has_single_spaces}
 use proofs.JoinLemmas.Fields.{first_is_position, none_past, prefixed_fields, space_is, single_spaced_words}
 
--- ---- the lowest bits of two numbers
-
 and_bits : (b c : Bool) (x y : ℕ) → bit_and (bit b + 2 * x) (bit c + 2 * y) ≡ bit (b && c) + 2 * bit_and x y
 and_bits b c x y = grind (arith, and_step (bit b + 2 * x) (bit c + 2 * y), halves b x, halves c y)
 
@@ -142,13 +140,11 @@ after_run [] = true ∷ []
 after_run (true ∷ bits) = false ∷ after_ones bits
 after_run (false ∷ bits) = false ∷ after_run bits
 
--- without the run that the bits begin with
 abbrev clear_ones : List Bool → List Bool
 clear_ones [] = []
 clear_ones (true ∷ bits) = false ∷ clear_ones bits
 clear_ones (false ∷ bits) = false ∷ bits
 
--- without the first run
 abbrev clear_run : List Bool → List Bool
 clear_run [] = []
 clear_run (true ∷ bits) = false ∷ clear_ones bits
@@ -386,7 +382,6 @@ no_field_after c number line some few =
     rw (count, drop_all (length line) line (omega arith)) at (pieces_passed c line (length line) left)
     ∙ drop_all left [] (omega arith)
 
--- the first match from an index on, in the bytes from there on
 first_of_rest : (test : ℕ → Bool) (hay : List ℕ) (start : ℕ) → start ≤ length hay → (r : Option ℕ)
     → IsFirst (Passes test hay) start (length hay) r
     → IsFirstByte test (drop start hay) (option_map (λ at. at - start) r)
@@ -430,7 +425,6 @@ module _ {c : ℕ} {line : List ℕ} {number start : ℕ} (within : start ≤ le
         after = λ e. rw (sym (drop-drop n start line)) (prefixed_fields c (drop (n + 1) tail) ∙ sym end);
       }
 
-  -- the field at an index is up to the first separator after it
   pub field_at : (r : Option ℕ) → IsFirst (Passes (is_byte c) line) start (length line) r
       → IsFieldAt (Some c) number line (record { start = start; end = unwrap_or r (length line) })
   field_at None none = last_at (first_of_rest (is_byte c) line start within None none)

@@ -115,7 +115,6 @@ pub first_piece_fails : {was new : Output} {all pushed : List ℕ} (row left pie
 first_piece_fails row left piece rest empty all split wrote fault P err_is =
     piece_fails row left piece rest (partial_starts (rw empty all)) refl split wrote fault P err_is
 
--- one call for each item of a list
 module _ {X : Type 0} (f : X → List ℕ) {xs more : List X} {x : X} (is : xs ≡ x ∷ more) {was now new : Output}
     {all : List ℕ} (a : PartialWrite was now all (flat_map f xs)) (wrote : PushEffect now new (f x)) where
   pub each_more : new.write_failed ≡ false → PartialWrite was new all (flat_map f more)
@@ -125,15 +124,11 @@ module _ {X : Type 0} (f : X → List ℕ) {xs more : List X} {x : X} (is : xs �
       → WriteBytesPost was new all r
   each_fails fault P err_is = partial_fails P err_is (flat_map f more) (rw is) a wrote fault
 
--- ---- the end of a field
-
 pub first_is_position : (test : ℕ → Bool) (bytes : List ℕ) (r : Option ℕ) → IsFirstByte test bytes r
     → r ≡ position test bytes
 first_is_position test bytes None none =
     grind (arith, (position_or_len_is test bytes (length bytes) 0), none, nat_tests)
 first_is_position _ _ _ (range, found) = grind (arith, position_or_len_is)
-
--- ---- the field with a number
 
 pub none_past : (fs : Lines) (i n : ℕ) → drop i fs ≡ [] → i ≤ n → drop n fs ≡ []
 none_past fs i n none le = grind (arith, drop-drop (n - i) i fs)
@@ -147,7 +142,6 @@ remaining_length (Some bytes) = suc (length bytes)
 
 -- ---- spans of fields
 
--- all fields of the rest of a line are fields of the line
 abbrev pub AreFieldsOf : Option ℕ → Option (List ℕ) → Option (List ℕ) → Type 0
 AreFieldsOf separator line left = (field : List ℕ) (remainder : Option (List ℕ))
     → IsFieldIn separator left field remainder → IsFieldIn separator line field remainder
@@ -164,8 +158,6 @@ fields_after separator (Some l) field (Some b) p f r q =
       is = rw (p.is, ends, q.is) (simp append_assoc);
       ends = q.ends;
     }
-
--- ---- the first field
 
 pub piece_at : (separator : Option ℕ) (bytes : List ℕ) (at : ℕ)
     → position (is_separator separator) bytes ≡ Some at → IsPiece separator bytes (take at bytes)
@@ -192,16 +184,12 @@ pub first_piece_span : (c number end : ℕ) (line : List ℕ) → number ≤ 1 �
     → IsKeySpan line (nth_field number (remaining_fields (Some c) (Some line))) (record { start = 0; end = end })
 first_piece_span = grind arith
 
--- ---- an empty word is skipped
-
 pub skip_empty_word : (separator : Option ℕ) (bytes field : List ℕ) (remainder : Option (List ℕ))
     → is_some separator ≡ false → (length field == 0) ≡ true
     → MatchOption remainder (slice_split (is_separator separator) bytes ≡ field ∷ [])
     (λ left. slice_split (is_separator separator) bytes ≡ field ∷ slice_split (is_separator separator) left)
     → remaining_fields separator remainder ≡ remaining_fields separator (Some bytes)
 skip_empty_word = grind arith
-
--- ---- writing lines field by field
 
 pub prefixed_fields : (c : ℕ) (bytes : List ℕ) → with_prefix c (slice_split (λ b. b == c) bytes) ≡ c ∷ bytes
 prefixed_fields c [] = refl
@@ -298,8 +286,6 @@ pub one_line_is : {job same : Join} {key k : List ℕ} (side : Side) (line : Lis
     → entry_with_list same same.list k one two ≡ entry_alone job side key line
 one_line_is First line one two jobs keys is = rw (jobs, keys, is.0, is.1)
 one_line_is _ _ one two jobs keys is = rw (jobs, keys, is.0, is.1)
-
--- ---- blanks
 
 pub space_is : (blank : Bool) (b : ℕ) (v : List ℕ) → is_blank b ≡ true → is_single_spaced blank (b ∷ v) ≡ true
     → (b ≡ 32) × (is_single_spaced true v ≡ true)

@@ -48,16 +48,12 @@ pub group_one : (store : Slots) (slot : ℕ) → slot < length store.lines
     → lines_of_slots store slot (slot + 1) ≡ line store slot ∷ []
 group_one = grind (arith, group_more)
 
--- ---- the output
-
 abbrev pub pair_of : Join → List ℕ → List ℕ → List ℕ → List ℕ
 pair_of job k first second = entry job k (join_fields job.separator first) (join_fields job.separator second)
 
 pub pairs_text : (job : Join) (end : ℕ) (x k : List ℕ) (g : Lines) → job.pairs ≡ true
     → unlines end (pair_entries job k (x ∷ []) g) ≡ unlines end (map (pair_of job k x) g)
 pairs_text = search rules
-
--- ---- emptying the group
 
 pub clears_none : (s : Slots) → ClearGroupPost s s 4
 clears_none = grind arith
@@ -234,7 +230,6 @@ module _ {tool : MergeTool} {old : MergeState} (w : IsOpenMerge tool old) {mid :
   rest_not_less side r c = EachKey-append _ (key side) (g side) r
       (Each-weaker _ _ (λ x is. rw is (self_at_most cmp o k)) _ (m.own side)) ((m.later side).may_follow r c)
 
-  -- two lists that continue the lines read so far
   module _ (all : Side → Lines)
       (seen : (side : Side) → IsFuture cmp (key side) (all side) (p side ++ g side) (d side)) where
     abbrev coming : Side → Lines
@@ -330,7 +325,6 @@ module _ (call : JoinCall) {mid : Output} {p g : Side → Lines} {d : Side → B
   none_less : (r : Side → Lines) → MayCome tool d r → (side : Side) → EachKey (AtMost cmp k) (key side) (r side)
   none_less = grind arith
 
-  -- the pairs of a group come first, for all lines of its key that the first input still has
   starts_pairs : (f c s : Lines) → 0 < length s → (rest : Lines) × (entries k (f ++ c) s ≡ pairs k f s ++ rest)
   starts_pairs [] c s some = (entries k c s, rw (laws.none k s))
   starts_pairs _ c s some = (pairs k c s, grind arith)
@@ -378,7 +372,6 @@ module _ (call : JoinCall) {mid : Output} {p g : Side → Lines} {d : Side → B
       some_text xs [] none same = absurd (omega arith)
       some_text xs (y ∷ ys) some same = absurd (omega (arith, simp (unlines-append, length-append) at (ap length same)))
 
-  -- a group is complete if only greater keys follow
   pub closes : {is : Output} → ((side : Side) → 0 < length (g side))
       → ((side : Side) → IsAbove cmp (key side) k (d side))
       → PushEffect mid is (unlines call.terminator (pairs k (g First) (g Second)))

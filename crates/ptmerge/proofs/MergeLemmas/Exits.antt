@@ -88,7 +88,6 @@ module _ (end : ℕ) (given piece : List ℕ) (ls p : Lines) (now new : Reader) 
   abbrev Point : Type 0
   Point = LagPoint end (received_with (given ++ piece) new) p
 
-  -- complete lines, a part of a line, and `last`, which is left out
   point : (whole : Lines) (tail last : List ℕ)
       → (given ++ piece) ++ new.buffered ≡ (unlines end whole ++ tail) ++ last → length last ≤ BLOCK + 1
       → AreLines end whole → IsLine end tail → (rest : Lines) → p ≡ whole ++ rest → Point
@@ -105,7 +104,6 @@ module _ (end : ℕ) (given piece : List ℕ) (ls p : Lines) (now new : Reader) 
     split = rw (complete_lines_of_unlines end _ _ all line) split;
   }
 
-  -- the last line lacks its terminator
   open_line : (w : Lines) (y : List ℕ) → ls ≡ w ++ y ∷ [] → AreLines end ls → given ++ end ∷ [] ≡ unlines end ls
       → (rest : Lines) → p ≡ w ++ rest → Point
   open_line w y last all is rest split =
@@ -169,7 +167,6 @@ module _ (tool : MergeTool) (o : IsKeyOrder tool.cmp) (eof : Side → Bool) (ls 
       let is = downward_splits tool o all_keys dec (downward_decided tool o eof ls) p in
       let none = λ (side : Side) (l : Lines) (e : EachKey _ (tool.key side) l). kept_none dec (tool.key side) l
       (Each-weaker _ _ undecided _ e) in
-      -- the lists differ only in lines that are left out
       let kept = λ (side : Side). (let d = differ side in
       simp (filter-append, none side d.rest d.none_rest, none side d.tail d.none_tail, append-nil) at
       (ap (filter (λ line. dec (tool.key side line))) d.same)) in
@@ -185,7 +182,6 @@ module _ (tool : MergeTool) (o : IsKeyOrder tool.cmp) (eof : Side → Bool) (ls 
   not_settled : EachKey (λ k. IsDisorderFrom cmp k (first_disorder cmp (tool.key (other of)) (ls (other of))))
       (tool.key of) (ls of) → lines_decide_disorder tool eof ls (disorder tool ls) ≡ false
   not_settled up =
-      -- a bound of all keys is not below the last one
       let above = λ (e : List ℕ) (most : EachKey _ (tool.key of) (ls of)).
       (let (below, _) = past_none cmp o (tool.key of) (λ k. k) (AtLeast e) (ls of) (e ∷ []) most
       (self_at_most cmp o e, tt) in undecided e below) in
@@ -203,7 +199,6 @@ module _ {tool : MergeTool} (o : IsKeyOrder tool.cmp) (given : Side → Received
     → IsFuture tool.cmp (tool.key side) (known_lines tool.terminator (given side)) (q side) (b side)) where
   open tool use {cmp, terminator}
 
-  -- the lines whose output is not complete, and then lines that may follow
   abbrev to_come : Side → Lines
   to_come side = lag.tail side ++ (seen side).rest
 
@@ -226,7 +221,6 @@ module _ {tool : MergeTool} (o : IsKeyOrder tool.cmp) (given : Side → Received
         past_none cmp o (tool.key of) _ (lag.bound side) whole _ (front_has _ _ _ _
         (rw point.split at (lag.under_bound side of))) (lag.may_follow side _ (seen side).may_follow)
 
-    -- only lines whose keys are not below `last` differ from the processed ones
     abbrev Differs : Side → Received → Type 0
     Differs side g =
         Differ tool last (tool.key side) (sorted_prefix cmp (tool.key side) (known_lines terminator g)) (lag.front side)
@@ -326,7 +320,6 @@ abbrev pub bound_after : Option (List ℕ) → Bound
 bound_after None = NoBound
 bound_after (Some k) = AtLeast k
 
--- the current line is the last one read, or none was read
 abbrev pub IsLastKey : Key → Option (List ℕ) → Sorted → Slots → Type 0
 IsLastKey key None cursor store = cursor.number ≡ 0
 IsLastKey key (Some k) cursor store = (0 < cursor.number) × (k ≡ key (line store cursor.current_slot))
@@ -337,7 +330,6 @@ reads_left Head = 1
 reads_left Ended = 0
 reads_left (Disorder n) = 0
 
--- the next line is read, and all earlier ones are processed
 pub record SideAfterNext (tool : MergeTool) (s : Side) (old new : Reader) (cursor : Sorted) (slot : ℕ)
     (before after : Slots) (ls : Lines) (last : Option (List ℕ)) : Type 0 where
   pub now_ls : Lines

@@ -26,7 +26,6 @@ pub use Rattle.std.specs.declared.cmp.Ordering.{Ordering}
 
 -- ---- keys in order
 
--- Distinct keys are sorted, so the entries of the least key come first, and then those of the lines with other keys.
 
 pub record IsKeyOrder (cmp : Cmp) : Type 0 where
   pub total : IsTotalOrder cmp
@@ -170,7 +169,6 @@ module _ (cmp : Cmp) (key : Key) where
   pub sorted_from_none : (ls : Lines) → first_disorder cmp key ls ≡ None → IsSortedFrom cmp key None ls
   sorted_from_none ls e = grind (arith, none_disordered, first_disorder_is)
 
--- lines in order, up to a last key
 pub record IsSortedUpTo (cmp : Cmp) (key : Key) (q : Lines) (last : Option (List ℕ)) : Type 0 where
   pub ordered : (w : Lines) → sorted_prefix cmp key (q ++ w) ≡ q ++ sorted_after cmp key last w
   pub may_disorder : (w : Lines) → first_disorder cmp key (q ++ w) ≡ disorder_after cmp key last (length q) w
@@ -215,7 +213,6 @@ MayDisorder cmp (AtLeast k) f = IsDisorderFrom cmp k f
 MayDisorder cmp (AfterDisorder d) f = f ≡ Some d
 MayDisorder cmp NothingMore f = f ≡ None
 
--- `k` is at most all keys that may follow
 abbrev pub IsUnder : Cmp → Bound → List ℕ → Type 0
 IsUnder cmp NoBound k = ⊥
 IsUnder cmp (AtLeast l) k = AtMost cmp k l
@@ -257,7 +254,6 @@ filter_none : (w : List ℕ → Bool) (ks : Lines) → Each (λ k. w k ≡ false
 filter_none w [] e = refl
 filter_none w (k ∷ ks) (here, more) = rw here (filter_none w ks more)
 
--- the keys ascend strictly
 abbrev pub Ascends : Cmp → Lines → Type 0
 Ascends cmp [] = Unit {0}
 Ascends cmp (k ∷ ks) = Each (Above cmp k) ks × Ascends cmp ks
@@ -347,7 +343,6 @@ module _ (p : List ℕ → Bool) where
 
 -- ---- the least key comes first
 
--- the lines of the least key, and those with other keys
 record LeastLines (cmp : Cmp) (key : Key) (k : List ℕ) (f r : Lines) : Type 0 where
   least : filter (λ line. is_le (cmp (key line) k)) (f ++ r) ≡ f ++ lines_with_key key r k
   other : filter (λ line. not (is_le (cmp (key line) k))) (f ++ r) ≡ filter (λ line. not (is_le (cmp (key line) k))) r
@@ -492,7 +487,6 @@ pub record LagInvariant (tool : MergeTool) (b : Side → Bound) (p : Side → Li
 abbrev pub AllWritten : MergeTool → (Side → Bound) → (Side → Lines) → Output → Output → Type 0
 AllWritten tool b p was is = LagInvariant tool b p was is (entries_by_key tool all_keys p)
 
--- they are, and the invariant holds
 abbrev pub Written : MergeTool → (Side → Bound) → (Side → Lines) → Output → Output → Type 0
 Written tool b p was is = MergeInvariant tool b p was is × AllWritten tool b p was is
 

@@ -208,7 +208,6 @@ pub record LinesTotal (xs : Lines) (m : Side → ℕ) (more : ℕ) : Type 0 wher
 pub has_lines_total : (xs : Lines) (m : Side → ℕ) (more : ℕ) → HasLines m more xs → LinesTotal xs m more
 has_lines_total = grind (arith, four_total)
 
--- the next line of an input replaces its previous line
 set_line : (s : Side) (cursor : Sorted) (xs : Lines) (m k : Side → ℕ) (more : ℕ) (x : List ℕ)
     → HasSlots s cursor → HasLines m more xs → ((side : Side) → m side ≤ k side) → length x ≤ k s
     → HasLines k more (set xs cursor.previous_slot x)
@@ -235,7 +234,6 @@ longer = grind (arith, max_length-append)
 pub side_extends : (s : Side) (ls : Side → Lines) {now : Lines} → Extends (ls s) now → AllExtend ls (with_side s now ls)
 side_extends = search (rules, put_each, extends_itself)
 
--- two lines of each input and the lines `g` are within the measure
 abbrev pub HasRoom : MergeTool → Lines → (Side → Lines) → Type 0
 HasRoom tool g ls = (2 * max_length (ls First) + 2 * max_length (ls Second) + total_bytes g ≤ tool.size ls)
     × (4 + length g ≤ tool.slots ls)
