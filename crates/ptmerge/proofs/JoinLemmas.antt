@@ -7,8 +7,8 @@ pub mod FieldMasks
 use Rattle.ptmerge.proofs
 use Rattle.ptmerge.specs
 use proofs.Common.{cond, Err, flat_map-append, Cmp, MergeFault, IsReadyToContinue, AdvanceOkPost, MergePost}
-use proofs.Common.{MergeRunPre, merge_state, both, lines_of, Memory, HaveEqualKeys, HasOnlyLeastKey, ◌⊎◌, AdvancePre}
-use proofs.Common.{push_nothing, inl, inr, ◌==◌, length_push, nil_from_length}
+use proofs.Common.{MergeRunPre, merge_state, both, lines_of, Memory, HaveEqualKeys, HasOnlyLeastKey, ◌⊎◌, push_nothing}
+use proofs.Common.{inl, inr, ◌==◌, length_push, nil_from_length}
 use specs.Private.JoinGroup.{IsInItsSlot, IsCopiedToGroup, ReadGroupLineOkPost, ReadGroupLinePost, IsGroup, group_lines}
 use specs.Private.WriteAndAdvance.{WriteThenAdvancePre}
 use proofs.MergeLemmas.{BetweenSteps, between_next, advance_pre, wrote_alone, alone_breaks, place_is, LoopInvariant}
@@ -194,12 +194,6 @@ module _ {job : Join} {cmp : Cmp} {key : Side → Key} {old now : MergeState} {o
   abbrev call : JoinCall
   call = join_call job cmp key t.w
 
-  pub read_group_in : (4 ≤ end) × (end ≤ length now.store.lines)
-  read_group_in = end_in a.q
-
-  pub read_group_pre : AdvancePre key Second one two (now.reader Second) now.store
-  read_group_pre = advance_pre t.between _ (a.heads Second).head
-
   pub read_group_less : {one2 two2 : Sorted} {reader : Reader} {made after : Slots} {out : Output}
       → NextOkPost (key Second) cmp two two2 (now.reader Second) reader now.store made
       → IsReadyToContinue key Second one two one2 two2 reader after out
@@ -368,9 +362,6 @@ module _ {job : Join} {cmp : Cmp} {key : Side → Key} {old now : MergeState} {o
 
   abbrev writing : JoinCall
   writing = join_call job cmp key t.w
-
-  pub write_pairs_pre : WriteThenAdvancePre (join_tool job) key First one two (now.reader First) now.store now.out
-  write_pairs_pre = write_pre t _ state.head.head
 
   pub write_pairs_less : {one2 two2 : Sorted} {reader : Reader} {after : Slots} {new : Output}
       → AdvanceOkPost key cmp First one two one2 two2 (now.reader First) reader now.store after new

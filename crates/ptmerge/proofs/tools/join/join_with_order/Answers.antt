@@ -3,11 +3,12 @@
 use Rattle.ptmerge.proofs
 use Rattle.ptmerge.specs
 use proofs.Common.{refl, sym, ◌∙◌, arith, both, join_job, merge_state, Ok}
-use proofs.JoinLemmas.{BetweenGroups, LoopOfJoin, alone_continues, alone_fails, join_opens, write_pre}
-use proofs.JoinLemmas.{group_opens, read_group_less, write_pairs_less}
-use proofs.JoinLemmas.{read_group_in, read_group_pre, read_group_continues, read_group_fails, write_pairs_next}
-use proofs.JoinLemmas.{write_pairs_pre, write_pairs_group, write_pairs_continues, pair_fails, group_there, group_closed}
-use proofs.MergeLemmas.{fails_by, start_fault, start_ok, ends_well, ends_fallen, kept_order, fails, ends, reads_less}
+use proofs.JoinLemmas.{BetweenGroups, LoopOfJoin, alone_continues, alone_fails, join_opens, write_pre, group_opens}
+use proofs.JoinLemmas.{read_group_less, write_pairs_less, read_group_continues, read_group_fails, write_pairs_next}
+use proofs.JoinLemmas.{write_pairs_group, write_pairs_continues, pair_fails, group_there, group_closed}
+use proofs.JoinLemmas.Group.{end_in}
+use proofs.MergeLemmas.{advance_pre, fails_by, start_fault, start_ok, ends_well, ends_fallen, kept_order, fails, ends}
+use proofs.MergeLemmas.{reads_less}
 use proofs.PassedLemmas.{blocks_fail, blocks_pre, blocks_read, reads_once}
 use proofs.PairLemmas.{blocks_joined, joined_by_blocks}
 use specs.declared.key_order.Side.TheVariants as sides
@@ -151,10 +152,11 @@ lines-init g c =
     }
 
 pub read_line-requires-clause-status_is : goal.read_line-requires-clause-status_is
-read_line-requires-clause-status_is g c = read_group_pre c.lines.invariant.kept.iteration
+read_line-requires-clause-status_is g c =
+    let t = c.lines.invariant.kept.iteration in advance_pre t.between _ (t.here.heads sides.Second).head
 
 pub read_line-requires-clause-group : goal.read_line-requires-clause-group
-read_line-requires-clause-group g c = read_group_in c.lines.invariant.kept.iteration
+read_line-requires-clause-group g c = end_in c.lines.invariant.kept.iteration.here.q
 
 pub returns-in_err-read_line-in-Both : goal.returns-in_err-read_line-in-Both
 returns-in_err-read_line-in-Both g c =
@@ -194,7 +196,8 @@ pairs-init g c =
     }
 
 pub write_pairs-requires-clause-writes : goal.write_pairs-requires-clause-writes
-write_pairs-requires-clause-writes g c = write_pairs_pre c.pairs.invariant.kept.iteration
+write_pairs-requires-clause-writes g c =
+    let t = c.pairs.invariant.kept.iteration in write_pre t _ t.here.head.head
 
 pub write_pairs-requires-clause-group : goal.write_pairs-requires-clause-group
 write_pairs-requires-clause-group g c = write_pairs_group c.pairs.invariant.kept.iteration
