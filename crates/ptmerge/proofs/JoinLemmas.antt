@@ -34,7 +34,7 @@ module _ (job : Join) (cmp : Cmp) (key : Side → Key) where
   pub join_opens : {first second : Reader} {out : Output} {store : Slots} → IsKeyOrder cmp
       → MergeRunPre job.terminator first second out store
       → IsOpenMerge (join_with job cmp key) (merge_state first second out store)
-  join_opens o begins = open_merge o (grind (arith, cond_of_empty, first_alone)) (λ ls. omega arith) begins
+  join_opens o begins = open_merge o (grind (arith, first_alone)) (λ ls. omega arith) begins
 
   some_pairs : job.pairs ≡ true → (k : List ℕ) (f g : Lines) → 0 < length f → 0 < length g
       → 0 < length (pair_entries job k f g)
@@ -42,7 +42,7 @@ module _ (job : Join) (cmp : Cmp) (key : Side → Key) where
   some_pairs keeps k f g some1 some2 = absurd (omega arith)
 
   pub join_pairs : IsPairTool (join_with job cmp key) (pair_entries job)
-  join_pairs = grind (arith, cond_of_empty, flat_map-append, some_pairs)
+  join_pairs = grind (arith, flat_map-append, some_pairs)
 
 -- ---- in a group
 
@@ -201,7 +201,7 @@ module _ {job : Join} {cmp : Cmp} {key : Side → Key} {old now : MergeState} {o
   read_group_less came continues = reads_less t.between Second continues (a.heads Second).head came
 
   all_copied : call.keeps_groups ≡ true → a.kept ≡ a.g
-  all_copied = grind (arith, a)
+  all_copied = grind arith
 
   abbrev y : List ℕ
   y = line now.store two.current_slot
@@ -247,7 +247,7 @@ module _ {job : Join} {cmp : Cmp} {key : Side → Key} {old now : MergeState} {o
           ⊎ IsCopiedToGroup call.keeps_groups two2 made after end to → GrownGroup after to
       grown_group (inl e) =
           let none = ⊎_elim (λ without. a.copied ∙ (λ i. cond (without i) a.g []))
-          (λ (_, four). nil_from_length a.kept (omega (arith, a.q.at))) e.stays in
+          (λ (_, four). nil_from_length a.kept (omega arith)) e.stays in
           rw (e.end_is, e.store_is) (record {
             kept = a.kept;
             q = on_second.group;
@@ -257,7 +257,7 @@ module _ {job : Join} {cmp : Cmp} {key : Side → Key} {old now : MergeState} {o
             lines_in = inr (record {
               none = none;
               own = rw (last_stays (a.heads Second) comes) (a.heads Second).is;
-              same_pairs = search (rules, all_copied, a);
+              same_pairs = search (rules, a);
             });
           })
       grown_group {after} (inr e) =
@@ -268,7 +268,7 @@ module _ {job : Join} {cmp : Cmp} {key : Side → Key} {old now : MergeState} {o
           (λ all more. rw (all_copied e.keeps) (call.laws.largest e.keeps _ all (inside (more Second)))) in
           rw e.end_is (record {
             kept = a.kept ++ y ∷ [];
-            q = group_kept on_second.group new.same new.store_holds (omega (arith, a.q.at, length_push a.kept y));
+            q = group_kept on_second.group new.same new.store_holds (omega (arith, length_push a.kept y));
             same = new.same;
             copied = λ s i. cond ((sym e.keeps) i) (all i) [];
             lines_in = inl all;
@@ -380,7 +380,7 @@ module _ {job : Join} {cmp : Cmp} {key : Side → Key} {old now : MergeState} {o
   group_pairs_are : (f : Lines) → pair_entries job state.k f in_slots ≡ pair_entries job state.k f (state.g Second)
   group_pairs_are f = ⊎_elim (λ same. rw (is_kept same, group_is state.q.keeps state.q.at, same)) (λ h. rw (
     is_alone h.none,
-    group_one now.store two.previous_slot (omega (arith, state.q.keeps.four)),
+    group_one now.store two.previous_slot (omega arith),
   ) (h.same_pairs f))
       state.lines_in
 
@@ -391,8 +391,8 @@ module _ {job : Join} {cmp : Cmp} {key : Side → Key} {old now : MergeState} {o
     keyed = λ slot from low. sym (t.keys Second (line now.store slot)) ∙ ⊎_elim (λ same.
         let first = rw (is_kept same) at from in
         let last = rw (is_kept same) at low in
-        rw (kept_line state.q.keeps _ first (omega (arith, state.q.at))) (EachKey-at _ _
-        _ _ (omega (arith, state.q.at)) (rw (← same) at (state.q.within.own Second))))
+        rw (kept_line state.q.keeps _ first (omega arith)) (EachKey-at _ _
+        _ _ (omega arith) (rw (← same) at (state.q.within.own Second))))
         (λ h. let is : slot ≡ two.previous_slot = omega
         (arith, rw (is_alone h.none) at from, rw (is_alone h.none) at low) in rw is h.own) state.lines_in
         ∙ sym state.head.is;
@@ -451,7 +451,7 @@ module _ {job : Join} {cmp : Cmp} {key : Side → Key} {old now : MergeState} {o
             p = λ side. q.p side ++ with_added_line now (both one two) First state.g side;
             b = q.d;
             cursors = record {
-              sides = same_cursors writing.tool q.sides (omega (arith, clear.slots))
+              sides = same_cursors writing.tool q.sides (omega arith)
                   (λ i low. clear.others i (inl low));
               keeps = group_store_cleared q.keeps q.at clear;
             };

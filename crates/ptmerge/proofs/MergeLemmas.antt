@@ -25,7 +25,7 @@ pub current_key_is_above : (cmp : Cmp) (o : IsKeyOrder cmp) (key : Key) (x : Lis
     → MatchesStatus cmp key status cursor store now ls p b → IsAbove cmp key x b × IsLater cmp key (AtLeast x) b
 current_key_is_above cmp o key x Head cursor store now ls p b before line_is =
     let above = is_greater _ before in
-    rw line_is.bound (search (rules, Each-weaker, at_most_trans, greater_flips cmp o, less_flips cmp o))
+    rw line_is.bound (search (rules, Each-weaker, at_most_trans, less_flips cmp o))
 current_key_is_above cmp o key x Ended cursor store now ls p b before (bound, _) = grind arith
 current_key_is_above cmp o key x _ _ _ now ls p b before st = grind arith
 
@@ -116,15 +116,15 @@ module _ {tool : MergeTool} {old : MergeState} (w : IsOpenMerge tool old) (now :
   advance_fails {out} lag new after fault e =
       let f = failed_advance s cursor (now.reader s) new _ after out fault (facts s).sound e in
       let ends = put_both (ReadFactsOf tool old now.reader ls p b) s new _ f.piece (λ side. [])
-      (grind (arith, f)) (facts (other s)) in
+      (grind arith) (facts (other s)) in
       exit_is_merge_post w (state_by_side (with_side s new now.reader) out after) ends lag
       (λ all holds.
       let longest = rw (put_same s _ _) at (holds s).longest in
       let next = group_store_line s cursor slots f.piece keeps (λ side. extends (holds side)) (omega arith) refl in
       omega (arith, next.fits all (λ side. extends_itself _))) (order new f.piece f.line)
       (put_each (λ side (r : Reader). r.failed ≡ true → IsFailedRead r (ls side) (p side)) s new _
-      (grind (arith, f, w.unfailed s)) (λ side fail. cc ((facts side).lines_read.advance_ok.failed, w.unfailed side)))
-      _ (grind (arith, w.unfailed, put_same, side_case, put_other, e))
+      (grind (arith, f)) (λ side fail. cc ((facts side).lines_read.advance_ok.failed, w.unfailed side)))
+      _ (grind (arith, put_same, side_case, put_other, e))
 
 -- ---- between two steps
 
@@ -214,9 +214,9 @@ module _ {tool : MergeTool} {old : MergeState} {w : IsOpenMerge tool old} {now :
         write_least_run w.o (key s x) (with_side s (ls s) p) (alone s x)
         (side_case _ s (simp put_same (line_is_least_run w.o h.bound refl)) (simp put_other
         -- no line of the other input has the key, and only greater keys follow
-        (search (rules, later, self_at_most))))
+        (search (rules, later))))
         (side_case _ s (simp put_same h.all) (simp (put_other, append-nil))) (w.alone.none (key s x))
-        (λ r c. grind (arith, w.alone)) clean m
+        (λ r c. grind arith) clean m
         (rw (entries_of_line tool s x) (rw (sides s).lines_read.terminator at wrote))
 
     pub alone_breaks : EndsIfFails tool old now s (cursor s) new
@@ -229,7 +229,7 @@ module _ {tool : MergeTool} {old : MergeState} {w : IsOpenMerge tool old} {now :
       let d : FirstDisorder = record { last_key = previous_key key cursor now.store s; line = n } in
       let disordered : b s ≡ AfterDisorder d = rw dec.status_is at (sides s).status_is in
       let st = (sides (other s)).status_is in
-      let (above, _) = current_key_is_above _ w.o _ _ _ _ _ _ _ _ _ (grind (arith, is_greater, dec.named)) st in
+      let (above, _) = current_key_is_above _ w.o _ _ _ _ _ _ _ _ _ (grind (arith, dec.named)) st in
       rw (named_is _ w.o _ s d _ _ _ _ _ _ _ dec.named st (λ side. first_disorder cmp (key side) (l side))
       (rw disordered at (f s)) (f (other s))) (
         none_wanted tool _ r (side_case _ s (rw (rw disordered at (c s)) tt)
@@ -247,12 +247,12 @@ module _ {tool : MergeTool} {old : MergeState} {w : IsOpenMerge tool old} {now :
     pushed_all ended stop =
         let exact = exact_output w last (read_facts_current a) m stop in
         record {
-          out = search (rules, exact);
-          disorder = search (rules, exact);
-          ended = search (rules, ended);
-          fault = search (rules, sides);
-          short = search (rules, sides, w.sound, w.readable);
-          unfailed = search (rules, none_failed a);
+          out = search rules;
+          disorder = search rules;
+          ended = search rules;
+          fault = search rules;
+          short = search (rules, sides, w.sound);
+          unfailed = search rules;
           clean = clean;
           not_denied = clear.denied ∙ a.keeps.denied;
           empty = omega (arith, (has_lines_total now.store.lines (λ side. max_length (ls side)) 0 a.keeps.lines).is);
@@ -263,7 +263,7 @@ module _ {tool : MergeTool} {old : MergeState} {w : IsOpenMerge tool old} {now :
         → MergePost tool old last result
     concludes result ends = exit_is_merge_post w _ (read_facts_current a)
         (lag_invariant_starts w.o m clean (push_nothing now.out)) (fits_emptied a.keeps after clear.peak clear.slots)
-        (both_begun (begun a)) (λ side fail. search (rules, none_failed a side, w.unfailed side)) result ends
+        (both_begun (begun a)) (λ side fail. search (rules, w.unfailed side)) result ends
 
     pub ends_well : ((side : Side) → (cursor side).status ≡ Ended) → MergePost tool old last (Ok tt)
     ends_well step =
@@ -323,7 +323,7 @@ module _ {key : Side → Key} {now : MergeState} {one two : Sorted} (t : Between
   module _ (s : Side) {one2 two2 : Sorted} {reader : Reader} {after : Slots} {new : Output}
       (continues : IsReadyToContinue key s one two one2 two2 reader after new) where
     pub between_next : BetweenSteps key (state_by_side (with_side s reader now.reader) new after) one2 two2
-    between_next = grind (arith, put_same, put_other)
+    between_next = grind (arith, put_same)
 
     pub reads_less : {cmp : Cmp} {made : Slots} → (both one two s).status ≡ Head
         → NextOkPost (key s) cmp (both one two s) (both one2 two2 s) (now.reader s) reader now.store made
@@ -394,7 +394,7 @@ module _ {tool : MergeTool} {old : MergeState} (w : IsOpenMerge tool old) where
   unstarted = record { reader = old.reader; store = old.store }
 
   none_read : (side : Side) → LinesRead terminator (old.reader side) (old.reader side) []
-  none_read side = grind (arith, w.readable side)
+  none_read side = grind arith
 
   first_line : (side : Side) {new : Reader} {cursor : Sorted} {before after : Slots} → 4 ≤ length before.lines
       → NextOkPost (key side) cmp (initial_cursor side) cursor (old.reader side) new before after
@@ -415,7 +415,7 @@ module _ {tool : MergeTool} {old : MergeState} (w : IsOpenMerge tool old) where
         (store_starts w.fits s.four w.allowed w.empty) began
 
     half_invariant : MergeInvariant tool (both began.bound NoBound) no_lines old.out old.out
-    half_invariant = search (rules, bound_changes, began)
+    half_invariant = search (rules, began)
 
   pub start_ok : {first second : Reader} {store : Slots} {one two : Sorted}
       → StartOkPost key cmp (both one two) unstarted (merge_inputs first second store)
@@ -435,7 +435,7 @@ module _ {tool : MergeTool} {old : MergeState} (w : IsOpenMerge tool old) where
       }
 
   unread : (side : Side) → ReadFactsOf tool old old.reader no_lines no_lines (λ t. NoBound) side (old.reader side) []
-  unread side = grind (arith, none_read, reads_nothing, w.sound side)
+  unread side = grind (arith, none_read, w.sound side)
 
   abbrev StartErr : Reader → Reader → Slots → MergeFault → Type 0
   StartErr new1 new2 after fault =
@@ -447,7 +447,7 @@ module _ {tool : MergeTool} {old : MergeState} (w : IsOpenMerge tool old) where
     start_fault (inl u) = rw u.memory (merge_without_slots w refl u.unread u.slots)
     start_fault (inr (inl f)) =
         rw f.unread (advance_fails w (state_by_side old.reader old.out f.made) (initial_cursor First)
-        unread refl (λ r piece free. grind (arith, one_line_at_most, free))
+        unread refl (λ r piece free. grind (arith, one_line_at_most))
         (store_starts w.fits f.four w.allowed w.empty) (fresh_slots First)
         (lag_invariant_starts w.o (merge_invariant_starts tool _) w.writable (push_nothing _)) _ _ _
         (inr (w.writable, f.fails)))

@@ -7,13 +7,13 @@ use Rattle.std.proofs.lemmas
 use proofs.Common.{arith, ◌≡◌, ℕ, ◌+◌, List, [], ◌∷◌, ◌++◌, Bool, true, false, Option, Some, None, refl, ap, sym, ◌∙◌}
 use proofs.Common.{filter, Less, Side, First, Second, Lines, MergeTool, FirstDisorder, entries_by_key, disorder, usual}
 use proofs.Common.{first_disorder, keys, merged_entries, sorted_prefixes, sorted_prefix, is_up_to, lines_of, Cmp, Key}
-use proofs.Common.{unlines, unlines-append, ◌&&◌, not, map, tied_itself, flat_map, is_lt, distinct_keys, entries_of_key}
-use proofs.Common.{IsLine, zero, suc, ◌<◌, ◌==◌, nat_lt, append_assoc, nat_tests, range_with_len, lines, rules}
+use proofs.Common.{unlines, unlines-append, ◌&&◌, not, tied_itself, flat_map, is_lt, distinct_keys, entries_of_key}
+use proofs.Common.{IsLine, zero, suc, ◌<◌, ◌==◌, nat_lt, append_assoc, range_with_len, lines, rules}
 use proofs.MergeLemmas.Exits.Invariant.{IsDisorderFrom, after_from, disorder_after, first_disorder_is, IsSortedFrom}
 use proofs.MergeLemmas.Exits.Invariant.{sorted_from_start, sorted_from_none, is_disordered, sorted_after}
 use proofs.MergeLemmas.Exits.Invariant.{sorted_prefix_is, IsDownwardClosed, all_keys, all_wanted, by_keys_kept}
 use proofs.MergeLemmas.Exits.Invariant.{downward_splits, up_to_from, Each, Each-weaker, EachKey, Each-all, Each-parts}
-use proofs.MergeLemmas.Exits.Invariant.{IsKeyOrder, AtMost, at_most_trans, greater_flips, line_order}
+use proofs.MergeLemmas.Exits.Invariant.{IsKeyOrder, AtMost, line_order}
 use lemmas.List.Elements.{All-filter, recursion_from_All}
 use lemmas.List.Sorted.{IsPermutation-refl, IsPermutation-trans, IsPermutation-append_left, IsPermutation-append_right}
 use lemmas.List.Sorted.{IsPermutation-append_comm}
@@ -48,7 +48,7 @@ module _ (cmp : Cmp) (o : IsKeyOrder cmp) where
 
   downward_under : (ls : Lines) → IsDownwardClosed cmp (is_under cmp ls)
   downward_under [] a b g h = refl
-  downward_under (x ∷ ls) a b g h = search (rules, greater_flips, downward_under ls a b g)
+  downward_under (x ∷ ls) a b g h = search (rules, downward_under ls a b g)
 
   none_under : (ls : Lines) → Each (λ l. is_under cmp ls l ≡ false) ls
   none_under [] = tt
@@ -83,7 +83,7 @@ module _ (cmp : Cmp) (o : IsKeyOrder cmp) (key : Key) where
       × (without_line_number (first_disorder cmp key (xs ++ ys)) ≡ without_line_number (first_disorder cmp key ys))
   together xs ys e b =
       let all = appended _ 0 xs ys (sorted_from_none cmp key xs e) (Each-all _ (λ k. refl) _) b in
-      grind (arith, all, first_disorder_is, sorted_prefix_is)
+      grind (arith, first_disorder_is, sorted_prefix_is)
 
   each_ordered : (P : List ℕ → Type 0) (ys : Lines) → EachKey P key ys → EachKey P key (sorted_prefix cmp key ys)
   each_ordered P [] e = tt
@@ -100,7 +100,7 @@ module _ (cmp : Cmp) (o : IsKeyOrder cmp) (key : Key) where
       → IsSortedFrom cmp key last xs → IsSortedFrom cmp key from (filter p xs)
   kept_after p _ _ [] up s = tt
   kept_after p last from (x ∷ xs) up (here, more) =
-      let left_out = kept_after p (Some (key x)) from xs (λ k g. grind (arith, at_most_trans, g)) more in
+      let left_out = kept_after p (Some (key x)) from xs (λ k g. grind (arith, g)) more in
       grind (arith, kept_after p (Some (key x)) (Some (key x)) xs (λ k g. g) more)
 
   -- a sublist of a sorted list is sorted
@@ -117,14 +117,14 @@ module _ (tool : MergeTool) (o : IsKeyOrder tool.cmp) where
 
   pub merged_in_order : (ls : Side → Lines) → disorder tool ls ≡ None
       → merged_entries tool ls ≡ entries_by_key tool all_keys ls
-  merged_in_order = grind (arith, sorted_from_start, sorted_from_none, none_disordered)
+  merged_in_order = grind (arith, sorted_from_start, sorted_from_none)
 
   -- the keys of the sorted lists `a` pass the test; those of `b`, which are higher, do not
   module _ (p : List ℕ → Bool) (down : IsDownwardClosed cmp p) (a b : Side → Lines) (in_order : disorder tool a ≡ None)
       (low : (side : Side) → EachKey (λ k. p k ≡ true) (key side) (a side))
       (high : (side : Side) → EachKey (λ k. p k ≡ false) (key side) (b side)) where
     at_most_high : (side : Side) (k : List ℕ) → p k ≡ true → EachKey (AtMost cmp k) (key side) (b side)
-    at_most_high side k h = Each-weaker _ _ (λ l g. grind (arith, down l k)) _ (high side)
+    at_most_high side k h = Each-weaker _ _ (λ l g. grind arith) _ (high side)
 
     both_go_on : (side : Side)
         → (sorted_prefix cmp (key side) (a side ++ b side) ≡ a side ++ sorted_prefix cmp (key side) (b side))
@@ -187,19 +187,19 @@ module _ {A : Type 0} where
       let own = flat_map f (filter q ks) in
       let first = IsPermutation-append_right (f k) _ _ (of_some f p q all ks) in
       let second = IsPermutation-trans _ _ _ first (changed _ own _) in
-      grind (arith, append_assoc, all k, of_some f p q all ks, first, second)
+      grind (arith, append_assoc, of_some f p q all ks, first, second)
 
   of_each : (f : List ℕ → List A) (part_of : List ℕ → ℕ) (w : List ℕ → Bool) (a n : ℕ)
       → ((k : List ℕ) → (w k ≡ not (nat_lt (part_of k) a)) × part_of k < a + n) → (ks : Lines)
       → IsPermutation (flat_map f (filter w ks))
       (flat_map (λ i. flat_map f (filter (λ k. part_of k == i) ks)) (range_with_len a n))
   of_each f part_of w a zero h [] = IsPermutation-refl []
-  of_each f part_of w a zero h (k ∷ ks) = let out : w k ≡ false = grind (arith, nat_tests, h k) in
+  of_each f part_of w a zero h (k ∷ ks) = let out : w k ≡ false = grind (arith, h k) in
       rw out (of_each f _ w a _ h ks)
   of_each f part_of w a (suc n) h ks =
-      IsPermutation-trans _ _ _ (of_some f w (λ k. part_of k == a) (λ k here. grind (arith, nat_tests, h k, here)) ks)
+      IsPermutation-trans _ _ _ (of_some f w (λ k. part_of k == a) (λ k here. grind (arith, h k, here)) ks)
       (IsPermutation-append_right _ _ _ (of_each f part_of (λ k. w k && not (part_of k == a)) (a + 1) n
-      (λ k. (grind (arith, nat_tests, h k), omega (arith, h k))) ks))
+      (λ k. (grind (arith, h k), omega (arith, h k))) ks))
 
 lines_of_each : (end : ℕ) (f : List ℕ → Lines) (ks es : Lines)
     → lines end (unlines end (es ++ flat_map f ks)) ≡ flat_map (λ e. lines end (e ++ end ∷ [])) es ++ flat_map
@@ -215,7 +215,7 @@ lines_dealt end q _ = lines-unlines end _
 
 split_by_key : (tool : MergeTool) → IsKeyOrder tool.cmp → IsSplittableByKey tool
 split_by_key tool o inputs part_of parts in_order below = simp (whole, of_part)
-    (of_each each part_of all_keys 0 parts (λ k. (grind (arith, nat_tests), omega (arith, below k))) ds)
+    (of_each each part_of all_keys 0 parts (λ k. (grind arith, omega arith)) ds)
   where
     ls : Side → Lines
     ls = lines_of tool inputs
@@ -232,7 +232,7 @@ split_by_key tool o inputs part_of parts in_order below = simp (whole, of_part)
         let own : List ℕ → Bool = λ k. part_of k == i in
         let in_part : Side → List ℕ → Bool = λ side line. own (tool.key side line) in
         let entries = merged_in_order tool o (λ side. filter (in_part side) (ls side))
-        (grind (arith, in_order_kept, none_disordered, in_order)) ∙ by_keys_kept own tool o ls all_keys in
+        (grind (arith, in_order_kept, in_order)) ∙ by_keys_kept own tool o ls all_keys in
         (λ t. lines tool.terminator (unlines tool.terminator
         (merged_entries tool (λ side. lines_dealt tool.terminator (in_part side) (inputs side) t))))
         ∙ ap (λ es. lines tool.terminator (unlines tool.terminator es)) entries

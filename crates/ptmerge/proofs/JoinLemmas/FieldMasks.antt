@@ -15,7 +15,7 @@ use lemmas.Simd.{mask_l-lt, trailing_mask_l}
 use Rattle.std.specs.Simd.Lanes.{chunk, mask_l}
 use Rattle.memchr.specs.Find.{is_byte, IsFirst, IsFirstByte, Passes}
 use Rattle.std.proofs.Math.Nat.{div-div-eq-div-mul}
-use Rattle.std.proofs.Math.Pow.{pow-lt, pow_mono}
+use Rattle.std.proofs.Math.Pow.{pow_mono}
 use lib.Bits.{and_step, or_zero_r, and_zero_l, or_shifted_r, and_mod, and_le_l, and_self, or_self}
 use lib.Count.{count_trailing_zeros}
 use Rattle.ptlines.proofs.MatchMasks.{bit, halves, or_bits}
@@ -28,7 +28,7 @@ use specs.Private.JoinFields.{IsFieldAt, has_single_spaces}
 use proofs.JoinLemmas.Fields.{first_is_position, none_past, prefixed_fields, space_is, single_spaced_words}
 
 and_bits : (b c : Bool) (x y : ℕ) → bit_and (bit b + 2 * x) (bit c + 2 * y) ≡ bit (b && c) + 2 * bit_and x y
-and_bits b c x y = grind (arith, and_step (bit b + 2 * x) (bit c + 2 * y), halves b x, halves c y)
+and_bits b c x y = grind (arith, and_step (bit b + 2 * x) (bit c + 2 * y), halves c y)
 
 -- ---- single spaces
 
@@ -62,7 +62,7 @@ single_spaces_is spaces tabs before bytes low few is tabs_is =
     and_low x y low = grind (arith, and_le_l x y, and_mod x y 64)
 
 power_fits : (v : List ℕ) → length v < 64 → 1 * 2 ^ length v % 2 ^ 64 ≡ 1 * 2 ^ length v
-power_fits = search (rules, pow-lt)
+power_fits = search rules
 
 end_bit : (test : ℕ → Bool) (bytes : List ℕ)
     → mask_l (map test (bytes ++ 32 ∷ [])) ≡ mask_l (map test bytes) + cond (test 32) (2 ^ length bytes) 0
@@ -81,8 +81,8 @@ pub spaced_rest : (blank : Bool) (spaces tabs : ℕ) (bytes : List ℕ) {result 
     → tabs ≡ mask_l (map (is_byte 9) all) → result ≡ has_single_spaces blank all) → result ≡ is_single_spaced blank bytes
 spaced_rest blank spaces tabs bytes short spaces_is tabs_is ensures =
     ensures (bytes ++ 32 ∷ []) (omega (arith, length-append bytes (32 ∷ [])))
-    (grind (arith, spaces_is, mask_l-lt, length-map, power_fits, or_shifted_r, end_bit (is_byte 32) bytes))
-    (omega (arith, tabs_is, end_bit (is_byte 9) bytes)) ∙ spaced_to_end blank bytes
+    (grind (arith, mask_l-lt, length-map, power_fits, or_shifted_r, end_bit (is_byte 32) bytes))
+    (omega (arith, end_bit (is_byte 9) bytes)) ∙ spaced_to_end blank bytes
 
 -- ---- the next 64 bytes of a line
 
@@ -218,7 +218,7 @@ in_word (b ∷ v) =
     let split = split_byte b v e in
     let more = slice_split is_blank v in
     simp e (grind (arith, more, split, single_spaced_words true v)))
-    (λ (e : is_blank b ≡ false). simp (e, one_more) (let more = w.more in grind (arith, more, w, e)))
+    (λ (e : is_blank b ≡ false). simp e (let more = w.more in grind (arith, more, w, e)))
     (cases_Bool (is_blank b))
 
 -- the first word of `v` from the index `at` on is from `start` to before `end`
@@ -258,7 +258,7 @@ word_at zero (b ∷ v) low some =
       high = omega arith;
       is = rw (size, split_byte b v e, w.split, w.words);
       rest = search w.rest;
-      spaced = λ blank s. w.spaced (grind (arith, s));
+      spaced = λ blank s. w.spaced (grind arith);
     })) (cases_Bool _)
 
 no_words : (at : ℕ) (v : List ℕ) → mask_l (from at v) ≡ 0 → join_fields None (drop at v) ≡ []
@@ -313,7 +313,7 @@ module _ {line : List ℕ} {passed words : ℕ} (short : length line < 64) (left
     start_is = grind (arith, lowest, bits_long)
 
     end_is : count_trailing_zeros 64 after ≡ prefix_len not (after_run bits)
-    end_is = grind (arith, after_is, lowest, length-after_run, bits_long, or_less)
+    end_is = grind (arith, lowest, length-after_run, bits_long, or_less)
 
     pub word_passed : WordsLeft line (passed + 1) (bit_and words after)
     word_passed = let w = first_word in
@@ -369,7 +369,7 @@ pub fields_after_nth : (c number at : ℕ) (line : List ℕ) → 1 < number → 
     → drop (number - 1) (join_fields (Some c) line) ≡ join_fields (Some c) (drop at line)
 fields_after_nth c number at line some after nth =
     let (within, passes, counted) = rw (take_all (length line) line (omega arith)) at nth in
-    let count : suc (0 + count_by (is_byte c) (take (at - 1) line)) ≡ number - 1 = omega (arith, counted) in
+    let count : suc (0 + count_by (is_byte c) (take (at - 1) line)) ≡ number - 1 = omega arith in
     let next : at - 1 + 1 ≡ at = omega arith in
     let here = rw (eqb-true (get_or line (at - 1) 0) c passes, next) at (drop_more line (at - 1) 0 within) in
     rw (count, here, byte_eq c) at (pieces_passed c line (at - 1) 0)
@@ -378,7 +378,7 @@ pub no_field_after : (c number : ℕ) (line : List ℕ) → 1 < number
     → count_by (is_byte c) (take (length line) line) ≤ number - 2 → drop (number - 1) (join_fields (Some c) line) ≡ []
 no_field_after c number line some few =
     let left = number - 2 - count_by (is_byte c) (take (length line) line) in
-    let count : suc (left + count_by (is_byte c) (take (length line) line)) ≡ number - 1 = omega (arith, few) in
+    let count : suc (left + count_by (is_byte c) (take (length line) line)) ≡ number - 1 = omega arith in
     rw (count, drop_all (length line) line (omega arith)) at (pieces_passed c line (length line) left)
     ∙ drop_all left [] (omega arith)
 
@@ -388,12 +388,12 @@ first_of_rest : (test : ℕ → Bool) (hay : List ℕ) (start : ℕ) → start �
 first_of_rest test hay start within None none = λ k low high passes.
     none (start + k) (omega arith) (omega (arith, length-drop start hay)) (rw (get_or-drop start hay k 0) at passes)
 first_of_rest test hay start within (Some at) (first, found) =
-    let same : start + (at - start) ≡ at = omega (arith, first.low) in (
+    let same : start + (at - start) ≡ at = omega arith in (
       record {
         low = omega arith;
-        high = omega (arith, first.low, first.high, length-drop start hay);
+        high = omega (arith, first.low, length-drop start hay);
         before = λ k low high passes.
-            first.before (start + k) (omega arith) (omega (arith, first.low)) (rw (get_or-drop start hay k 0) at passes);
+            first.before (start + k) (omega arith) (omega arith) (rw (get_or-drop start hay k 0) at passes);
       },
       rw (get_or-drop start hay (at - start) 0, same) found,
     )
@@ -421,7 +421,7 @@ module _ {c : ℕ} {line : List ℕ} {number start : ℕ} (within : start ≤ le
         more = join_fields (Some c) (drop (n + 1) tail);
         is = rw size (fields ∙ split);
         ordered = omega arith;
-        within = omega (arith, range.high, length-drop start line);
+        within = omega (arith, length-drop start line);
         after = λ e. rw (sym (drop-drop n start line)) (prefixed_fields c (drop (n + 1) tail) ∙ sym end);
       }
 
@@ -430,5 +430,5 @@ module _ {c : ℕ} {line : List ℕ} {number start : ℕ} (within : start ≤ le
   field_at None none = last_at (first_of_rest (is_byte c) line start within None none)
   field_at (Some at) first =
       let (range, passes) = first in
-      let same : start + (at - start) ≡ at = omega (arith, range.low) in
+      let same : start + (at - start) ≡ at = omega arith in
       rw same at (found_at (at - start) (first_of_rest (is_byte c) line start within (Some at) first))

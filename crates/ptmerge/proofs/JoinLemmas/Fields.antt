@@ -6,7 +6,7 @@ use Rattle.std.proofs.lemmas
 use proofs.Common.{◌≡◌, ⊎_elim, false, ℕ, List, ◌++◌, Result, Ok, Err, IsErrAnd, true, Output, PushPost, PushEffect}
 use proofs.Common.{push_trans, ◌∷◌, [], refl, append_assoc, arith, length-drop, length-append, suc, ◌+◌, ◌-◌, ◌≤◌, Bool}
 use proofs.Common.{Option, None, Some, length, drop, get_or, sym, ap, zero, ◌<◌, ◌==◌, cond, position, MatchOption}
-use proofs.Common.{filter, is_some, slice_split, nat_tests, is_blank, Lines, is_separator, entry_with_list, usual}
+use proofs.Common.{filter, is_some, slice_split, is_blank, Lines, is_separator, entry_with_list, usual}
 use proofs.Common.{remaining_fields, map, remove, unwrap_or, append-nil, flat_map-append, Join, output_separator, entry}
 use proofs.Common.{join_fields, other_fields, is_single_spaced, with_prefix, ◌∙◌, First, Second, Side}
 use lemmas.Bool.{cases_Bool, eqb-true}
@@ -36,7 +36,7 @@ use specs.Calls.KeySpan.{IsKeySpan}
 wrote_then : {a b c : Output} {xs ys : List ℕ} → (a.write_failed ≡ false → b.write_failed ≡ false)
     → PushEffect a b xs → PushEffect b c ys → PushEffect a c (xs ++ ys)
 wrote_then {a} {b} {c} {xs} {ys} clean p q =
-    ⊎_elim (λ fault. grind (arith, fault)) (λ fine. push_trans a b c xs ys (clean fine) p q) (cases_Bool _)
+    ⊎_elim (λ fault. grind arith) (λ fine. push_trans a b c xs ys (clean fine) p q) (cases_Bool _)
 
 pub then_pushes : {E : Type 0} {a b c : Output} {xs ys : List ℕ} {r : Result (Unit {0}) E}
     → (a.write_failed ≡ false → b.write_failed ≡ false) → PushEffect a b xs → PushPost b c ys r
@@ -70,7 +70,7 @@ module _ {E : Type 0} {r : Result (Unit {0}) E} (P : E → Type 0) (err_is : IsE
     {was new : Output} {all bytes : List ℕ} (left : List ℕ) where
   pub first_fails : all ≡ bytes ++ left → PushEffect was new bytes → new.write_failed ≡ true
       → WriteBytesPost was new all r
-  first_fails = grind (arith, push_fails, push_past_failure)
+  first_fails = grind (arith, push_past_failure)
 
   pub partial_fails : {is : Output} {now : List ℕ} → now ≡ bytes ++ left → PartialWrite was is all now
       → PushEffect is new bytes → new.write_failed ≡ true → WriteBytesPost was new all r
@@ -127,7 +127,7 @@ module _ {X : Type 0} (f : X → List ℕ) {xs more : List X} {x : X} (is : xs �
 pub first_is_position : (test : ℕ → Bool) (bytes : List ℕ) (r : Option ℕ) → IsFirstByte test bytes r
     → r ≡ position test bytes
 first_is_position test bytes None none =
-    grind (arith, (position_or_len_is test bytes (length bytes) 0), none, nat_tests)
+    grind (arith, (position_or_len_is test bytes (length bytes) 0), none)
 first_is_position _ _ _ (range, found) = grind (arith, position_or_len_is)
 
 pub none_past : (fs : Lines) (i n : ℕ) → drop i fs ≡ [] → i ≤ n → drop n fs ≡ []
@@ -255,7 +255,7 @@ single_spaced_words false [] tidy = λ c. refl
 single_spaced_words false (b ∷ bytes) tidy =
     λ c.
     let more = λ (h : is_single_spaced false bytes ≡ true). word_more c b _ (single_spaced_words false bytes h b) in
-    grind (arith, more, single_spaced_words true bytes)
+    grind (arith, single_spaced_words true bytes)
 
 -- ---- lines that are written unchanged
 
@@ -264,7 +264,7 @@ pub pair_is : (job : Join) (key : List ℕ) {one two : List ℕ} (end : ℕ) →
     → one ++ take (length two - length key) (drop (length key) two) ++ end ∷ []
     ≡ entry job key (join_fields job.separator one) (join_fields job.separator two) ++ end ∷ []
 pair_is job key {one} {two} end w1 w2 keyed1 keyed2 =
-    grind (usual, append_assoc, entry_plain job key (Some one) (Some two) w1.list)
+    grind (usual, entry_plain job key (Some one) (Some two) w1.list)
 
 first_is : (job : Join) (key : List ℕ) {line : List ℕ} → IsUnchanged job First line
     → nth_field job.field1 (join_fields job.separator line) ≡ key
@@ -289,7 +289,7 @@ one_line_is _ _ one two jobs keys is = rw (jobs, keys, is.0, is.1)
 
 pub space_is : (blank : Bool) (b : ℕ) (v : List ℕ) → is_blank b ≡ true → is_single_spaced blank (b ∷ v) ≡ true
     → (b ≡ 32) × (is_single_spaced true v ≡ true)
-space_is _ b v here spaced = grind (arith, here, spaced)
+space_is _ b v here spaced = grind (arith, here)
 
 spaced_suffix : (blank : Bool) (xs : List ℕ) (b : ℕ) (ys : List ℕ) → is_single_spaced blank (xs ++ b ∷ ys) ≡ true
     → is_blank b ≡ true → (b ≡ 32) × (is_single_spaced true ys ≡ true)

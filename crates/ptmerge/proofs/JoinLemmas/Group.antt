@@ -24,7 +24,7 @@ use proofs.MergeLemmas.{IsOpenMerge, ReadFactsOf, SidesInvariant, current_key_is
 use proofs.MergeLemmas.{advance_fails}
 pub use Rattle.std.proofs.Common.{rules}
 use Rattle.std.proofs.Math.ListN.{get_or-append}
-use lemmas.List.{drop-set-add, set_at, take_at, take_more}
+use lemmas.List.{set_at, take_at, take_more}
 use lemmas.List.Sums.{sum_by-append, sum_by-cons, sum_by_push}
 use Rattle.ptlines.proofs.SlotTotals.{total_bytes_set}
 use specs.Private.JoinGroup.{EnsureSlotPost, CopyToGroupErrPost, is_head}
@@ -145,7 +145,7 @@ module _ {tool : MergeTool} {before store : Slots} {ls : Side → Lines} {g : Li
     module _ (y : List ℕ) (at : to ≡ 4 + length g) (within : to < length made.lines)
         (largest : (all : Side → Lines) → AllExtend ls all → HasRoom tool (g ++ y ∷ []) all) where
       first_same : (i : ℕ) → i < 4 → get_or (set made.lines to y) i [] ≡ get_or store.lines i []
-      first_same i low = line_other made to i y (omega (arith, at, low)) ∙ made_same i low
+      first_same i low = line_other made to i y (omega (arith, at)) ∙ made_same i low
 
       by_tail : (t : Lines) → total_bytes t ≡ 0 → length g + 1 ≤ length (g ++ t)
           → drop 4 (set made.lines to y) ≡ set (g ++ t) (length g) y
@@ -155,14 +155,14 @@ module _ {tool : MergeTool} {before store : Slots} {ls : Side → Lines} {g : Li
           let four : 4 ≤ length (set made.lines to y) = grind arith in
           let split : drop 4 (set made.lines to y) ≡ (g ++ y ∷ []) ++ t = grind (usual, set_at) in
           let lines = same_lines store.lines (set made.lines to y) (λ side. max_length (ls side)) (total_bytes g)
-          (total_bytes (g ++ y ∷ [])) k.lines four first_same (grind (usual, none)) in
+          (total_bytes (g ++ y ∷ [])) k.lines four first_same (grind usual) in
           record {
             tail = t;
             split = split;
             empty = omega (arith, sum_by-cons length z t);
             lines = lines;
             room = largest;
-            fits = λ all more. search (rules, k.fits, total_within, largest, length-append);
+            fits = λ all more. search (rules, k.fits, total_within, length-append);
             four = four;
             denied = w.denied ∙ k.denied;
           }
@@ -173,7 +173,6 @@ module _ {tool : MergeTool} {before store : Slots} {ls : Side → Lines} {g : Li
         by_tail,
         first_same,
         append_assoc g k.tail w.more,
-        drop-set-add 4 made.lines (length g) y,
         sum_by-append length k.tail w.more,
         length-drop 4 made.lines,
       )
@@ -185,7 +184,7 @@ module _ {tool : MergeTool} {before store : Slots} {ls : Side → Lines} {g : Li
       rw (e.copied, made_same w _ low, is) (kept w y at e.grown.within largest)
 
   pub kept_line : (slot : ℕ) → 4 ≤ slot → slot < 4 + length g → line store slot ≡ get_or g (slot - 4) []
-  kept_line _ from low = search (rules, k.split, get_or-append)
+  kept_line _ from low = search (rules, get_or-append)
 
   pub group_is : {end : ℕ} → end ≡ 4 + length g → lines_of_slots store 4 end ≡ g
   group_is at = grind (arith, take_at)
@@ -314,7 +313,7 @@ pub same_cursors : (tool : MergeTool) {old now : Side → Reader} {cursor : Side
     {ls p : Side → Lines} {b : Side → Bound} → SidesInvariant tool old now cursor before ls p b
     → 4 ≤ length after.lines → ((i : ℕ) → i < 4 → line after i ≡ line before i)
     → SidesInvariant tool old now cursor after ls p b
-same_cursors = grind (arith, low_slot)
+same_cursors = grind arith
 
 -- ---- the output of a group
 
@@ -377,7 +376,7 @@ module _ (call : JoinCall) {mid : Output} {p g : Side → Lines} {d : Side → B
       → PushEffect mid is (unlines call.terminator (pairs k (g First) (g Second)))
       → MergeInvariant tool d (λ side. p side ++ g side) call.old.out is
   closes some above wrote = (write_least_run o k _ g
-      (λ side. search (rules, m.own side, m.later side, rest_not_less call.w m, self_at_most)) (λ side. refl)
+      (λ side. search (rules, m.own side, rest_not_less call.w m, self_at_most)) (λ side. refl)
       (call.w.alone.none k)
       (λ r c.
       let none = λ (side : Side). lines_with_key-above tool o (key side) k (r side) (above side (r side) (c side)) in
@@ -424,7 +423,7 @@ module _ {call : JoinCall} {now : MergeState} {cursor : Side → Sorted} {end : 
       by : (t : CursorStatus) → MatchesStatus cmp (key s) t (cursor s) now.store (now.reader s) (q.ls s) (q.p s ++ g s)
           (q.d s) → (t ≡ Head → ¬ (key s (head_of now cursor s) ≡ k))
           → PrecedesInput cmp k t (key s (head_of now cursor s)) (key s (line now.store (cursor s).previous_slot))
-      by = search (rules, under)
+      by = search rules
 
   pub end_in : (4 ≤ end) × (end ≤ length now.store.lines)
   end_in = (omega arith, end_within q.keeps q.at)
@@ -487,10 +486,10 @@ module _ {call : JoinCall} {now : MergeState} {cursor : Side → Sorted} {end : 
     gone_to = next_at o q.sides s l.head comes
 
     pub last_stays : line after next.previous_slot ≡ head_of now cursor s
-    last_stays = grind (arith, gone_to.stored, line_other)
+    last_stays = grind (arith, line_other)
 
     says : next.same ≡ (is_head next.status && bytes_eq k (key s (line after next.current_slot)))
-    says = grind (arith, line_of_with_line, equal_is, low_slot, at_head, (q.sides s).slots)
+    says = grind (arith, line_of_with_line, equal_is, low_slot, at_head)
 
     pub continues_key : next.same ≡ true → (next.status ≡ Head) × (key s (line after next.current_slot) ≡ k)
     continues_key same = grind (arith, has_key, says)

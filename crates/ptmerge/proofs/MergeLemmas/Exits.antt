@@ -15,7 +15,6 @@ use Rattle.std.proofs.lemmas.List.{append_cancel_right, map-append}
 use Rattle.ptlines.proofs.Lag.{bounded_lag_after}
 use Rattle.ptlines.proofs.Received.{has_received}
 use Rattle.ptlines.specs.Received.{HasReceived}
-use Rattle.std.specs.Io.KnownBytes.{prepend_known, IsAtEnd}
 use specs.declared.faults.MergeFault.TheVariants as faults
 use Rattle.ptlines.specs.Calls.Engines.{CallEnd, ReadFault, AreAllConsistent}
 use Rattle.ptlines.proofs.TextLaws.{complete_lines_of_unlines, the_lines}
@@ -147,8 +146,8 @@ of_other : (cmp : Cmp) (s : Side) (f : Side → Option FirstDisorder) (test : Op
     → test None ≡ false
     → ((d : FirstDisorder) → f (other s) ≡ Some d → test (Some (record { file = other s; first_disorder = d })) ≡ false)
     → test (earlier_disorder cmp (f First) (f Second)) ≡ false
-of_other cmp First f test none calm some = grind (arith, some)
-of_other cmp Second f test none calm some = grind (arith, some)
+of_other cmp First f test none calm some = grind arith
+of_other cmp Second f test none calm some = grind arith
 
 module _ (tool : MergeTool) (o : IsKeyOrder tool.cmp) (eof : Side → Bool) (ls : Side → Lines) (of : Side)
     (going : eof of ≡ false) (no_disorder : first_disorder tool.cmp (tool.key of) (ls of) ≡ None) where
@@ -229,7 +228,7 @@ module _ {tool : MergeTool} (o : IsKeyOrder tool.cmp) (given : Side → Received
     others side = record {
       rest = [];
       tail = to_come side;
-      same = grind (arith, append-nil, lag.split side, append_assoc);
+      same = grind (arith, append-nil, append_assoc);
       none_rest = tt;
       none_tail = above _;
     }
@@ -260,7 +259,7 @@ module _ {tool : MergeTool} (o : IsKeyOrder tool.cmp) (given : Side → Received
     unsettled =
         let up = Each-weaker _ (λ k. IsDisorderFrom cmp k (first_disorder cmp (tool.key (other of))
         (known_lines terminator (given (other of)))))
-        (λ k u. grind (arith, at_most_trans)) _ (lag.under (other of) of) in
+        (λ k u. grind arith) _ (lag.under (other of) of) in
         let mix = with_side of point.before.earlier given in
         let own = put_same of _ _ in (
           point.before,
@@ -378,7 +377,7 @@ module _ (tool : MergeTool) (o : IsKeyOrder tool.cmp) (s : Side) (old now new : 
       → MatchesStatus cmp own status (next_cursor status number same) after new (ls ++ more) ls b
       → IsLater cmp own (bound_after last) b → after ≡ with_line before cursor.previous_slot bytes
       → length bytes ≤ max_length (ls ++ more) → Goal last (next_cursor status number same)
-  at_next = grind (arith, reads_nothing, length-set)
+  at_next = grind (arith, length-set)
 
   low : AreLow cursor
   low = low_slot s _ slots
@@ -400,14 +399,14 @@ module _ (tool : MergeTool) (o : IsKeyOrder tool.cmp) (s : Side) (old now new : 
         → Goal last (next_cursor (cond t (Disorder (cursor.number + 1)) Head) (cursor.number + 1) same)
     at_line last sorted_up_to is false none =
         let more : IsSortedUpTo cmp own (ls ++ e.line ∷ []) (Some (own e.line)) =
-        grind (arith, append_assoc, length_push, sorted_up_to) in
-        at_status _ _ _ (grind (arith, append_assoc, after_from, more, self_at_most))
+        grind (arith, append_assoc, length_push) in
+        at_status _ _ _ (grind (arith, append_assoc, after_from, more))
         (grind (arith, line_of_with_line)) (from_next o own _ _ none)
     at_line None sorted_up_to is true disordered = cc
     at_line (Some k) sorted_up_to is true disordered =
         at_status (Some k) (Disorder (cursor.number + 1))
         (AfterDisorder (record { last_key = k; line = length ls + 1 }))
-        (grind (arith, append_assoc, sorted_up_to)) (grind (arith, line_other, low)) (grind arith)
+        (grind (arith, append_assoc)) (grind (arith, line_other)) (grind arith)
 
   pub next_invariant : {last : Option (List ℕ)} → LinesRead tool.terminator old now ls → cursor.number ≡ length ls
       → IsSortedUpTo cmp own ls last → IsLastKey own last cursor before
@@ -418,7 +417,7 @@ module _ (tool : MergeTool) (o : IsKeyOrder tool.cmp) (s : Side) (old now new : 
   next_invariant lines_read number sorted_up_to is (inr e) =
       rw e.cursor (at_next _ [] [] Ended cursor.number false NothingMore (search rules) (inl e.done) e.sound
       (inl (append-nil ls)) (simp append-nil number) (grind usual) (refl, e.done)
-      (grind (arith, may_follow_none))
+      (grind arith)
       e.empty (omega arith))
 
 pub group_store_next : {tool : MergeTool} {before store after : Slots} {ls : Side → Lines} {g : Lines}
@@ -644,7 +643,7 @@ module _ {tool : MergeTool} {old : MergeState} (w : IsOpenMerge tool old) (new :
         peak = moves.peak;
         slots = moves.slots;
         added = λ clean_then. record { least = moves.least; all = λ allowed. moves.room };
-        unread = λ clean_then few. absurd (omega (arith, few, moves.room));
+        unread = λ clean_then few. absurd (omega (arith, moves.room));
         terminator = λ side read clean_then.
             ap (λ r. r.terminator) (sym (same side)) ∙ (moves.reads side read).terminator ∙ w.terminator side;
         unchanged_if_failed = λ failed_then. cc w.writable;
@@ -685,7 +684,7 @@ pub merge_set : {tool : MergeTool} {first second set1 set2 : Reader} {out : Outp
 unfolding call_set
 merge_set {tool} {first} {second} {set1} {set2} {new = new} zero_byte end clean is1 is2 m =
     let is : (side : Side) → both set1 set2 side ≡ record (both first second side) { terminator = tool.terminator } =
-    λ side. grind (arith, is1, is2) in record {
+    λ side. grind (arith, is2) in record {
       call = call_set both_sides _ refl _ _ new clean refl refl (λ side read. is side) (λ side none. cc) m.call;
       stops_at_disorder = m.stops_at_disorder;
       first_reads = grind arith;

@@ -7,8 +7,7 @@ use specs.Calls.Comm.{comm_tool}
 use specs.Calls.Join.{join_tool}
 use specs.Calls.Sides.{both}
 use specs.Laws.Outputs.{CommOfSorted, JoinOfSorted}
-use proofs.MergeLemmas.Exits.Invariant.{ap, ◌∙◌, ◌++◌, flat_map, unlines, entries_of_key, distinct_keys}
-use proofs.MergeLemmas.Exits.Invariant.{line_order}
+use proofs.MergeLemmas.Exits.Invariant.{ap, ◌∙◌, ◌++◌, flat_map, unlines, entries_of_key, distinct_keys, line_order}
 use proofs.OutputLaws.Counts.{in_order}
 
 pub comm_of_sorted : CommOfSorted

@@ -13,10 +13,8 @@ pub use proofs.Common.{first_disorder, FirstDisorder, ◌&&◌, not, sym, flat_m
 pub use proofs.Common.{PushEffect, unlines, push_trans, push_nothing, unlines-append, disorder, merged_entries}
 pub use proofs.Common.{option_map, with_side, disordered_line, inl}
 use Rattle.std.specs.Cmp.{IsTotalOrder}
-use specs.Private.OrderLaws.{reversed_same_bytes}
 use Rattle.ptlines.specs.Private.ByteOrder.{byte_cmp_equal}
 pub use Rattle.std.proofs.Common.{rules}
-use proofs.MergeLemmas.Exits.SlotLines.{put_each}
 pub use specs.Private.BlockLines.{AtMost, Each, EachKey, HaveKey, IsSortedFrom, is_disordered}
 pub use specs.MergeSpec.{MergeDisorder, is_past, earlier_disorder, insert_key, is_below}
 pub use specs.Calls.MergeSpec.{is_decided}
@@ -61,7 +59,7 @@ module _ (cmp : Cmp) (o : IsKeyOrder cmp) where
   less_flips = search rules
 
 pub line_order : (descending : Bool) → IsKeyOrder (line_cmp descending)
-line_order = grind (arith, back_total, nat_list_cmp_total, reversed_same_bytes, byte_cmp_equal)
+line_order = grind (arith, back_total, nat_list_cmp_total, byte_cmp_equal)
 
 -- ---- the least key
 
@@ -192,7 +190,7 @@ module _ (cmp : Cmp) (o : IsKeyOrder cmp) (key : Key) where
       let (more, _) = ih in
       let weaker : is_gt _ ≡ false → EachKey (AtMost cmp k) key _ =
       λ h. Each-weaker _ _ (λ y a. at_most_trans cmp o k _ y h a) _ more in
-      grind (arith, weaker, at_most_trans)
+      grind (arith, weaker)
 
 -- The lines that may follow in an input: any; those with keys of at least k; none, after a disorder; none, at its end.
 pub data Bound : Type 0 where
@@ -265,7 +263,7 @@ module _ (cmp : Cmp) (o : IsKeyOrder cmp) where
   ascends_insert : (k : List ℕ) (ks : Lines) → Ascends cmp ks → Ascends cmp (insert_key cmp k ks)
   ascends_insert k [] a = (tt, tt)
   ascends_insert k (x ∷ xs) (above, more) =
-      grind (arith, Each-weaker, Each-insert, less_flips, ascends_insert k xs more)
+      grind (arith, Each-weaker, Each-insert, ascends_insert k xs more)
 
   pub ascends_distinct : (ks : Lines) → Ascends cmp (distinct_keys cmp ks)
   ascends_distinct [] = tt
@@ -283,7 +281,7 @@ module _ (cmp : Cmp) (o : IsKeyOrder cmp) where
 
   pub written_is_wanted : (b1 b2 : Bound) (f1 f2 : Option FirstDisorder) (k : List ℕ) → MayDisorder cmp b1 f1
       → MayDisorder cmp b2 f2 → IsUnder cmp b1 k → IsUnder cmp b2 k → is_up_to cmp (earlier_disorder cmp f1 f2) k ≡ true
-  written_is_wanted = grind (arith, at_most_trans)
+  written_is_wanted = grind arith
 
 -- ---- lines with some of the keys
 
@@ -353,10 +351,10 @@ module _ (cmp : Cmp) (o : IsKeyOrder cmp) where
   least_lines : (key : Key) (k : List ℕ) (f r : Lines) → HaveKey key k f → EachKey (AtMost cmp k) key r
       → LeastLines cmp key k f r
   least_lines key k [] [] e h = grind arith
-  least_lines key k [] (x ∷ r) e (here, more) = grind (arith, least_lines key k [] r tt more, rules, same_bytes)
+  least_lines key k [] (x ∷ r) e (here, more) = grind (arith, least_lines key k [] r tt more, rules)
   least_lines key k (x ∷ f) r (here, more) h =
       let ih = least_lines key k f r more h in
-      let at : is_le (cmp (key x) k) ≡ true = rw here (grind (arith, self_at_most)) in
+      let at : is_le (cmp (key x) k) ≡ true = rw here (grind arith) in
       record {
         least = simp (at, ih.least);
         other = simp (at, ih.other);
@@ -399,7 +397,7 @@ module _ (tool : MergeTool) where
         → ((side : Side) → lines_with_key (key side) (ls side) k ≡ ls side)
         → entries_by_key tool w ls ≡ cond (w k) (tool.entries k (ls First) (ls Second)) []
     of_one_key ls own all =
-        grind (arith, append-nil, none, all First, only_key cmp o _ _ k _ _ (own First) (own Second))
+        grind (arith, append-nil, none, only_key cmp o _ _ k _ _ (own First) (own Second))
 
     abbrev pub later_entries : (Side → Lines) → Lines
     later_entries r = entries_by_key tool (λ x. w x && not (is_le (cmp x k))) r
@@ -417,7 +415,7 @@ module _ (tool : MergeTool) where
         ∙ of_one_key _ (λ side. (s side).own) (λ side. (s side).all) in
         let rest = sym (by_keys_kept (λ x. not (p x)) tool o ls w)
         ∙ (λ i. entries_by_key tool w (λ side. (s side).other i)) ∙ by_keys_kept (λ x. not (p x)) tool o r w in
-        downward_splits o w p (grind (arith, greater_flips)) ls ∙ (λ i. first i ++ rest i)
+        downward_splits o w p (grind arith) ls ∙ (λ i. first i ++ rest i)
 
   abbrev pub MayCome : (Side → Bound) → (Side → Lines) → Type 0
   MayCome b r = (side : Side) → MayFollow cmp (key side) (b side) (r side)
@@ -549,11 +547,9 @@ write_least_run {tool} o k q f {b} {d} {p} {was} {is} {new} front all none law c
             arith,
             m.splits w (λ side. f side ++ r side) (λ side. (front side).may_follow (r side) (c side)),
             alone,
-            (front_is tool o w k none (λ side. []) r (λ side. tt) above),
+            front_is tool o w k none (λ side. []) r (λ side. tt) above,
             front_is tool o w k none f r own above,
-            law r c,
-            append_assoc (tool.entries k (f First) (f Second)) (entries_of_key tool r k)
-                (later_entries tool o w k none r),
+            append_assoc (tool.entries k (f First) (f Second)) (entries_of_key tool r k) (later_entries tool o w k none r),
             append_assoc (entries_by_key tool w p) (entries_by_key tool w f) (entries_by_key tool w r),
           );
       under = λ of side. Each-weaker _ _ (front of).under _ (under of side);
@@ -591,7 +587,7 @@ bounds_change later m = record {
 pub bound_changes : {tool : MergeTool} {b : Side → Bound} {p : Side → Lines} {was is : Output} (s : Side) {d : Bound}
     → MergeInvariant tool b p was is → IsLater tool.cmp (tool.key s) (b s) d
     → MergeInvariant tool (with_side s d b) p was is
-bound_changes s m later = bounds_change (grind (arith, put_each)) m
+bound_changes s m later = bounds_change (grind arith) m
 
 -- the disorder is the one found, if any, and no line that may follow changes the output
 abbrev pub IsExactStop : MergeTool → (Side → Bound) → Option (Side × ℕ) → Type 0
@@ -637,7 +633,7 @@ module _ (tool : MergeTool) (o : IsKeyOrder tool.cmp) (eof : Side → Bool) (ls 
   open tool use {cmp}
 
   pub downward_decided : IsDownwardClosed cmp (is_decided tool eof ls)
-  downward_decided = grind (usual, all_three, greater_flips)
+  downward_decided = grind (usual, all_three)
 
   pub not_decided : (side : Side) (k : List ℕ) → is_past cmp (tool.key side) (eof side) (ls side) k ≡ false
       → is_decided tool eof ls k ≡ false

@@ -29,12 +29,7 @@ pub use Rattle.ptmerge.specs.Private.MergeSlots.{ClearFourSlotsPost}
 ended_more : (end : ℕ) (ls : Lines) (bytes : List ℕ) → AreLines end ls
     → complete_lines end (unlines end ls ++ bytes) ≡ ls ++ complete_lines end bytes
 ended_more end [] bytes w = refl
-ended_more end (line ∷ ls) bytes (free, more) = grind (
-  usual,
-  complete_lines_cons,
-  free,
-  ended_more end ls bytes more,
-)
+ended_more end (line ∷ ls) bytes (free, more) = grind (usual, complete_lines_cons, ended_more end ls bytes more)
 
 -- `ls` are the lines of `given`: all have their terminator, or the last one lacks it at the end of the source
 abbrev pub IsReadAs : ℕ → List ℕ → Lines → Reader → Type 0
@@ -67,16 +62,7 @@ pub lines_read_more : {end : ℕ} {old now new : Reader} {ls : Lines} {before af
 lines_read_more {end} {old} {now} {new} c e =
     record {
       given = c.given ++ (e.line ++ e.terminator);
-      so_far = search (
-        rules,
-        done_gives_nothing,
-        unlines_push,
-        AreLines_push,
-        lines_of_unlines,
-        lines_of_last,
-        append-nil,
-        length-append,
-      );
+      so_far = search (rules, unlines_push, AreLines_push, lines_of_unlines, lines_of_last, append-nil, length-append);
       advance_ok = advance_ok_trans old now new _ _ c.advance_ok e.advance_ok;
       terminator = grind arith;
     }
@@ -111,7 +97,6 @@ module _ {end : ℕ} {old now new : Reader} {ls : Lines} {piece : List ℕ} (c :
     done_gives_nothing,
     max_length-append,
     piece_le_max_length,
-    free,
   )
 
   -- the lines that are known to be complete: `ls` and, if a read failed, no more
@@ -120,24 +105,11 @@ module _ {end : ℕ} {old now new : Reader} {ls : Lines} {piece : List ℕ} (c :
     pub exact : new.buffered ≡ [] → new.eof ≡ false → ws ≡ ls
 
   pub lines_read_known : KnownLines (known_lines end came)
-  lines_read_known = grind (
-    usual,
-    lines_read_of_input,
-    front_of,
-    ended_more,
-    complete_lines_none,
-    done_gives_nothing,
-    append-nil,
-  )
+  lines_read_known = grind (usual, lines_read_of_input, front_of, ended_more, complete_lines_none, append-nil)
 
   pub begun_gives_line : HasBegun now ls → ¬ HasNoLine end came
   begun_gives_line begun none =
-      grind (
-        usual,
-        complete_lines_none end _ none.unterminated,
-        done_gives_nothing,
-        length-append ls lines_read_known.known.more,
-      )
+      grind (usual, complete_lines_none end _ none.unterminated, length-append ls lines_read_known.known.more)
 
   pub one_line_and_block : IsSound new → length ls + length (lines end piece) ≤ 1 → IsFirstLineAndBlock end came
   one_line_and_block = search (rules, lines_of_unlines, length-append, done_gives_nothing)
@@ -147,12 +119,12 @@ module _ {end : ℕ} {old now new : Reader} {ls : Lines} {piece : List ℕ} (c :
 pub put_both : {X Y : Type 0} (P : Side → X → Y → Type 0) (s : Side) (x : X) (f : Side → X) (y : Y) (g : Side → Y)
     → P s x y → P (other s) (f (other s)) (g (other s))
     → (side : Side) → P side (with_side s x f side) (with_side s y g side)
-put_both P s x f y g p q _ = grind (arith, p, q)
+put_both P s x f y g p q _ = grind (arith, q)
 
 module _ {X : Type 0} (P : Side → X → Type 0) where
   pub put_each : (s : Side) (x : X) (f : Side → X) → P s x → ((side : Side) → P side (f side)) → (side : Side)
       → P side (with_side s x f side)
-  put_each = search (rules, put_both)
+  put_each = search rules
 
 pub put_same : {X : Type 0} (s : Side) (x : X) (f : Side → X) → with_side s x f s ≡ x
 put_same = grind arith
@@ -161,7 +133,7 @@ pub put_other : {X : Type 0} (s : Side) (x : X) (f : Side → X) → with_side s
 put_other = grind arith
 
 pub side_case : (Q : Side → Type 0) (s : Side) → Q s → Q (other s) → (side : Side) → Q side
-side_case = grind (arith, put_both)
+side_case = grind arith
 
 -- ---- the slots
 
@@ -232,7 +204,7 @@ pub longer : {was now : Lines} → Extends was now → max_length was ≤ max_le
 longer = grind (arith, max_length-append)
 
 pub side_extends : (s : Side) (ls : Side → Lines) {now : Lines} → Extends (ls s) now → AllExtend ls (with_side s now ls)
-side_extends = search (rules, put_each, extends_itself)
+side_extends = search (rules, put_each)
 
 abbrev pub HasRoom : MergeTool → Lines → (Side → Lines) → Type 0
 HasRoom tool g ls = (2 * max_length (ls First) + 2 * max_length (ls Second) + total_bytes g ≤ tool.size ls)
@@ -282,8 +254,8 @@ group_store_line {tool} {store = store} {ls = ls} {now} {g} s cursor slots x k u
       lines = inside;
       room = λ all more. k.room all (on all more);
       fits = λ all more. let most = total_within tool g _ inside more (k.room all (on all more)) in
-          omega (arith, k.fits all (on all more), most, size);
-      four = omega (arith, size);
+          omega (arith, k.fits all (on all more), size);
+      four = omega arith;
       denied = k.denied;
     })
 

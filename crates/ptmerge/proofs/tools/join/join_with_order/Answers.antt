@@ -177,11 +177,7 @@ lines-preserved g c =
     record {
       kept = kept_order p.order k.order (read_group_continues k.iteration p.written_out ok.reads_line.1 ok.continues
           (sym ok.reads_line.0 ∙ c.if-branch.true));
-      fewer = omega (
-        arith,
-        c.lines.invariant.fewer,
-        read_group_less k.iteration ok.reads_line.1.came ok.continues,
-      );
+      fewer = omega (arith, read_group_less k.iteration ok.reads_line.1.came ok.continues);
     }
 
 pub pairs-init : goal.pairs-init
@@ -221,7 +217,7 @@ pairs-preserved g c =
     record {
       kept = kept_order p.order k.order (write_pairs_continues k.iteration p.wrote h
           (sym ok.has_more ∙ c.if-branch-2.true));
-      fewer = omega (arith, c.pairs.invariant.fewer, write_pairs_less k.iteration h);
+      fewer = omega (arith, write_pairs_less k.iteration h);
     }
 
 pub clear-requires : goal.clear-requires
@@ -243,9 +239,7 @@ steps-smaller g c =
     reads_once (omega (
       arith,
       write_pairs_less c.pairs.invariant.kept.iteration c.in_ok-write_pairs-in-Both.ensures.advances,
-      c.pairs.invariant.fewer,
       read_group_less c.lines.invariant.kept.iteration line.reads_line.1.came line.continues,
-      c.lines.invariant.fewer,
     ))
     (blocks_read c.steps.invariant.iteration.here c.steps.invariant.iteration.between
     (by_blocks g (goal.at.steps-smaller g c).After-step))

@@ -1,7 +1,7 @@
 -- The first item has no separator before it, so it is added before the loop. If an item cannot be added, a prefix of the
 -- line was written.
 use Rattle.ptmerge.proofs
-use proofs.Common.{ap, append-nil, join_job, option_copied, output_separator, refl, sym, usual, with_prefix, ◌∙◌}
+use proofs.Common.{ap, join_job, option_copied, output_separator, refl, sym, usual, with_prefix, ◌∙◌}
 use proofs.JoinLemmas.Fields.{partial_starts, partial_ends, piece_added, piece_fails, push_is_write, between_is}
 use proofs.JoinLemmas.Fields.{entry_listed, first_piece_fails, first_then_rest}
 use proofs.tools.join.output.write_listed_fields.Goals as goal
@@ -43,4 +43,4 @@ items-preserved g c =
     add.wrote.wrote (λ fine. c.in_ok-add-2.ensures.wrote.clean fine)
 
 pub returns : goal.returns
-returns g c = partial_ends (grind (usual, append-nil)) c.items.invariant (push_is_write c.push.ensures)
+returns g c = partial_ends (grind usual) c.items.invariant (push_is_write c.push.ensures)

@@ -10,8 +10,4 @@ returns-then-tabs-eq0 c bytes few spaces tabs =
 
 pub returns-else-tabs-eq0 : goal.returns-else-tabs-eq0
 returns-else-tabs-eq0 c bytes few spaces tabs =
-    grind (
-      arith,
-      c.if-tabs-eq0.false,
-      single_spaces_is _ _ _ _ c.requires few spaces tabs,
-    )
+    grind (arith, single_spaces_is _ _ _ _ c.requires few spaces tabs)

@@ -34,7 +34,7 @@ loop-at-preserved c =
     ∙ top_bit 63 blank v (length-chunk at 64 bytes room) in
     record {
       within = room;
-      bit = omega (arith, before);
+      bit = omega arith;
       same = c.loop-at.invariant.same
           ∙ rw (spaced, ← bit_is (last_blank blank v), ← before) at (chunk_spaced blank bytes at room);
     }
@@ -45,8 +45,8 @@ returns c =
     let at = c.loop-at.at in
     let left = length bytes - at in
     let long = length-drop at bytes in
-    let all = take_all left (drop at bytes) (omega (arith, long)) in
-    let short : length (take left (drop at bytes)) < 64 = omega (arith, c.loop-at-test.false, ap length all, long) in
+    let all = take_all left (drop at bytes) (omega arith) in
+    let short : length (take left (drop at bytes)) < 64 = omega (arith, ap length all, long) in
     spaced_rest _ _ _ _ short c.masks_of-spaces.ensures.first
     c.masks_of-spaces.ensures.second c.are_single_spaces-2.ensures
     ∙ ap (is_single_spaced (c.loop-at.before == 1)) all ∙ sym c.loop-at.invariant.same
