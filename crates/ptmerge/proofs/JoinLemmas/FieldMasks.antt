@@ -414,7 +414,8 @@ module _ {c : ℕ} {line : List ℕ} {number start : ℕ} (within : start ≤ le
       let (range, passes) = found in
       let tail = drop start line in
       let rest = take_all (length tail - (n + 1)) (drop (n + 1) tail) (omega (arith, length-drop (n + 1) tail)) in
-      let split = rw rest at (split_around (is_byte c) tail n (sym (first_is_position (is_byte c) tail (Some n) found))) in
+      let is = sym (first_is_position (is_byte c) tail (Some n) found) in
+      let split = rw rest at (split_around (is_byte c) tail n is) in
       let end = rw (eqb-true (get_or tail n 0) c passes) at (drop_more tail n 0 range.high) in
       let size : start + n - start ≡ n = omega arith in
       record {

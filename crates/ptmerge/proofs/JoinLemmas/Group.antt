@@ -4,13 +4,13 @@
 use Rattle.ptmerge.proofs
 use Rattle.ptmerge.specs
 use Rattle.std.proofs.lemmas
-pub use proofs.Common.{◌≡◌, ⊎_elim, ℕ, ◌+◌, ◌-◌, ◌≤◌, ◌<◌, suc, true, false, length-drop, List, [], ◌∷◌, ◌++◌, length}
+pub use proofs.Common.{◌≡◌, ⊎_elim, ℕ, ◌+◌, ◌-◌, ◌≤◌, ◌<◌, true, false, length-drop, List, [], ◌∷◌, ◌++◌, length}
 pub use proofs.Common.{map, drop, get_or, set, max, refl, ap, ◌∙◌, arith, append_assoc, length-append, length-set}
 pub use proofs.Common.{drop_more, Slots, line, total_bytes, with_line, with_denied, unlines, max_length, Join, usual}
 pub use proofs.Common.{ClearGroupPost, CopyToGroupPost, entry, join_fields, pair_entries, Lines, lines_with_key, Reader}
 pub use proofs.Common.{Side, First, Second, Sorted, Key, with_side, MergeTool, ◌&&◌, Bool, Some, sym, subst, bytes_eq}
 pub use proofs.Common.{bytes_decides, append-nil, Output, PushEffect, push_trans, unlines-append, CursorStatus, Head}
-pub use proofs.Common.{Ended, Disorder, entries_by_key, MergeState, NextOkPost, other, PrecedesInput, disorder}
+pub use proofs.Common.{entries_by_key, MergeState, NextOkPost, other, PrecedesInput, disorder}
 pub use proofs.Common.{merged_entries, sorted_prefixes, is_up_to, line_of_with_line, lines_of_slots}
 use proofs.JoinLemmas.Fields.{partial_starts}
 pub use proofs.MergeLemmas.{total_within, low_slot, same_bytes, AtLeast, all_keys, at_current_line, both_begun, IsAbove}

@@ -4,7 +4,7 @@ pub mod Invariant
 pub mod SlotLines
 use Rattle.ptmerge.proofs
 use Rattle.ptmerge.specs
-pub use proofs.Common.{⊎_elim, IsPrefix, nat_tests, length_push, line_of_with_line, CursorStatus, Head}
+pub use proofs.Common.{⊎_elim, IsPrefix, length_push, line_of_with_line, CursorStatus, Head}
 pub use proofs.Common.{Ended, Disorder, status_at, same_key_at, NextOkPost, Result, Err, Memory, advance_trans, Write}
 pub use proofs.Common.{MergeFault, lines_of, MergeState, MergePost, merge_state, terminator}
 use Rattle.ptlines.proofs.LineSearch.{IsLine-append}

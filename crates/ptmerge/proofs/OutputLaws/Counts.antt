@@ -1,5 +1,5 @@
--- How many lines `join` and `comm` write. Each key has as many pairs as its lines have partners; and of the lines of one
--- key, which are equal for `comm`, some are common.
+-- How many lines `join` and `comm` write. Each key has as many pairs as its lines have partners; and of the lines of
+-- one key, which are equal for `comm`, some are common.
 use Rattle.ptmerge.proofs
 use Rattle.ptmerge.specs
 use Rattle.std.proofs.lemmas

@@ -1,11 +1,10 @@
 -- The invariant of a merge. No line that may follow in an input (`Bound`) has a lesser key than a processed one, so the
--- output for the processed lines is a prefix of the output for all inputs that begin with the lines read. If a write may
--- have failed, `LagInvariant` holds.
+-- output for the processed lines is a prefix of the output for all inputs that begin with the lines read.
 use Rattle.ptmerge.proofs
 use Rattle.ptmerge.specs
 use Rattle.std.proofs.lemmas
 pub use proofs.Common.{◌≡◌, ◌⊎◌, inr, ℕ, List, Bool, true, false, refl, ◌∙◌, ap, arith, bytes_eq, Less, Equal, Greater}
-pub use proofs.Common.{is_eq, is_gt, is_le, bytes_decides, tied_itself, Cmp, byte_cmp, line_cmp, ◌<◌, length, get_or}
+pub use proofs.Common.{is_eq, is_gt, is_le, bytes_decides, tied_itself, Cmp, line_cmp, ◌<◌, length, get_or}
 pub use proofs.Common.{suc, zero, [], ◌∷◌, ◌++◌, cond, map, append_assoc, append-nil, filter, flat_map, Side, First}
 pub use proofs.Common.{Second, Lines, MergeTool, distinct_keys, keys, lines_with_key, entries_of_key, entries_by_key}
 pub use proofs.Common.{Key, ◌+◌, Option, Some, None, nat_lt, unwrap_or, if◌then◌else◌, last_or, sorted_prefix, usual}
@@ -549,7 +548,8 @@ write_least_run {tool} o k q f {b} {d} {p} {was} {is} {new} front all none law c
             alone,
             front_is tool o w k none (λ side. []) r (λ side. tt) above,
             front_is tool o w k none f r own above,
-            append_assoc (tool.entries k (f First) (f Second)) (entries_of_key tool r k) (later_entries tool o w k none r),
+            append_assoc (tool.entries k (f First) (f Second)) (entries_of_key tool r k)
+                (later_entries tool o w k none r),
             append_assoc (entries_by_key tool w p) (entries_by_key tool w f) (entries_by_key tool w r),
           );
       under = λ of side. Each-weaker _ _ (front of).under _ (under of side);

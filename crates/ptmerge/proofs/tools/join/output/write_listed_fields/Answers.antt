@@ -1,5 +1,5 @@
--- The first item has no separator before it, so it is added before the loop. If an item cannot be added, a prefix of the
--- line was written.
+-- The first item has no separator before it, so it is added before the loop. If an item cannot be added, a prefix was
+-- written.
 use Rattle.ptmerge.proofs
 use proofs.Common.{ap, join_job, option_copied, output_separator, refl, sym, usual, with_prefix, ◌∙◌}
 use proofs.JoinLemmas.Fields.{partial_starts, partial_ends, piece_added, piece_fails, push_is_write, between_is}
