@@ -1,6 +1,6 @@
 -- Each iteration writes the pair with the next line of the group. A write that fails leaves a prefix of the pairs.
 use Rattle.ptmerge.proofs
-use Rattle.std.proofs.Common.{◌++◌, ◌+◌, ◌≤◌, ◌≡◌, true, [], ◌∷◌, List, ℕ, ap, arith, sym, map, Ok, subst}
+use Rattle.std.proofs.Common.{◌++◌, ◌≤◌, ◌≡◌, [], ◌∷◌, List, ℕ, ap, arith, sym, map, Ok, subst}
 use proofs.Common.{lines_of_slots, join_job, pair_entries, unlines, usual}
 use Rattle.ptmerge.specs.Private.Write.{WriteBytesPost}
 use Rattle.ptlines.specs.declared.out.WriteFault.{WriteFault}
