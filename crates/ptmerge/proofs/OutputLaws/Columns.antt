@@ -13,37 +13,27 @@ use proofs.MergeLemmas.Exits.Invariant.{[], ◌≡◌, inl, inr, ℕ, zero, suc,
 use proofs.MergeLemmas.Exits.Invariant.{sym, ◌∙◌, arith, length, map, filter, Option, Some, None, if◌then◌else◌}
 use proofs.MergeLemmas.Exits.Invariant.{flat_map, tied_itself, append-nil, keys, Lines, distinct_keys, lines_with_key}
 use proofs.MergeLemmas.Exits.Invariant.{FirstDisorder, Key, earlier_disorder, entries_of_key, is_up_to, first_disorder}
-use proofs.MergeLemmas.Exits.Invariant.{sorted_prefix, Cmp, line_cmp, First, Second, IsKeyOrder, Each, EachKey}
-use proofs.MergeLemmas.Exits.Invariant.{Each-weaker, Above, AtMost, Ascends, same_bytes, not_same, insert_key}
-use proofs.MergeLemmas.Exits.Invariant.{IsSortedFrom, greater_flips, less_flips, ascends_distinct, line_order}
-use proofs.MergeLemmas.Exits.Invariant.{sorted_from_none, at_most_trans, from_key, kept_none}
+use proofs.MergeLemmas.Exits.Invariant.{sorted_prefix, Cmp, line_cmp, First, Second, IsKeyOrder, EachKey, Each-weaker}
+use proofs.MergeLemmas.Exits.Invariant.{Above, AtMost, Ascends, same_bytes, not_same, insert_key, IsSortedFrom}
+use proofs.MergeLemmas.Exits.Invariant.{greater_flips, less_flips, ascends_distinct, line_order, sorted_from_none}
+use proofs.MergeLemmas.Exits.Invariant.{at_most_trans, from_key, kept_none}
 use proofs.Parts.{none_disordered}
 use proofs.CommLemmas.{no_entries}
-use proofs.OutputLaws.Keys.{Has, above_at, above_differs}
+use proofs.OutputLaws.Keys.{Has, above_at, above_differs, none_of_each, others}
 use proofs.OutputLaws.Counts.{all_of, first_has, copies, in_order}
 
 -- ---- sorted lines by their keys
-
-none_of_each : (ks : Lines) → flat_map {A = List ℕ} (λ (k : List ℕ). []) ks ≡ []
-none_of_each [] = refl
-none_of_each (k ∷ ks) = none_of_each ks
 
 module _ (cmp : Cmp) (o : IsKeyOrder cmp) where
   above_later : (k x y : List ℕ) → Above cmp k x → AtMost cmp x y → Above cmp k y
   above_later k x y a m = grind (arith, at_most_trans cmp o x y k m, a)
 
   module _ (key : Key) where
-    others : (x : List ℕ) (ls ks : Lines) → Each (Above cmp (key x)) ks
-        → flat_map (lines_with_key key (x ∷ ls)) ks ≡ flat_map (lines_with_key key ls) ks
-    others x ls [] a = refl
-    others x ls (k ∷ ks) (here, more) = rw (not_same (key x) k (λ e. above_differs cmp o (key x) k here (sym e)))
-        (ap (λ l. lines_with_key key ls k ++ l) (others x ls ks more))
-
     one_more : (x : List ℕ) (ls ks : Lines) → Ascends cmp ks → Has (key x) ks → EachKey (AtMost cmp (key x)) key ls
         → flat_map (lines_with_key key (x ∷ ls)) ks ≡ x ∷ flat_map (lines_with_key key ls) ks
     one_more x ls [] a h m = absurd h
     one_more x ls (k ∷ ks) (above, a) (inl e) m =
-        rw (same_bytes e) (ap (λ l. x ∷ lines_with_key key ls k ++ l) (others x ls ks (rw e above)))
+        rw (same_bytes e) (ap (λ l. x ∷ lines_with_key key ls k ++ l) (others cmp o key x ls ks (rw e above)))
     one_more x ls (k ∷ ks) (above, a) (inr h) m =
         let here = above_at cmp o k (key x) ks above h in
         let other = λ (y : List ℕ) (a : Above cmp k y). not_same y k (above_differs cmp o k y a) in

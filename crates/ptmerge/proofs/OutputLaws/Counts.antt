@@ -4,7 +4,7 @@ use Rattle.ptmerge.proofs
 use Rattle.ptmerge.specs
 use Rattle.std.proofs.lemmas
 use Rattle.std.proofs.Common.{◌-◌, min, replicate, sum_by}
-use lemmas.List.Sums.{sum_by-cons}
+use lemmas.List.Sums.{sum_by-append, sum_by-cons}
 use lemmas.List.Concat.{length-flat_map}
 use lemmas.List.{replicate-append-replicate, length-map}
 use lemmas.List.Recursion.{is_sum_by}
@@ -21,7 +21,7 @@ use proofs.MergeLemmas.Exits.Invariant.{append-nil, bytes_decides, Lines, distin
 use proofs.MergeLemmas.Exits.Invariant.{keys, entries_of_key, merged_entries, disorder, Side, First, Second, line_order}
 use proofs.MergeLemmas.Exits.Invariant.{IsKeyOrder, EachKey, Each-all, all_keys, filter_all, ascends_distinct}
 use proofs.Parts.{merged_in_order}
-use proofs.OutputLaws.Keys.{Has, has_distinct, has_left, each_of, sum_by_keys, sum_of_key}
+use proofs.OutputLaws.Keys.{Has, has_distinct, has_left, each_of, sum_by_keys}
 
 -- the distinct keys of both lists
 abbrev pub all_of : MergeTool → (Side → Lines) → Lines
@@ -39,9 +39,12 @@ in_order tool o ls e = merged_in_order tool o ls e
 
 -- The sum over all keys is that over the first input's lines.
 sum_over_first : (tool : MergeTool) → IsKeyOrder tool.cmp → (ls : Side → Lines) (f : List ℕ → ℕ)
-    → sum_by (sum_of_key f (tool.key First) (ls First)) (all_of tool ls) ≡ sum_by f (ls First)
+    → sum_by (λ k. sum_by f (lines_with_key (tool.key First) (ls First) k)) (all_of tool ls) ≡ sum_by f (ls First)
 sum_over_first tool o ls f =
-    sum_by_keys tool.cmp o f (tool.key First) (ls First) _ (ascends_distinct tool.cmp o (keys tool ls))
+    let of_key = lines_with_key (tool.key First) (ls First) in
+    sym (is_sum_by (λ ks. sum_by f (flat_map of_key ks)) (λ k. sum_by f (of_key k)) refl
+    (λ k ks. sum_by-append f (of_key k) (flat_map of_key ks)) (all_of tool ls))
+    ∙ sum_by_keys tool.cmp o f (tool.key First) (ls First) _ (ascends_distinct tool.cmp o (keys tool ls))
     (first_has tool o ls)
 
 -- ---- join
@@ -61,7 +64,7 @@ length_of_entries job k (a ∷ g1) (b ∷ g2) p u v = length_of_pairs job k (a �
 
 -- the lines of one key have the same number of partners
 partners : (n : List ℕ → ℕ) (key : Key) (k : List ℕ) (ls : Lines)
-    → sum_by (λ (line : List ℕ). n k) (lines_with_key key ls k) ≡ sum_of_key (λ line. n (key line)) key ls k
+    → sum_by (λ (line : List ℕ). n k) (lines_with_key key ls k) ≡ sum_by (λ line. n (key line)) (lines_with_key key ls k)
 partners n key k [] = refl
 partners n key k (x ∷ ls) =
     let rest = lines_with_key key ls k in
@@ -128,7 +131,7 @@ comm_shares_first job a b line e =
     let third = ap (occurrences line) (in_order common o (both a b) e) ∙ occurs_in_each line _ ks in
     let c1 = λ (k : List ℕ). lines_with_key (whole_line First) a k in
     rw (first, third) (sums_add (λ k. occurrences line (entries_of_key own (both a b) k))
-    (λ k. occurrences line (entries_of_key common (both a b) k)) (sum_of_key (one line) (whole_line First) a)
+    (λ k. occurrences line (entries_of_key common (both a b) k)) (λ k. sum_by (one line) (c1 k))
     (λ k. shared line k (length (c1 k)) (length (lines_with_key (whole_line Second) b k))
     ∙ ap (occurrences line) (sym (copies k a)) ∙ occurs_as_sum line (c1 k)) ks
     ∙ sum_over_first own o (both a b) (one line) ∙ sym (occurs_as_sum line a))

@@ -1,10 +1,10 @@
 -- The distinct keys of a merge: each key is among them once, so a sum over lines is the sum over the lines of each key.
 use Rattle.ptmerge.proofs
 use Rattle.std.proofs.Common.{sum_by}
-use Rattle.std.proofs.lemmas.List.Sums.{sum_by-cons}
-use proofs.MergeLemmas.Exits.Invariant.{[], ◌≡◌, ◌⊎◌, inl, inr, ℕ, ◌+◌, List, ◌∷◌, ◌++◌, refl, sym, arith, tied_itself}
-use proofs.MergeLemmas.Exits.Invariant.{Cmp, Key, Lines, distinct_keys, insert_key, lines_with_key, same_bytes}
-use proofs.MergeLemmas.Exits.Invariant.{IsKeyOrder, Each, EachKey, Above, Ascends, not_same}
+use Rattle.std.proofs.lemmas.List.Sums.{sum_by-append, sum_by-cons}
+use proofs.MergeLemmas.Exits.Invariant.{ap, flat_map, [], ◌≡◌, ◌⊎◌, inl, inr, ℕ, ◌+◌, List, ◌∷◌, ◌++◌, refl, sym, arith}
+use proofs.MergeLemmas.Exits.Invariant.{tied_itself, Cmp, Key, Lines, distinct_keys, insert_key, lines_with_key}
+use proofs.MergeLemmas.Exits.Invariant.{same_bytes, IsKeyOrder, Each, EachKey, Above, Ascends, not_same}
 
 -- the key is in the list
 abbrev pub Has : List ℕ → Lines → Type 0
@@ -20,13 +20,9 @@ pub each_of : (P : List ℕ → Type 0) (xs : Lines) → ((k : List ℕ) → Has
 each_of P [] f = tt
 each_of P (x ∷ xs) f = (f x (inl refl), each_of P xs (λ k h. f k (inr h)))
 
--- the sum over the lines with a key
-abbrev pub sum_of_key : (List ℕ → ℕ) → Key → Lines → List ℕ → ℕ
-sum_of_key f key ls k = sum_by f (lines_with_key key ls k)
-
-sum_of_none : (f : List ℕ → ℕ) (key : Key) (ks : Lines) → sum_by (sum_of_key f key []) ks ≡ 0
-sum_of_none f key [] = refl
-sum_of_none f key (k ∷ ks) = omega (arith, sum_by-cons (sum_of_key f key []) k ks, sum_of_none f key ks)
+pub none_of_each : (ks : Lines) → flat_map {A = List ℕ} (λ (k : List ℕ). []) ks ≡ []
+none_of_each [] = refl
+none_of_each (k ∷ ks) = none_of_each ks
 
 module _ (cmp : Cmp) (o : IsKeyOrder cmp) where
   has_inserted : (k l : List ℕ) (xs : Lines) → Has k (l ∷ xs) → Has k (insert_key cmp l xs)
@@ -46,34 +42,30 @@ module _ (cmp : Cmp) (o : IsKeyOrder cmp) where
   pub above_differs : (k l : List ℕ) → Above cmp k l → l ≡ k → ⊥
   above_differs k l a e = grind (arith, tied_itself o.total k, a, e)
 
-  module _ (f : List ℕ → ℕ) (key : Key) (x : List ℕ) (ls : Lines) where
-    abbrev sums : Lines → Lines → ℕ
-    sums lines ks = sum_by (sum_of_key f key lines) ks
+  -- a line whose key is below all of these
+  pub others : (key : Key) (x : List ℕ) (ls ks : Lines) → Each (Above cmp (key x)) ks
+      → flat_map (lines_with_key key (x ∷ ls)) ks ≡ flat_map (lines_with_key key ls) ks
+  others key x ls [] a = refl
+  others key x ls (k ∷ ks) (here, more) = rw (not_same (key x) k (λ e. above_differs (key x) k here (sym e)))
+      (ap (λ l. lines_with_key key ls k ++ l) (others key x ls ks more))
 
-    line_of_none : (ks : Lines) → Each (Above cmp (key x)) ks → sums (x ∷ ls) ks ≡ sums ls ks
-    line_of_none [] a = refl
-    line_of_none (k ∷ ks) (here, more) =
-        let out = not_same (key x) k (λ e. above_differs (key x) k here (sym e)) in
-        let same : sum_of_key f key (x ∷ ls) k ≡ sum_of_key f key ls k = rw out refl in
-        omega (arith, sum_by-cons (sum_of_key f key (x ∷ ls)) k ks, sum_by-cons (sum_of_key f key ls) k ks, same,
-          line_of_none ks more)
+  module _ (f : List ℕ → ℕ) (key : Key) where
+    line_once : (x : List ℕ) (ls ks : Lines) → Ascends cmp ks → Has (key x) ks
+        → sum_by f (flat_map (lines_with_key key (x ∷ ls)) ks) ≡ f x + sum_by f (flat_map (lines_with_key key ls) ks)
+    line_once x ls [] a h = absurd h
+    line_once x ls (k ∷ ks) (above, a) (inl e) =
+        rw (same_bytes e, others key x ls ks (rw e above)) (sum_by-cons f x (flat_map (lines_with_key key ls) (k ∷ ks)))
+    line_once x ls (k ∷ ks) (above, a) (inr h) =
+        rw (not_same (key x) k (above_differs k (key x) (above_at k (key x) ks above h))) (omega (
+          arith,
+          sum_by-append f (lines_with_key key ls k) (flat_map (lines_with_key key (x ∷ ls)) ks),
+          sum_by-append f (lines_with_key key ls k) (flat_map (lines_with_key key ls) ks),
+          line_once x ls ks a h,
+        ))
 
-    line_once : (ks : Lines) → Ascends cmp ks → Has (key x) ks → sums (x ∷ ls) ks ≡ f x + sums ls ks
-    line_once [] a h = absurd h
-    line_once (k ∷ ks) (above, a) (inl e) =
-        let own : sum_of_key f key (x ∷ ls) k ≡ f x + sum_of_key f key ls k =
-        rw (same_bytes e) (sum_by-cons f x (lines_with_key key ls k)) in
-        omega (arith, sum_by-cons (sum_of_key f key (x ∷ ls)) k ks, sum_by-cons (sum_of_key f key ls) k ks, own,
-          line_of_none ks (rw e above))
-    line_once (k ∷ ks) (above, a) (inr h) =
-        let out = not_same (key x) k (above_differs k (key x) (above_at k (key x) ks above h)) in
-        let same : sum_of_key f key (x ∷ ls) k ≡ sum_of_key f key ls k = rw out refl in
-        omega (arith, sum_by-cons (sum_of_key f key (x ∷ ls)) k ks, sum_by-cons (sum_of_key f key ls) k ks, same,
-          line_once ks a h)
-
-  -- A sum over lines is the sum over the lines of each key.
-  pub sum_by_keys : (f : List ℕ → ℕ) (key : Key) (ls ks : Lines) → Ascends cmp ks → EachKey (λ k. Has k ks) key ls
-      → sum_by (sum_of_key f key ls) ks ≡ sum_by f ls
-  sum_by_keys f key [] ks a h = sum_of_none f key ks
-  sum_by_keys f key (x ∷ ls) ks a (here, more) =
-      omega (arith, line_once f key x ls ks a here, sum_by_keys f key ls ks a more, sum_by-cons f x ls)
+    -- A sum over lines is the sum over the lines of each key.
+    pub sum_by_keys : (ls ks : Lines) → Ascends cmp ks → EachKey (λ k. Has k ks) key ls
+        → sum_by f (flat_map (lines_with_key key ls) ks) ≡ sum_by f ls
+    sum_by_keys [] ks a h = ap (sum_by f) (none_of_each ks)
+    sum_by_keys (x ∷ ls) ks a (here, more) =
+        omega (arith, line_once x ls ks a here, sum_by_keys ls ks a more, sum_by-cons f x ls)
