@@ -28,8 +28,7 @@ cond_of_empty = grind arith
 
 module _ (job : Join) (cmp : Cmp) (key : Side → Key) where
   first_alone : (k : List ℕ) (g : Lines) → join_entries job k g [] ≡ unpaired_entries1 job k g
-  first_alone k [] = grind arith
-  first_alone k _ = refl
+  first_alone = grind arith
 
   pub join_opens : {first second : Reader} {out : Output} {store : Slots} → IsKeyOrder cmp
       → MergeRunPre job.terminator first second out store
@@ -252,8 +251,7 @@ module _ {job : Join} {cmp : Cmp} {key : Side → Key} {old now : MergeState} {o
             kept = a.kept;
             q = on_second.group;
             same = λ i low. refl;
-            copied = λ s. none ∙ ⊎_elim (λ without i. cond ((sym without) i) grown [])
-                (λ (left, _). absurd (false≢true (sym left ∙ s))) e.stays;
+            copied = λ s. none ∙ ⊎_elim (λ without i. cond ((sym without) i) grown []) (λ (left, _). cc) e.stays;
             lines_in = inr (record {
               none = none;
               own = rw (last_stays (a.heads Second) comes) (a.heads Second).is;
@@ -335,8 +333,7 @@ module _ {job : Join} {cmp : Cmp} {key : Side → Key} {old now : MergeState} {o
           length_push a.g y,
         ))
         (both_begun (λ side. (q.sides side).begun))
-        (λ side fail. absurd (false≢true (sym ((q.sides side).lines_read.advance_ok.failed
-        ∙ call.w.unfailed side) ∙ fail))) (Err Memory) (record {
+        (λ side fail. cc ((q.sides side).lines_read.advance_ok.failed, call.w.unfailed side)) (Err Memory) (record {
           denied = e.copy_failed.denied;
           unfailed = λ side read. (q.sides side).lines_read.advance_ok.failed;
           clean = fine;

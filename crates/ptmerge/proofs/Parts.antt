@@ -34,8 +34,7 @@ kept_parts p key (x ∷ xs) ys (here, more) f = search (rules, kept_parts p key 
 
 key_split : (tool : MergeTool) (P : List ℕ → Type 0) (ls : Side → Lines) → Each P (keys tool ls) → (side : Side)
     → EachKey P (tool.key side) (ls side)
-key_split _ P ls e = let (first, second) = Each-parts P _ _ e in
-    elim [ First ↦ first | Second ↦ second ]
+key_split _ P ls e = let (first, second) = Each-parts P _ _ e in elim [ First ↦ first | Second ↦ second ]
 
 abbrev is_under : Cmp → Lines → List ℕ → Bool
 is_under cmp [] k = true
@@ -86,9 +85,8 @@ module _ (cmp : Cmp) (o : IsKeyOrder cmp) (key : Key) where
       grind (arith, first_disorder_is, sorted_prefix_is)
 
   each_ordered : (P : List ℕ → Type 0) (ys : Lines) → EachKey P key ys → EachKey P key (sorted_prefix cmp key ys)
-  each_ordered P [] e = tt
-  each_ordered P (x ∷ []) e = e
   each_ordered P (x ∷ y ∷ ys) (here, more) = grind (arith, each_ordered P (y ∷ ys) more)
+  each_ordered P _ e = e
 
   from_below : (k : List ℕ) (ys : Lines) → EachKey (AtMost cmp k) key ys
       → IsDisorderFrom cmp k (first_disorder cmp key ys)

@@ -341,9 +341,7 @@ pub ruleset word_steps = (any_fits, words_start, word_passed, none_left, word_fo
 -- ---- fields after a number of separators
 
 onto_first_drop : (b m : ℕ) (pieces : Lines) → drop (suc m) (onto_first b pieces) ≡ drop (suc m) pieces
-onto_first_drop b zero [] = refl
-onto_first_drop b (suc m) [] = refl
-onto_first_drop b m _ = refl
+onto_first_drop = grind arith
 
 byte_passed : (b k m : ℕ) (pieces rest : Lines) → drop (suc (m + k)) pieces ≡ rest → (ends : Bool)
     → drop (suc (m + (cond ends 1 0 + k))) (cond ends ([] ∷ pieces) (onto_first b pieces)) ≡ rest
@@ -352,7 +350,7 @@ byte_passed b k m pieces rest is false =
     let none : m + (0 + k) ≡ m + k = omega arith in rw none (onto_first_drop b (m + k) pieces ∙ is)
 
 none_passed : (m : ℕ) (pieces : Lines) → drop (suc (m + 0)) pieces ≡ drop (suc m) pieces
-none_passed m pieces = let same : m + 0 ≡ m = omega arith in ap (λ k. drop (suc k) pieces) same
+none_passed m pieces = grind arith
 
 pieces_passed : (c : ℕ) (v : List ℕ) (n m : ℕ)
     → drop (suc (m + count_by (is_byte c) (take n v))) (join_fields (Some c) v)
@@ -387,16 +385,7 @@ first_of_rest : (test : ℕ → Bool) (hay : List ℕ) (start : ℕ) → start �
     → IsFirstByte test (drop start hay) (option_map (λ at. at - start) r)
 first_of_rest test hay start within None none = λ k low high passes.
     none (start + k) (omega arith) (omega (arith, length-drop start hay)) (rw (get_or-drop start hay k 0) at passes)
-first_of_rest test hay start within (Some at) (first, found) =
-    let same : start + (at - start) ≡ at = omega arith in (
-      record {
-        low = omega arith;
-        high = omega (arith, first.low, length-drop start hay);
-        before = λ k low high passes.
-            first.before (start + k) (omega arith) (omega arith) (rw (get_or-drop start hay k 0) at passes);
-      },
-      rw (get_or-drop start hay (at - start) 0, same) found,
-    )
+first_of_rest test hay start within (Some at) (first, found) = grind (arith, get_or-drop, length-drop, first.before)
 
 module _ {c : ℕ} {line : List ℕ} {number start : ℕ} (within : start ≤ length line)
     (fields : drop (number - 1) (join_fields (Some c) line) ≡ join_fields (Some c) (drop start line)) where
@@ -418,13 +407,7 @@ module _ {c : ℕ} {line : List ℕ} {number start : ℕ} (within : start ≤ le
       let split = rw rest at (split_around (is_byte c) tail n is) in
       let end = rw (eqb-true (get_or tail n 0) c passes) at (drop_more tail n 0 range.high) in
       let size : start + n - start ≡ n = omega arith in
-      record {
-        more = join_fields (Some c) (drop (n + 1) tail);
-        is = rw size (fields ∙ split);
-        ordered = omega arith;
-        within = omega (arith, length-drop start line);
-        after = λ e. rw (sym (drop-drop n start line)) (prefixed_fields c (drop (n + 1) tail) ∙ sym end);
-      }
+      grind (arith, size, split, end, drop-drop n start line, prefixed_fields c (drop (n + 1) tail), length-drop)
 
   pub field_at : (r : Option ℕ) → IsFirst (Passes (is_byte c) line) start (length line) r
       → IsFieldAt (Some c) number line (record { start = start; end = unwrap_or r (length line) })

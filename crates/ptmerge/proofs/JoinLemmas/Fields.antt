@@ -90,19 +90,14 @@ partial_ends e a m = grind (arith, (wrote_then a.clean a.wrote m.wrote))
 row_whole : (row left piece rest next pushed : List ℕ) → next ≡ piece ++ rest → row ++ piece ≡ pushed ++ left
     → row ++ next ≡ pushed ++ (left ++ rest)
 row_whole row left piece rest next pushed is split =
-    rw (is, ← append_assoc row piece rest, split, append_assoc pushed left rest)
+    grind (usual, append_assoc)
 
 module _ {was now new : Output} {all next pushed : List ℕ} (row left piece rest : List ℕ)
     (a : PartialWrite was now all (row ++ next)) (is : next ≡ piece ++ rest) (split : row ++ piece ≡ pushed ++ left)
     (wrote : PushEffect now new pushed) where
   pub piece_added : (now.write_failed ≡ false → new.write_failed ≡ false) → PartialWrite was new all (left ++ rest)
-  piece_added clean = record {
-    done = a.done ++ pushed;
-    split = a.split ∙ ap (λ l. a.done ++ l) (row_whole row _ _ _ _ _ is split)
-        ∙ sym (append_assoc a.done pushed (left ++ rest));
-    wrote = wrote_then a.clean a.wrote wrote;
-    clean = λ fine. clean (a.clean fine);
-  }
+  piece_added clean = grind (arith, row_whole row left piece rest next pushed is split, append_assoc a.done pushed,
+      wrote_then a.clean a.wrote wrote)
 
   pub piece_fails : new.write_failed ≡ true → {E : Type 0} {r : Result (Unit {0}) E} (P : E → Type 0) → IsErrAnd r P
       → WriteBytesPost was new all r

@@ -41,8 +41,7 @@ group_from store end slot fits low = grind (arith, drop_more store.lines slot []
 
 group_more : (store : Slots) (from end : ℕ) → from ≤ end → end < length store.lines
     → lines_of_slots store from (end + 1) ≡ lines_of_slots store from end ++ line store end ∷ []
-group_more store from end least within =
-    let more = take_more (drop from store.lines) (end - from) [] in grind usual
+group_more store from end least within = grind (usual, take_more (drop from store.lines) (end - from) [])
 
 pub group_one : (store : Slots) (slot : ℕ) → slot < length store.lines
     → lines_of_slots store slot (slot + 1) ≡ line store slot ∷ []

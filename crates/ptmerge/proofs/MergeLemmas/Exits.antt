@@ -69,7 +69,7 @@ last_of (x ∷ xs) = ⊎_elim (λ none. inr ([], x, cc)) (λ (front, y, is). inr
 
 are_split : (end : ℕ) (xs : Lines) (x : List ℕ) → AreLines end (xs ++ x ∷ []) → AreLines end xs × IsLine end x
 are_split end [] x (line, _) = (tt, line)
-are_split end (y ∷ xs) x (line, more) = let (front, last) = are_split end xs x more in ((line, front), last)
+are_split end (y ∷ xs) x (line, more) = grind (arith, are_split end xs x more)
 
 -- the input at most two blocks earlier: it had not ended, and all its complete lines are processed
 pub record LagPoint (end : ℕ) (given : Received) (p : Lines) : Type 0 where
@@ -190,7 +190,7 @@ module _ (tool : MergeTool) (o : IsKeyOrder tool.cmp) (eof : Side → Bool) (ls 
 -- ---- the output decided two blocks earlier
 
 front_has : (P : List ℕ → Type 0) (key : Key) (xs ys : Lines) → EachKey P key (xs ++ ys) → EachKey P key xs
-front_has P key xs ys e = let (front, _) = Each-parts P _ _ (rw map-append at e) in front
+front_has P key xs ys e = (Each-parts P _ _ (rw map-append at e)).0
 
 -- `q` are the processed lines; the output for the first of them is complete, and the rest of `q` follows it
 module _ {tool : MergeTool} (o : IsKeyOrder tool.cmp) (given : Side → Received) {b : Side → Bound} {q : Side → Lines}

@@ -104,9 +104,6 @@ module _ (cmp : Cmp) (o : IsKeyOrder cmp) where
 
   same_wanted : (fa fb : Option FirstDisorder) (k : List ℕ)
       → is_up_to cmp (earlier_disorder cmp fa fb) k ≡ is_up_to cmp (earlier_disorder cmp fb fa) k
-  same_wanted None None k = refl
-  same_wanted None (Some b) k = refl
-  same_wanted (Some a) None k = refl
   same_wanted (Some a) (Some b) k = grind (
     arith,
     less_flips cmp o a.last_key b.last_key,
@@ -114,6 +111,7 @@ module _ (cmp : Cmp) (o : IsKeyOrder cmp) where
     o.exact a.last_key b.last_key,
     tied_itself o.total a.last_key,
   )
+  same_wanted fa fb k = grind arith
 
 pub comm_swapped : CommSwapped
 comm_swapped job a b =

@@ -63,18 +63,12 @@ length_of_entries job k (a ∷ g1) [] p u v =
 length_of_entries job k (a ∷ g1) (b ∷ g2) p u v = length_of_pairs job k (a ∷ g1) (b ∷ g2) p
 
 -- the lines of one key have the same number of partners
-partners : (n : List ℕ → ℕ) (key : Key) (k : List ℕ) (ls : Lines)
-    → sum_by (λ (line : List ℕ). n k) (lines_with_key key ls k) ≡ sum_by (λ line. n (key line)) (lines_with_key key ls k)
+partners : (n : List ℕ → ℕ) (key : Key) (k : List ℕ) (ls : Lines) → let own = lines_with_key key ls k in
+    sum_by (λ (line : List ℕ). n k) own ≡ sum_by (λ line. n (key line)) own
 partners n key k [] = refl
 partners n key k (x ∷ ls) =
-    let rest = lines_with_key key ls k in
-    grind (
-      arith,
-      sum_by-cons (λ (line : List ℕ). n k) x rest,
-      sum_by-cons (λ (line : List ℕ). n (key line)) x rest,
-      bytes_decides (key x) k,
-      partners n key k ls,
-    )
+    let first = sum_by-cons (λ (line : List ℕ). n k) x (lines_with_key key ls k) in
+    grind (arith, first, sum_by-cons (λ line. n (key line)) x, bytes_decides (key x) k, partners n key k ls)
 
 pub join_counts : JoinCounts
 join_counts job a b p u v e =

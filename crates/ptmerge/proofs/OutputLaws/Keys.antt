@@ -13,8 +13,7 @@ Has k (x ∷ xs) = (k ≡ x) ⊎ Has k xs
 
 pub has_left : (k : List ℕ) (xs ys : Lines) → Has k xs → Has k (xs ++ ys)
 has_left k [] ys h = absurd h
-has_left k (x ∷ xs) ys (inl e) = inl e
-has_left k (x ∷ xs) ys (inr h) = inr (has_left k xs ys h)
+has_left k (x ∷ xs) ys h = grind (arith, has_left k xs ys)
 
 pub each_of : (P : List ℕ → Type 0) (xs : Lines) → ((k : List ℕ) → Has k xs → P k) → Each P xs
 each_of P [] f = tt
@@ -31,13 +30,11 @@ module _ (cmp : Cmp) (o : IsKeyOrder cmp) where
 
   pub has_distinct : (k : List ℕ) (xs : Lines) → Has k xs → Has k (distinct_keys cmp xs)
   has_distinct k [] h = absurd h
-  has_distinct k (x ∷ xs) (inl e) = has_inserted k x _ (inl e)
-  has_distinct k (x ∷ xs) (inr h) = has_inserted k x _ (inr (has_distinct k xs h))
+  has_distinct k (x ∷ xs) h = grind (arith, has_inserted k x (distinct_keys cmp xs), has_distinct k xs)
 
   pub above_at : (k l : List ℕ) (xs : Lines) → Each (Above cmp k) xs → Has l xs → Above cmp k l
   above_at k l [] a h = absurd h
-  above_at k l (x ∷ xs) (here, more) (inl e) = rw e here
-  above_at k l (x ∷ xs) (here, more) (inr h) = above_at k l xs more h
+  above_at k l (x ∷ xs) (here, more) h = grind (arith, above_at k l xs more)
 
   pub above_differs : (k l : List ℕ) → Above cmp k l → l ≡ k → ⊥
   above_differs k l a e = grind (arith, tied_itself o.total k, a, e)
@@ -46,8 +43,8 @@ module _ (cmp : Cmp) (o : IsKeyOrder cmp) where
   pub others : (key : Key) (x : List ℕ) (ls ks : Lines) → Each (Above cmp (key x)) ks
       → flat_map (lines_with_key key (x ∷ ls)) ks ≡ flat_map (lines_with_key key ls) ks
   others key x ls [] a = refl
-  others key x ls (k ∷ ks) (here, more) = rw (not_same (key x) k (λ e. above_differs (key x) k here (sym e)))
-      (ap (λ l. lines_with_key key ls k ++ l) (others key x ls ks more))
+  others key x ls (k ∷ ks) (here, more) =
+      grind (arith, not_same (key x) k, above_differs (key x) k here, others key x ls ks more)
 
   module _ (f : List ℕ → ℕ) (key : Key) where
     line_once : (x : List ℕ) (ls ks : Lines) → Ascends cmp ks → Has (key x) ks

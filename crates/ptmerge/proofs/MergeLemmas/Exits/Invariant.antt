@@ -132,9 +132,8 @@ module _ (cmp : Cmp) (key : Key) where
       cond (is_disordered cmp last (key x)) (Some (disorder_at last n)) (disorder_after (Some (key x)) (n + 1) w)
 
   pub sorted_prefix_is : (ls : Lines) → sorted_prefix cmp key ls ≡ sorted_after None ls
-  sorted_prefix_is [] = refl
-  sorted_prefix_is (x ∷ []) = refl
   sorted_prefix_is (x ∷ y ∷ more) = grind (arith, sorted_prefix_is (y ∷ more))
+  sorted_prefix_is _ = grind arith
 
   -- the first disorder, by the length of the sorted prefix
   abbrev by_length : Option (List ℕ) → ℕ → Lines → Lines → Option FirstDisorder
@@ -324,8 +323,7 @@ module _ (p : List ℕ → Bool) where
     keys_of_part = simp (keys_kept, filter-append)
 
     -- the entries of the lines that pass the test are those of the keys that pass it
-    pub by_keys_kept : (w : List ℕ → Bool) → entries_by_key tool w (λ side. filter (λ line. p (key side line))
-        (ls side)) ≡ entries_by_key tool (λ k. w k && p k) ls
+    pub by_keys_kept : (w : List ℕ → Bool) → entries_by_key tool w part ≡ entries_by_key tool (λ k. w k && p k) ls
     by_keys_kept w = (λ i. flat_map (entries_of_key tool part)
         (filter w ((ap (distinct_keys cmp) keys_of_part ∙ sym (distinct_kept cmp o _)) i)))
         ∙ each_of (distinct_keys cmp (keys tool ls))
@@ -352,14 +350,8 @@ module _ (cmp : Cmp) (o : IsKeyOrder cmp) where
   least_lines key k [] [] e h = grind arith
   least_lines key k [] (x ∷ r) e (here, more) = grind (arith, least_lines key k [] r tt more, rules)
   least_lines key k (x ∷ f) r (here, more) h =
-      let ih = least_lines key k f r more h in
       let at : is_le (cmp (key x) k) ≡ true = rw here (grind arith) in
-      record {
-        least = simp (at, ih.least);
-        other = simp (at, ih.other);
-        own = (here, ih.own);
-        all = simp (same_bytes here, ih.all);
-      }
+      grind (arith, at, same_bytes here, least_lines key k f r more h)
 
   only_key : (key1 key2 : Key) (k : List ℕ) (xs ys : Lines) → HaveKey key1 k xs
       → HaveKey key2 k ys
@@ -602,7 +594,7 @@ last_has : (key : Key) (P : List ℕ → Type 0) (last : Option (List ℕ)) (xs 
     → last_or last (map key xs) ≡ Some x → ((y : List ℕ) → last ≡ Some y → P y) → EachKey P key xs → P x
 last_has key P _ [] x e f h = f x e
 last_has key P last (y ∷ xs) x e f (here, more) =
-    last_has key P (Some (key y)) xs x e (λ z same. (let is : key y ≡ z = cc in subst P is here)) more
+    last_has key P (Some (key y)) xs x e (λ z same. subst P (cc same) here) more
 
 module _ (cmp : Cmp) (o : IsKeyOrder cmp) where
   pub not_below : (k x : List ℕ) → AtMost cmp x k → is_lt (cmp k x) ≡ false

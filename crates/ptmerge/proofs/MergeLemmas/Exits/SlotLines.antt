@@ -153,9 +153,8 @@ pub line_other : (s : Slots) (a b : ℕ) (bytes : List ℕ) → a ≢ b → line
 line_other = search rules
 
 added_same : (xs : Lines) (i : ℕ) → get_or (xs ++ [] ∷ []) i [] ≡ get_or xs i []
-added_same [] i = grind arith
-added_same (x ∷ xs) zero = refl
 added_same (x ∷ xs) (suc i) = added_same xs i
+added_same _ i = grind arith
 
 pub line_added : (s : Slots) (slot : ℕ) → line (with_new_slot s) slot ≡ line s slot
 line_added s slot = added_same s.lines slot
