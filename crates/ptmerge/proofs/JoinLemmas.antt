@@ -15,7 +15,6 @@ use proofs.MergeLemmas.{BetweenSteps, between_next, advance_pre, wrote_alone, al
 use proofs.MergeLemmas.{Extends, input_split_of, extends, extends_on, runs_on, valid_cursors_kept, wrote_and_sent}
 use proofs.MergeLemmas.{others_stay, open_merge, IsKeyOrder, IsOpenMerge, exit_is_merge_post, continues, same_bound}
 use proofs.MergeLemmas.{bounds_change, EachKey-at, Kept, reads_ahead, reads_less}
-use Rattle.std.proofs.lemmas.Bool.{false≢true}
 use specs.Join.{unpaired_entries1, join_entries}
 use specs.Private.BlockLines as lines
 use specs.Calls.Join.{join_with, join_key, join_tool}

@@ -68,16 +68,15 @@ module _ {tool : MergeTool} (o : IsKeyOrder tool.cmp) {old now : Side → Reader
   sides_next = side_case _ s (simp put_same next_at.side_invariant)
       (simp put_other (grind (arith, others_stay.0, others_stay.1, next_at.side_invariant.four)))
 
-module _ (cmp : Cmp) (o : IsKeyOrder cmp) where
-  -- a disorder of the other input is not the one to report
-  named_is : (key : Key) (s : Side) (d : FirstDisorder) (status : CursorStatus) (cursor : Sorted) (store : Slots)
-      (now : Reader) (ls p : Lines) (b : Bound)
-      → IsReportable cmp s d.last_key status (key (line store cursor.current_slot))
-      (key (line store cursor.previous_slot))
-      → MatchesStatus cmp key status cursor store now ls p b → (f : Side → Option FirstDisorder) → f s ≡ Some d
-      → MayDisorder cmp b (f (other s))
-      → earlier_disorder cmp (f First) (f Second) ≡ Some (record { file = s; first_disorder = d })
-  named_is = grind arith
+-- a disorder of the other input is not the one to report
+named_is : (cmp : Cmp) → IsKeyOrder cmp → (key : Key) (s : Side) (d : FirstDisorder) (status : CursorStatus)
+    (cursor : Sorted) (store : Slots) (now : Reader) (ls p : Lines) (b : Bound)
+    → IsReportable cmp s d.last_key status (key (line store cursor.current_slot))
+    (key (line store cursor.previous_slot))
+    → MatchesStatus cmp key status cursor store now ls p b → (f : Side → Option FirstDisorder) → f s ≡ Some d
+    → MayDisorder cmp b (f (other s))
+    → earlier_disorder cmp (f First) (f Second) ≡ Some (record { file = s; first_disorder = d })
+named_is = grind arith
 
 -- ---- a failed read
 
@@ -357,7 +356,7 @@ line_moves {key} {cmp} {old} {new} {before = before} {after} slots some at stays
     (line_other before _ _ e.line (λ is. slots.apart (sym is))) in
     let head_is : line after new.current_slot ≡ e.line = rw (at, e.stored)
     (line_of_with_line before _ e.line slots.previous_slot) in
-    let step = later_status key cmp old.number (line before old.current_slot) e.line _ some (cc) in
+    let step = later_status key cmp old.number (line before old.current_slot) e.line _ some cc in
     record {
       next_line = e;
       cursor = λ i. record {

@@ -4,9 +4,9 @@ use Rattle.ptmerge.proofs
 use Rattle.ptmerge.specs
 use Rattle.std.proofs.lemmas
 use proofs.Common.{◌≡◌, ⊎_elim, false, ℕ, List, ◌++◌, true, ◌∷◌, [], refl, arith, length-drop, suc, ◌+◌, ◌-◌, ◌≤◌, Bool}
-use proofs.Common.{None, Some, length, drop, get_or, sym, ap, zero, ◌<◌, ◌==◌, cond, filter, slice_split, is_blank}
-use proofs.Common.{Lines, usual, map, join_fields, is_single_spaced, with_prefix, ◌^◌, eqb, ◌≢◌, ◌*◌, not, ◌&&◌, ◌∙◌}
-use proofs.Common.{Option, drop_more, length-append, option_map, unwrap_or}
+use proofs.Common.{None, Some, length, drop, get_or, sym, zero, ◌<◌, ◌==◌, cond, filter, slice_split, is_blank, Lines}
+use proofs.Common.{usual, map, join_fields, is_single_spaced, with_prefix, ◌^◌, eqb, ◌≢◌, ◌*◌, not, ◌&&◌, ◌∙◌, Option}
+use proofs.Common.{drop_more, length-append, option_map, unwrap_or}
 use lemmas.Bool.{cases_Bool, eqb-true}
 use Rattle.std.specs.List.{prefix_len, onto_first, count_by}
 use Rattle.std.proofs.Common.{rules, ◌/◌, bit_and, bit_or, replicate, take, ◌%◌}
@@ -78,7 +78,8 @@ spaced_to_end blank (b ∷ bytes) = cc (spaced_to_end (b == 32) bytes)
 pub spaced_rest : (blank : Bool) (spaces tabs : ℕ) (bytes : List ℕ) {result : Bool} → length bytes < 64
     → spaces ≡ mask_l (map (is_byte 32) bytes) → tabs ≡ mask_l (map (is_byte 9) bytes)
     → ((all : List ℕ) → length all ≤ 64 → bit_or spaces (1 * 2 ^ length bytes % 2 ^ 64) ≡ mask_l (map (is_byte 32) all)
-    → tabs ≡ mask_l (map (is_byte 9) all) → result ≡ has_single_spaces blank all) → result ≡ is_single_spaced blank bytes
+    → tabs ≡ mask_l (map (is_byte 9) all) → result ≡ has_single_spaces blank all)
+    → result ≡ is_single_spaced blank bytes
 spaced_rest blank spaces tabs bytes short spaces_is tabs_is ensures =
     ensures (bytes ++ 32 ∷ []) (omega (arith, length-append bytes (32 ∷ [])))
     (grind (arith, mask_l-lt, length-map, power_fits, or_shifted_r, end_bit (is_byte 32) bytes))
@@ -156,12 +157,9 @@ plus_one (b ∷ bits) = grind (arith, plus_one bits)
 
 or_less : (bits : List Bool) → 0 < mask_l bits → bit_or (mask_l bits) (mask_l bits - 1) + 1 ≡ mask_l (after_run bits)
 or_less [] some = absurd (omega arith)
-or_less (true ∷ bits) some =
+or_less (b ∷ bits) some =
     let m = mask_l bits in
-    grind (arith, or_bits true false m m, or_self m, plus_one bits)
-or_less (false ∷ bits) some =
-    let m = mask_l bits in
-    grind (arith, or_bits false true m (m - 1), or_less bits)
+    grind (arith, or_bits true false m m, or_self m, plus_one bits, or_bits false true m (m - 1), or_less bits)
 
 and_ones : (bits : List Bool) → bit_and (mask_l bits) (mask_l (after_ones bits)) ≡ mask_l (clear_ones bits)
 and_ones [] = and_zero_l 1
@@ -174,13 +172,10 @@ and_run : (bits : List Bool) → bit_and (mask_l bits) (mask_l (after_run bits))
 and_run [] = and_zero_l 1
 and_run (b ∷ bits) = grind (arith, and_run bits, and_ones bits, and_bits b false (mask_l bits))
 
-length-after_ones : (bits : List Bool) → length (after_ones bits) ≤ suc (length bits)
-length-after_ones [] = omega arith
-length-after_ones (b ∷ bits) = grind (arith, length-after_ones bits)
-
-length-after_run : (bits : List Bool) → length (after_run bits) ≤ suc (length bits)
-length-after_run [] = omega arith
-length-after_run (b ∷ bits) = grind (arith, length-after_ones bits, length-after_run bits)
+length-after : (bits : List Bool)
+    → (length (after_ones bits) ≤ suc (length bits)) × (length (after_run bits) ≤ suc (length bits))
+length-after [] = (omega arith, omega arith)
+length-after (b ∷ bits) = grind (arith, length-after bits)
 
 lowest : (bits : List Bool) → length bits ≤ 64 → 0 < mask_l bits
     → count_trailing_zeros 64 (mask_l bits) ≡ prefix_len not bits
@@ -313,7 +308,7 @@ module _ {line : List ℕ} {passed words : ℕ} (short : length line < 64) (left
     start_is = grind (arith, lowest, bits_long)
 
     end_is : count_trailing_zeros 64 after ≡ prefix_len not (after_run bits)
-    end_is = grind (arith, lowest, length-after_run, bits_long, or_less)
+    end_is = grind (arith, lowest, length-after bits, bits_long, or_less)
 
     pub word_passed : WordsLeft line (passed + 1) (bit_and words after)
     word_passed = let w = first_word in

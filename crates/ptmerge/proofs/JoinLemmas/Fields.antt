@@ -8,7 +8,7 @@ use proofs.Common.{push_trans, ◌∷◌, [], refl, append_assoc, arith, length-
 use proofs.Common.{Option, None, Some, length, drop, get_or, sym, ap, zero, ◌<◌, ◌==◌, cond, position, MatchOption}
 use proofs.Common.{filter, is_some, slice_split, is_blank, Lines, is_separator, entry_with_list, usual}
 use proofs.Common.{remaining_fields, map, remove, unwrap_or, append-nil, flat_map-append, Join, output_separator, entry}
-use proofs.Common.{join_fields, other_fields, is_single_spaced, with_prefix, ◌∙◌, First, Second, Side}
+use proofs.Common.{join_fields, other_fields, is_single_spaced, with_prefix, First, Second, Side}
 use lemmas.Bool.{cases_Bool, eqb-true}
 use Rattle.ptlines.proofs.Push.{push_past_failure}
 use Rattle.std.specs.List.{flat_map, slice_range, join_with_byte, onto_first}
@@ -167,9 +167,7 @@ piece_at separator bytes at is = let (within, found, _) = position-Some _ bytes 
 
 pub ends_at : (separator : Option ℕ) (bytes : List ℕ) (at : ℕ) (end : Option ℕ)
     → end ≡ position (is_separator separator) bytes → end ≡ Some at → IsFirstPieceEnd separator bytes at
-ends_at separator bytes at end first some =
-    let is : position (is_separator separator) bytes ≡ Some at = cc in
-    grind (arith, (split_around (is_separator separator) bytes at is))
+ends_at separator bytes at end first some = grind (arith, split_around (is_separator separator) bytes at)
 
 pub ends_whole : (separator : Option ℕ) (bytes : List ℕ) (end : Option ℕ)
     → end ≡ position (is_separator separator) bytes → end ≡ None → IsFirstPieceEnd separator bytes (length bytes)

@@ -413,8 +413,8 @@ module _ {call : JoinCall} {now : MergeState} {cursor : Side → Sorted} {end : 
 
   pub is_past : (s : Side) → ((cursor s).status ≡ Head → ¬ (key s (head_of now cursor s) ≡ k))
       → IsAbove cmp (key s) k (q.d s)
-  is_past s other = (current_key_is_above _ o _ k _ _ _ _ _ _ _
-      (by _ (q.sides s).status_is other) (q.sides s).status_is).0
+  is_past s other =
+      (current_key_is_above _ o _ k _ _ _ _ _ _ _ (by _ (q.sides s).status_is other) (q.sides s).status_is).0
     where
       under : IsUnder cmp (q.d s) k
       under = (q.within.later s).under k (self_at_most cmp o k)

@@ -444,7 +444,7 @@ Fits tool before now ls piece after = (all : Side → Lines)
     → ((side : Side) → HoldsLines (now side) (ls side) (piece side) (all side)) → FitsIn tool before after all
 
 pub extends : {now : Reader} {ls all : Lines} {piece : List ℕ} → HoldsLines now ls piece all → Extends ls all
-extends w = record { more = w.continues.more; is = w.continues.is }
+extends w = grind arith
 
 module _ {tool : MergeTool} {before store : Slots} {ls : Side → Lines} {g : Lines}
     (k : GroupStore tool before store ls g) {now : Side → Reader} where
@@ -636,16 +636,15 @@ module _ {tool : MergeTool} {old : MergeState} (w : IsOpenMerge tool old) (new :
         untouched = λ side none. cc;
         pushed = unlines tool.terminator done;
         wrote = moves.wrote;
-        ends = outcome_behind fault ends;
+        ends = (ends_behind fault ends).0;
         is_prefix = moves.is_prefix;
-        decided_is_written = λ side read fail clean_then. absurd (calm_behind fault ends side fail);
+        decided_is_written = λ side read fail clean_then. cc ((ends_behind fault ends).1 side);
         bounded_lag = λ side read clean_then. moves.bounded_lag side read;
         peak = moves.peak;
         slots = moves.slots;
         added = λ clean_then. record { least = moves.least; all = λ allowed. moves.room };
         unread = λ clean_then few. absurd (omega (arith, moves.room));
-        terminator = λ side read clean_then.
-            ap (λ r. r.terminator) (sym (same side)) ∙ (moves.reads side read).terminator ∙ w.terminator side;
+        terminator = grind arith;
         unchanged_if_failed = λ failed_then. cc w.writable;
       };
       stops_at_disorder = λ of clean_then. unsettled w.o given lag whole_input_split of (backs of);
@@ -658,20 +657,13 @@ module _ {tool : MergeTool} {old : MergeState} (w : IsOpenMerge tool old) (new :
         moves : CallProgress both_sides (merge_engine tool) old new took (unlines tool.terminator done)
         moves = progress fits
 
-        outcome_behind : (fault : MergeFault) → IsFaultBehind real new.out new.store fault
+        ends_behind : (fault : MergeFault) → IsFaultBehind real new.out new.store fault
             → CallOutcome both_sides (merge_engine tool) old (state_by_side real new.out new.store) given
-            (unlines tool.terminator done) (merge_end (Err fault))
-        outcome_behind Write e = search (rules, w.unfailed)
-        outcome_behind Memory e = search (rules, w.unfailed)
-        outcome_behind (faults.Read s) e = elim e [ ]
-        outcome_behind (faults.Disorder s n) e = elim e [ ]
-
-        calm_behind : (fault : MergeFault) → IsFaultBehind real new.out new.store fault → (side : Side)
-            → (real side).failed ≡ true → ⊥
-        calm_behind Write e side fail = cc (e.unfailed side)
-        calm_behind Memory e side fail = cc (e.unfailed side)
-        calm_behind (faults.Read s) e side fail = elim e [ ]
-        calm_behind (faults.Disorder s n) e side fail = elim e [ ]
+            (unlines tool.terminator done) (merge_end (Err fault)) × ((side : Side) → (real side).failed ≡ false)
+        ends_behind Write e = (search (rules, w.unfailed), e.unfailed)
+        ends_behind Memory e = (search (rules, w.unfailed), e.unfailed)
+        ends_behind (faults.Read s) e = elim e [ ]
+        ends_behind (faults.Disorder s n) e = elim e [ ]
 
 -- ---- the ends before the start
 

@@ -51,7 +51,7 @@ module _ (cmp : Cmp) (o : IsKeyOrder cmp) where
 
 map_copies : (f : List ℕ → List ℕ) (n : ℕ) (k : List ℕ) → map f (replicate n k) ≡ replicate n (f k)
 map_copies f zero k = refl
-map_copies f (suc n) k = ap (λ l. f k ∷ l) (map_copies f n k)
+map_copies f (suc n) k = cc (map_copies f n k)
 
 abbrev third : Comm → List ℕ → List ℕ
 third job line = tab_if_shown job.hide1 ++ tab_if_shown job.hide2 ++ line

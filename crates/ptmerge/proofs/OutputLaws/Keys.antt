@@ -2,7 +2,7 @@
 use Rattle.ptmerge.proofs
 use Rattle.std.proofs.Common.{sum_by}
 use Rattle.std.proofs.lemmas.List.Sums.{sum_by-append, sum_by-cons}
-use proofs.MergeLemmas.Exits.Invariant.{ap, flat_map, [], ◌≡◌, ◌⊎◌, inl, inr, ℕ, ◌+◌, List, ◌∷◌, ◌++◌, refl, sym, arith}
+use proofs.MergeLemmas.Exits.Invariant.{ap, flat_map, [], ◌≡◌, ◌⊎◌, inl, inr, ℕ, ◌+◌, List, ◌∷◌, ◌++◌, refl, arith}
 use proofs.MergeLemmas.Exits.Invariant.{tied_itself, Cmp, Key, Lines, distinct_keys, insert_key, lines_with_key}
 use proofs.MergeLemmas.Exits.Invariant.{same_bytes, IsKeyOrder, Each, EachKey, Above, Ascends, not_same}
 

@@ -97,10 +97,10 @@ Each-distinct : (cmp : Cmp) (P : List ℕ → Type 0) (xs : Lines) → Each P xs
 Each-distinct cmp P [] e = tt
 Each-distinct cmp P (x ∷ xs) (here, more) = Each-insert cmp P x (distinct_keys cmp xs) here (Each-distinct _ P xs more)
 
-module _ (cmp : Cmp) (o : IsKeyOrder cmp) where
-  insert_least : (k : List ℕ) (ds : Lines) → Each (Above cmp k) ds → insert_key cmp k ds ≡ k ∷ ds
-  insert_least k [] a = refl
-  insert_least k (d ∷ ds) (here, _) = rw (greater_flips cmp o d k here)
+insert_least : (cmp : Cmp) → IsKeyOrder cmp → (k : List ℕ) (ds : Lines) → Each (Above cmp k) ds
+    → insert_key cmp k ds ≡ k ∷ ds
+insert_least cmp o k [] a = refl
+insert_least cmp o k (d ∷ ds) (here, _) = rw (greater_flips cmp o d k here)
 
 pub kept_none : (w : List ℕ → Bool) (key : Key) (ls : Lines) → EachKey (λ k. w k ≡ false) key ls
     → filter (λ line. w (key line)) ls ≡ []
