@@ -129,8 +129,7 @@ module _ {tool : MergeTool} {old : MergeState} (w : IsOpenMerge tool old) (now :
 
 pub open_merge : {tool : MergeTool} {first second : Reader} {out : Output} {store : Slots} → IsKeyOrder tool.cmp
     → IsLineByLine tool.entries → ((ls : Side → Lines) → HasRoom tool [] ls)
-    → MergeRunPre tool.terminator first second out store
-    → IsOpenMerge tool (merge_state first second out store)
+    → MergeRunPre tool.terminator first second out store → IsOpenMerge tool (merge_state first second out store)
 open_merge = grind arith
 
 pub record CursorsInvariant {tool : MergeTool} {old : MergeState} (w : IsOpenMerge tool old) (reader : Side → Reader)
@@ -258,8 +257,7 @@ module _ {tool : MergeTool} {old : MergeState} {w : IsOpenMerge tool old} {now :
         }
 
     concludes : (result : Result (Unit {0}) MergeFault) → CallOutcome both_sides (merge_engine tool) old last
-        (given w last (read_facts_current a)) (output_of tool p) (merge_end result)
-        → MergePost tool old last result
+        (given w last (read_facts_current a)) (output_of tool p) (merge_end result) → MergePost tool old last result
     concludes result ends = exit_is_merge_post w _ (read_facts_current a)
         (lag_invariant_starts w.o m clean (push_nothing now.out)) (fits_emptied a.keeps after clear.peak clear.slots)
         (both_begun (begun a)) (λ side fail. search (rules, w.unfailed side)) result ends
@@ -272,10 +270,7 @@ module _ {tool : MergeTool} {old : MergeState} {w : IsOpenMerge tool old} {now :
 
     pub ends_fallen : {s : Side} {n : ℕ} → IsDisorderDecided cmp key cursor now.store s n
         → MergePost tool old last (Err (faults.Disorder s n))
-    ends_fallen step = concludes _ (record {
-      named = refl;
-      pushed_all = pushed_all (λ none. cc) (stops_at step);
-    })
+    ends_fallen step = concludes _ (record { named = refl; pushed_all = pushed_all (λ none. cc) (stops_at step) })
 
 -- ---- after one input advanced
 

@@ -104,11 +104,7 @@ top_bit zero blank (b ∷ c ∷ v) size = absurd (omega arith)
 top_bit (suc n) blank (b ∷ v) size =
     let m = mask_l (map (is_byte 32) v) in
     let twice : 2 ^ suc n ≡ 2 * 2 ^ n = omega arith in
-    cc (
-      top_bit n _ v (omega arith),
-      (halves _ m).0,
-      div-div-eq-div-mul (bit (b == 32) + 2 * m) 2 (2 ^ n),
-    )
+    cc (top_bit n _ v (omega arith), (halves _ m).0, div-div-eq-div-mul (bit (b == 32) + 2 * m) 2 (2 ^ n))
 
 pub chunk_spaced : (blank : Bool) (bytes : List ℕ) (at : ℕ) → at + 64 ≤ length bytes
     → is_single_spaced blank (drop at bytes) ≡ cond (has_single_spaces blank (chunk at 64 bytes))

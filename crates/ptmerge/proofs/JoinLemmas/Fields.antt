@@ -89,8 +89,7 @@ partial_ends e a m = grind (arith, (wrote_then a.clean a.wrote m.wrote))
 -- a piece is added to a row, and `rest` is still to be added
 row_whole : (row left piece rest next pushed : List ℕ) → next ≡ piece ++ rest → row ++ piece ≡ pushed ++ left
     → row ++ next ≡ pushed ++ (left ++ rest)
-row_whole row left piece rest next pushed is split =
-    grind (usual, append_assoc)
+row_whole row left piece rest next pushed is split = grind (usual, append_assoc)
 
 module _ {was now new : Output} {all next pushed : List ℕ} (row left piece rest : List ℕ)
     (a : PartialWrite was now all (row ++ next)) (is : next ≡ piece ++ rest) (split : row ++ piece ≡ pushed ++ left)
@@ -101,8 +100,7 @@ module _ {was now new : Output} {all next pushed : List ℕ} (row left piece res
 
   pub piece_fails : new.write_failed ≡ true → {E : Type 0} {r : Result (Unit {0}) E} (P : E → Type 0) → IsErrAnd r P
       → WriteBytesPost was new all r
-  piece_fails fault P err_is =
-      partial_fails P err_is (left ++ rest) (row_whole row _ _ _ _ _ is split) a wrote fault
+  piece_fails fault P err_is = partial_fails P err_is (left ++ rest) (row_whole row _ _ _ _ _ is split) a wrote fault
 
 pub first_piece_fails : {was new : Output} {all pushed : List ℕ} (row left piece rest : List ℕ) → row ≡ []
     → all ≡ piece ++ rest → row ++ piece ≡ pushed ++ left → PushEffect was new pushed → new.write_failed ≡ true
@@ -121,8 +119,7 @@ module _ {X : Type 0} (f : X → List ℕ) {xs more : List X} {x : X} (is : xs �
 
 pub first_is_position : (test : ℕ → Bool) (bytes : List ℕ) (r : Option ℕ) → IsFirstByte test bytes r
     → r ≡ position test bytes
-first_is_position test bytes None none =
-    grind (arith, (position_or_len_is test bytes (length bytes) 0), none)
+first_is_position test bytes None none = grind (arith, (position_or_len_is test bytes (length bytes) 0), none)
 first_is_position _ _ _ (range, found) = grind (arith, position_or_len_is)
 
 pub none_past : (fs : Lines) (i n : ℕ) → drop i fs ≡ [] → i ≤ n → drop n fs ≡ []
@@ -256,8 +253,7 @@ pub pair_is : (job : Join) (key : List ℕ) {one two : List ℕ} (end : ℕ) →
     → IsUnchanged job Second two → join_key job First one ≡ key → join_key job Second two ≡ key
     → one ++ take (length two - length key) (drop (length key) two) ++ end ∷ []
     ≡ entry job key (join_fields job.separator one) (join_fields job.separator two) ++ end ∷ []
-pair_is job key {one} {two} end w1 w2 keyed1 keyed2 =
-    grind (usual, entry_plain job key (Some one) (Some two) w1.list)
+pair_is job key {one} {two} end w1 w2 keyed1 keyed2 = grind (usual, entry_plain job key (Some one) (Some two) w1.list)
 
 first_is : (job : Join) (key : List ℕ) {line : List ℕ} → IsUnchanged job First line
     → nth_field job.field1 (join_fields job.separator line) ≡ key

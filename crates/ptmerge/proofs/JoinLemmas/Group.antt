@@ -94,8 +94,7 @@ record IsLineMeasure (m : Lines → ℕ) : Type 0 where
   more : (x : List ℕ) (xs : Lines) → m (x ∷ xs) ≡ weight x + m xs
 
 module _ (m : Lines → ℕ) (laws : IsLineMeasure m) (key : Key) where
-  group_measure_max : (k : List ℕ) (p g c : Lines) → HaveKey key k g
-      → m g ≤ m (lines_with_key key (p ++ (g ++ c)) k)
+  group_measure_max : (k : List ℕ) (p g c : Lines) → HaveKey key k g → m g ≤ m (lines_with_key key (p ++ (g ++ c)) k)
   group_measure_max k [] [] c e = omega arith
   group_measure_max k [] (x ∷ g) c (here, more) = grind (arith, same_bytes, group_measure_max k [] g c more)
   group_measure_max k (x ∷ p) g c e = grind (arith, group_measure_max k p g c e)

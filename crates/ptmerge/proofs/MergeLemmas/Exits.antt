@@ -370,10 +370,8 @@ module _ (tool : MergeTool) (o : IsKeyOrder tool.cmp) (s : Side) (old now new : 
   Goal last q = SideAfterNext tool s old new q cursor.previous_slot before after ls last
 
   at_next : (last : Option (List ℕ)) (more : Lines) (bytes : List ℕ) (status : CursorStatus) (number : ℕ) (same : Bool)
-      (b : Bound)
-      → LinesRead tool.terminator old new (ls ++ more) → HasBegun new (ls ++ more) → IsSound new
-      → ProcessedNearly (ls ++ more) ls [] → number ≡ length (ls ++ more)
-      → IsProcessedPrefix cmp own (ls ++ more) ls b
+      (b : Bound) → LinesRead tool.terminator old new (ls ++ more) → HasBegun new (ls ++ more) → IsSound new
+      → ProcessedNearly (ls ++ more) ls [] → number ≡ length (ls ++ more) → IsProcessedPrefix cmp own (ls ++ more) ls b
       → MatchesStatus cmp own status (next_cursor status number same) after new (ls ++ more) ls b
       → IsLater cmp own (bound_after last) b → after ≡ with_line before cursor.previous_slot bytes
       → length bytes ≤ max_length (ls ++ more) → Goal last (next_cursor status number same)

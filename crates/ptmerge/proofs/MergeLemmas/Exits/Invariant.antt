@@ -260,8 +260,7 @@ IsDownwardClosed cmp w = (a b : List ℕ) → cmp b a ≡ Greater → w b ≡ tr
 module _ (cmp : Cmp) (o : IsKeyOrder cmp) where
   ascends_insert : (k : List ℕ) (ks : Lines) → Ascends cmp ks → Ascends cmp (insert_key cmp k ks)
   ascends_insert k [] a = (tt, tt)
-  ascends_insert k (x ∷ xs) (above, more) =
-      grind (arith, Each-weaker, Each-insert, ascends_insert k xs more)
+  ascends_insert k (x ∷ xs) (above, more) = grind (arith, Each-weaker, Each-insert, ascends_insert k xs more)
 
   pub ascends_distinct : (ks : Lines) → Ascends cmp (distinct_keys cmp ks)
   ascends_distinct [] = tt
@@ -353,8 +352,7 @@ module _ (cmp : Cmp) (o : IsKeyOrder cmp) where
       let at : is_le (cmp (key x) k) ≡ true = rw here (grind arith) in
       grind (arith, at, same_bytes here, least_lines key k f r more h)
 
-  only_key : (key1 key2 : Key) (k : List ℕ) (xs ys : Lines) → HaveKey key1 k xs
-      → HaveKey key2 k ys
+  only_key : (key1 key2 : Key) (k : List ℕ) (xs ys : Lines) → HaveKey key1 k xs → HaveKey key2 k ys
       → (distinct_keys cmp (map key1 xs ++ map key2 ys) ≡ k ∷ []) ⊎ ((xs ≡ []) × (ys ≡ []))
   only_key _ _ k [] [] e h = inr (refl, refl)
   only_key key1 key2 k [] (y ∷ ys) e (here, more) = grind (arith, only_key key1 key2 k [] ys tt more)
@@ -387,8 +385,7 @@ module _ (tool : MergeTool) where
     of_one_key : (ls : Side → Lines) → ((side : Side) → HaveKey (key side) k (ls side))
         → ((side : Side) → lines_with_key (key side) (ls side) k ≡ ls side)
         → entries_by_key tool w ls ≡ cond (w k) (tool.entries k (ls First) (ls Second)) []
-    of_one_key ls own all =
-        grind (arith, append-nil, none, only_key cmp o _ _ k _ _ (own First) (own Second))
+    of_one_key ls own all = grind (arith, append-nil, none, only_key cmp o _ _ k _ _ (own First) (own Second))
 
     abbrev pub later_entries : (Side → Lines) → Lines
     later_entries r = entries_by_key tool (λ x. w x && not (is_le (cmp x k))) r
@@ -517,8 +514,7 @@ pub write_least_run : {tool : MergeTool} (o : IsKeyOrder tool.cmp) (k : List ℕ
     → ((side : Side) → q side ≡ p side ++ f side) → tool.entries k [] [] ≡ []
     → ((r : Side → Lines) → MayCome tool d r → tool.entries k (f First ++ lines_with_key (tool.key First) (r First) k)
     (f Second ++ lines_with_key (tool.key Second) (r Second) k) ≡ tool.entries k (f First) (f Second) ++ entries_of_key
-    tool r k)
-    → is.write_failed ≡ false → MergeInvariant tool b p was is
+    tool r k) → is.write_failed ≡ false → MergeInvariant tool b p was is
     → PushEffect is new (output_of tool f) → Written tool d q was new
 write_least_run {tool} o k q f {b} {d} {p} {was} {is} {new} front all none law clean m wrote =
     let nothing =

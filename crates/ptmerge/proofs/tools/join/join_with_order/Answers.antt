@@ -205,8 +205,7 @@ returns-in_err-write_pairs-in-Both g c =
     (pair_fails i.iteration c.write_pairs.ensures.wrote _ _ _ c.in_err-write_pairs-in-Both.ensures.fails)
 
 pub pairs-smaller : goal.pairs-smaller
-pairs-smaller g c =
-    write_pairs_less c.pairs.invariant.kept.iteration c.in_ok-write_pairs-in-Both.ensures.advances
+pairs-smaller g c = write_pairs_less c.pairs.invariant.kept.iteration c.in_ok-write_pairs-in-Both.ensures.advances
 
 pub pairs-preserved : goal.pairs-preserved
 pairs-preserved g c =

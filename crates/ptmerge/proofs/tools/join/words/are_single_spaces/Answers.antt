@@ -9,5 +9,4 @@ returns-then-tabs-eq0 c bytes few spaces tabs =
     rw c.if-tabs-eq0.true at (single_spaces_is _ _ _ _ c.requires few spaces tabs)
 
 pub returns-else-tabs-eq0 : goal.returns-else-tabs-eq0
-returns-else-tabs-eq0 c bytes few spaces tabs =
-    grind (arith, single_spaces_is _ _ _ _ c.requires few spaces tabs)
+returns-else-tabs-eq0 c bytes few spaces tabs = grind (arith, single_spaces_is _ _ _ _ c.requires few spaces tabs)

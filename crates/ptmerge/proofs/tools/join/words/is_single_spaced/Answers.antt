@@ -30,8 +30,7 @@ loop-at-preserved c =
     let few : length v ≤ 64 = omega (arith, length-chunk at 64 bytes room) in
     let spaced = sym (c.are_single_spaces.ensures v few c.mask_at-spaces.ensures c.mask_at.ensures)
     ∙ c.if-not-are_single_spaces.false in
-    let before = ap (λ x. x / 2 ^ 63) c.mask_at-spaces.ensures
-    ∙ top_bit 63 blank v (length-chunk at 64 bytes room) in
+    let before = ap (λ x. x / 2 ^ 63) c.mask_at-spaces.ensures ∙ top_bit 63 blank v (length-chunk at 64 bytes room) in
     record {
       within = room;
       bit = omega arith;
