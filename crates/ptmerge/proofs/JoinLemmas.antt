@@ -20,8 +20,6 @@ use specs.Private.BlockLines as lines
 use specs.Calls.Join.{join_with, join_key, join_tool}
 use Group.*
 
--- ---- the output, by lines and by pairs
-
 cond_of_empty : (t : Bool) → cond {A = Lines} t [] [] ≡ []
 cond_of_empty = grind arith
 
@@ -77,8 +75,6 @@ pub record WritePairs (end : ℕ) (call : JoinCall) (now : MergeState) (cursor :
 
 abbrev pub BetweenGroups : JoinCall → MergeState → (Side → Sorted) → Type 0
 BetweenGroups call now cursor = LoopInvariant call.w now cursor
-
--- ---- an iteration
 
 abbrev pub join_call : (job : Join) (cmp : Cmp) (key : Side → Key) {old : MergeState}
     → IsOpenMerge (join_with job cmp key) old → JoinCall

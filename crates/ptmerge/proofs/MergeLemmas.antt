@@ -13,8 +13,6 @@ use specs.Private.BlockLines.{entries_alone}
 use Rattle.ptlines.specs.Calls.Engines.{AllPushed}
 pub use Exits.*
 
--- ---- keys that may follow
-
 abbrev pub IsAbove : Cmp → Key → List ℕ → Bound → Type 0
 IsAbove cmp key x b = (r : Lines) → MayFollow cmp key b r → EachKey (Above cmp x) key r
 
@@ -272,8 +270,6 @@ module _ {tool : MergeTool} {old : MergeState} {w : IsOpenMerge tool old} {now :
         → MergePost tool old last (Err (faults.Disorder s n))
     ends_fallen step = concludes _ (record { named = refl; pushed_all = pushed_all (λ none. cc) (stops_at step) })
 
--- ---- after one input advanced
-
 pub fails_by : {tool : MergeTool} {old now : MergeState} {r : Result (Unit {0}) MergeFault} {fault : MergeFault}
     → IsErrAnd r (λ y. y ≡ fault) → MergePost tool old now (Err fault) → MergePost tool old now r
 fails_by {r = Ok u} is post = elim is [ ]
@@ -328,8 +324,6 @@ pub wrote_and_sent : (was mid is : Output) (pushed : List ℕ) → mid.write_fai
     → PushEffect mid is [] → PushEffect was is pushed
 wrote_and_sent was mid is _ clean wrote written_out =
     rw append-nil at (push_trans was mid is _ [] clean wrote written_out)
-
--- ---- keys in slots
 
 later_status : (key : Key) (cmp : Cmp) (number : ℕ) (last next : List ℕ) (r : Ordering) → 0 < number
     → r ≡ cmp (key last) (key next) → (cond (is_gt r) (Disorder (number + 1)) Head ≡ status_at key cmp number last next)

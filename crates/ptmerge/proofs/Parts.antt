@@ -53,8 +53,6 @@ module _ (cmp : Cmp) (o : IsKeyOrder cmp) where
   none_under [] = tt
   none_under (x ∷ ls) = (rw (tied_itself o.total x), Each-weaker _ _ (λ l h. grind arith) ls (none_under ls))
 
--- ---- lists in order
-
 abbrev without_line_number : Option FirstDisorder → Option FirstDisorder
 without_line_number None = None
 without_line_number (Some d) = Some (record { last_key = d.last_key; line = 0 })
@@ -66,7 +64,6 @@ module _ (cmp : Cmp) (o : IsKeyOrder cmp) (key : Key) where
   uncounted _ n m [] = refl
   uncounted last n m (y ∷ ys) = grind (arith, uncounted (Some (key y)) (n + 1) (m + 1) ys)
 
-  -- A list appended to a sorted list with keys of at most its own has its own disorder.
   appended : (last : Option (List ℕ)) (n : ℕ) (xs ys : Lines) → IsSortedFrom cmp key last xs
       → EachKey (λ k. is_disordered cmp last k ≡ false) key ys → EachKey (λ k. EachKey (AtMost cmp k) key ys) key xs
       → (sorted_after cmp key last (xs ++ ys) ≡ xs ++ sorted_after cmp key None ys)
@@ -101,7 +98,6 @@ module _ (cmp : Cmp) (o : IsKeyOrder cmp) (key : Key) where
       let left_out = kept_after p (Some (key x)) from xs (λ k g. grind (arith, g)) more in
       grind (arith, kept_after p (Some (key x)) (Some (key x)) xs (λ k g. g) more)
 
-  -- a sublist of a sorted list is sorted
   in_order_kept : (p : List ℕ → Bool) (xs : Lines) → first_disorder cmp key xs ≡ None
       → first_disorder cmp key (filter p xs) ≡ None
   in_order_kept p xs e = grind (arith, sorted_from_start, kept_after, sorted_from_none)

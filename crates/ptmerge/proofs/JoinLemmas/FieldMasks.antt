@@ -30,8 +30,6 @@ use proofs.JoinLemmas.Fields.{first_is_position, none_past, prefixed_fields, spa
 and_bits : (b c : Bool) (x y : ℕ) → bit_and (bit b + 2 * x) (bit c + 2 * y) ≡ bit (b && c) + 2 * bit_and x y
 and_bits b c x y = grind (arith, and_step (bit b + 2 * x) (bit c + 2 * y), halves c y)
 
--- ---- single spaces
-
 no_misplaced : (blank : Bool) (bytes : List ℕ) → cond (eqb (mask_l (map (is_byte 9) bytes)) 0)
     (eqb (bit_and (mask_l (map (is_byte 32) bytes)) (bit blank + 2 * mask_l (map (is_byte 32) bytes))) 0) false
     ≡ has_single_spaces blank bytes
@@ -352,7 +350,6 @@ pieces_passed c (b ∷ v) (suc n) m =
     rw (sum_by-cons (λ x. cond (is_byte c x) 1 0) b (take n v))
     (byte_passed b (count_by (is_byte c) (take n v)) m _ _ (pieces_passed c v n m) (b == c))
 
--- the bytes after the n-th separator are the fields after the first n
 pub fields_after_nth : (c number at : ℕ) (line : List ℕ) → 1 < number → 0 < at
     → IsNth (is_byte c) 0 (number - 2) (take (length line) line) (at - 1)
     → drop (number - 1) (join_fields (Some c) line) ≡ join_fields (Some c) (drop at line)

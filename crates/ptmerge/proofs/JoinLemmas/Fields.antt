@@ -132,8 +132,6 @@ abbrev pub remaining_length : Option (List ℕ) → ℕ
 remaining_length None = 0
 remaining_length (Some bytes) = suc (length bytes)
 
--- ---- spans of fields
-
 abbrev pub AreFieldsOf : Option ℕ → Option (List ℕ) → Option (List ℕ) → Type 0
 AreFieldsOf separator line left = (field : List ℕ) (remainder : Option (List ℕ))
     → IsFieldIn separator left field remainder → IsFieldIn separator line field remainder

@@ -87,7 +87,6 @@ failed_copy = grind (usual, total_bytes_set)
 
 -- ---- the largest group
 
--- a measure that is the sum of a weight of each line
 record IsLineMeasure (m : Lines → ℕ) : Type 0 where
   weight : List ℕ → ℕ
   none : m [] ≡ 0
@@ -306,7 +305,6 @@ head_of now cursor s = line now.store (cursor s).current_slot
 abbrev pub state_after_read : MergeState → Side → Reader → Output → Slots → MergeState
 state_after_read now s reader out store = record { reader = with_side s reader now.reader; out = out; store = store }
 
--- only the first four slots matter
 pub same_cursors : (tool : MergeTool) {old now : Side → Reader} {cursor : Side → Sorted} {before after : Slots}
     {ls p : Side → Lines} {b : Side → Bound} → SidesInvariant tool old now cursor before ls p b
     → 4 ≤ length after.lines → ((i : ℕ) → i < 4 → line after i ≡ line before i)

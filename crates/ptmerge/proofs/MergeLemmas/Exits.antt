@@ -59,7 +59,6 @@ module _ (cmp : Cmp) (o : IsKeyOrder cmp) (key : Key) where
 
 -- ---- the bytes received
 
--- all lines have their terminator, or the last one lacks it
 abbrev Shape : ℕ → List ℕ → Lines → Type 0
 Shape end given ls = AreLines end ls × ((given ≡ unlines end ls) ⊎ (given ++ end ∷ [] ≡ unlines end ls))
 
@@ -141,7 +140,6 @@ pub record Differ (tool : MergeTool) (last : Option (List ℕ)) (key : Key) (xs 
   pub none_rest : EachKey (λ k. is_below tool.cmp k last ≡ false) key rest
   pub none_tail : EachKey (λ k. is_below tool.cmp k last ≡ false) key tail
 
--- if one list is in order, the reported disorder is that of the other
 of_other : (cmp : Cmp) (s : Side) (f : Side → Option FirstDisorder) (test : Option MergeDisorder → Bool) → f s ≡ None
     → test None ≡ false
     → ((d : FirstDisorder) → f (other s) ≡ Some d → test (Some (record { file = other s; first_disorder = d })) ≡ false)
@@ -233,7 +231,6 @@ module _ {tool : MergeTool} (o : IsKeyOrder tool.cmp) (given : Side → Received
       none_tail = above _;
     }
 
-    -- the input `of` as it was at `point`
     module _ (mix : Side → Received) (own : mix of ≡ point.before.earlier) where
       whole_now : known_lines terminator (mix of) ≡ whole
       whole_now = rw own
@@ -270,7 +267,6 @@ module _ {tool : MergeTool} (o : IsKeyOrder tool.cmp) (given : Side → Received
 
 -- ---- the cursor of one input
 
--- all lines before the current line `x` are processed
 pub record IsAtCurrentLine (cmp : Cmp) (key : Key) (number : ℕ) (x : List ℕ) (ls p : Lines) (b : Bound) : Type 0 where
   pub all : ls ≡ p ++ x ∷ []
   pub sorted_up_to : IsSortedUpTo cmp key ls (Some (key x))
@@ -485,7 +481,6 @@ both_begun = search rules
 pub record IsOpenMerge (tool : MergeTool) (old : MergeState) : Type 0 where
   pub o : IsKeyOrder tool.cmp
   pub alone : IsLineByLine tool.entries
-  -- the measure has room for two lines of each input
   pub fits : (ls : Side → Lines) → HasRoom tool [] ls
   pub terminator : (side : Side) → (old.reader side).terminator ≡ tool.terminator
   pub sound : (side : Side) → IsSound (old.reader side)
@@ -583,7 +578,6 @@ module _ {tool : MergeTool} {old : MergeState} (w : IsOpenMerge tool old) (new :
       is_prefix = λ texts agree.
           let come = lag.first _ (input_split_of _ (continues _ agree)) in
           search (rules, unlines-append);
-      -- everything was written that was decided two blocks of an input earlier
       bounded_lag = λ of read. rw lag.all at (bounded_lag_after _ _ old.out lag.mid _
           (lag_bound w.o given lag whole_input_split of (backs of)) lag.wrote lag.clean _ _ lag.more);
       peak = λ texts agree. (fits (lines_of tool texts) (input_lines _ agree)).0;

@@ -68,7 +68,7 @@ partners : (n : List ℕ → ℕ) (key : Key) (k : List ℕ) (ls : Lines) → le
 partners n key k [] = refl
 partners n key k (x ∷ ls) =
     let first = sum_by-cons (λ (line : List ℕ). n k) x (lines_with_key key ls k) in
-    grind (arith, first, sum_by-cons (λ line. n (key line)) x, bytes_decides (key x) k, partners n key k ls)
+    grind (arith, first, sum_by-cons (λ line. n (key line)) x, bytes_decides, partners n key k ls)
 
 pub join_counts : JoinCounts
 join_counts job a b p u v e =
@@ -113,7 +113,7 @@ shared line k c1 c2 = simp append-nil
 sums_add : (f g h : List ℕ → ℕ) → ((k : List ℕ) → f k + g k ≡ h k) → (ks : Lines)
     → sum_by f ks + sum_by g ks ≡ sum_by h ks
 sums_add f g h is = is_sum_by (λ ks. sum_by f ks + sum_by g ks) h refl
-    (λ k ks. omega (arith, sum_by-cons f k ks, sum_by-cons g k ks, is k))
+    (λ k ks. omega (arith, sum_by-cons, is k))
 
 pub comm_shares_first : CommSharesFirst
 comm_shares_first job a b line e =

@@ -55,8 +55,7 @@ module _ (cmp : Cmp) (o : IsKeyOrder cmp) where
     line_once x ls (k ∷ ks) (above, a) (inr h) =
         rw (not_same (key x) k (above_differs k (key x) (above_at k (key x) ks above h))) (omega (
           arith,
-          sum_by-append f (lines_with_key key ls k) (flat_map (lines_with_key key (x ∷ ls)) ks),
-          sum_by-append f (lines_with_key key ls k) (flat_map (lines_with_key key ls) ks),
+          sum_by-append f (lines_with_key key ls k),
           line_once x ls ks a h,
         ))
 

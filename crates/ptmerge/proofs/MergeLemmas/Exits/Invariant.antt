@@ -21,8 +21,6 @@ use lemmas.Cmp.{back_total, nat_list_cmp_total, upto}
 pub use lemmas.List.Elements.{filter-append}
 pub use Rattle.std.specs.declared.cmp.Ordering.{Ordering}
 
--- ---- keys in order
-
 
 pub record IsKeyOrder (cmp : Cmp) : Type 0 where
   pub total : IsTotalOrder cmp
@@ -321,7 +319,6 @@ module _ (p : List ℕ → Bool) where
     keys_of_part : keys tool part ≡ filter p (keys tool ls)
     keys_of_part = simp (keys_kept, filter-append)
 
-    -- the entries of the lines that pass the test are those of the keys that pass it
     pub by_keys_kept : (w : List ℕ → Bool) → entries_by_key tool w part ≡ entries_by_key tool (λ k. w k && p k) ls
     by_keys_kept w = (λ i. flat_map (entries_of_key tool part)
         (filter w ((ap (distinct_keys cmp) keys_of_part ∙ sym (distinct_kept cmp o _)) i)))
@@ -380,7 +377,6 @@ module _ (tool : MergeTool) where
       ap (flat_map (entries_of_key tool ls)) (grind (arith, downward_first, ascends_distinct))
       ∙ flat_map-append (entries_of_key tool ls) (filter (λ k. w k && p k) ks) (filter (λ k. w k && not (p k)) ks)
 
-  -- lines of the least key, followed by lines with no lesser keys
   module _ (o : IsKeyOrder cmp) (w : List ℕ → Bool) (k : List ℕ) (none : tool.entries k [] [] ≡ []) where
     of_one_key : (ls : Side → Lines) → ((side : Side) → HaveKey (key side) k (ls side))
         → ((side : Side) → lines_with_key (key side) (ls side) k ≡ ls side)
