@@ -32,21 +32,17 @@ pub use Rattle.ptlines.specs.Text.{complete_lines, lines, max_length, unlines, i
 pub use specs.Private.JoinGroup.{ClearGroupPost, CopyToGroupPost, lines_of_slots}
 pub use specs.Join.{output_separator, entry, join_fields, other_fields, pair_entries}
 pub use specs.Private.JoinFields.{is_separator, entry_with_list, remaining_fields, is_single_spaced, with_prefix}
-pub use specs.MergeSpec.{FirstDisorder, Lines, distinct_keys}
+pub use specs.MergeSpec.{FirstDisorder, Lines, distinct_keys, first_disorder, sorted_prefix, is_up_to, lines_with_key}
+pub use specs.MergeSpec.{disordered_line}
 pub use specs.Calls.MergeSpec.{MergeTool, entries_by_key, disorder, entries_of_key}
-pub use specs.MergeSpec.{first_disorder, sorted_prefix, is_up_to}
 pub use specs.Calls.MergeSpec.{keys, lines_of, merged_entries, sorted_prefixes}
-pub use specs.MergeSpec.{lines_with_key}
 pub use specs.Private.WriteAndAdvance.{IsReadyToContinue, AdvanceOkPost, WriteFaultPost, AdvancePre}
 pub use specs.Private.MergeCall.{MergeRunPre}
-pub use specs.Calls.MergeCall.{MergePost, MergeState, merge_state, HasNoLine}
-pub use specs.MergeSpec.{disordered_line}
-pub use specs.Calls.MergeCall.{IsFirstLineAndBlock}
+pub use specs.Calls.MergeCall.{MergePost, MergeState, merge_state, HasNoLine, IsFirstLineAndBlock}
 pub use Rattle.ptlines.specs.ByteOrder.{Cmp, byte_cmp}
 pub use specs.Orders.{Key, line_cmp}
 pub use specs.Calls.Cursor.{NextOkPost, HasSlots, same_key_at, status_at}
-pub use specs.Calls.Sides.{both}
-pub use specs.Calls.Sides.{other, with_side}
+pub use specs.Calls.Sides.{both, other, with_side}
 pub use specs.Calls.MergeSteps.{HaveEqualKeys, PrecedesInput, HasOnlyLeastKey}
 pub use specs.declared.faults.MergeFault.{MergeFault}
 pub use specs.declared.faults.MergeFault.TheVariants.{Memory, Write}

@@ -1,44 +1,36 @@
--- The loops of `join`: its output by lines and by pairs, the invariants of the loops, and what each iteration and each
--- fault does to them. Between groups the invariant is that of the merge. An iteration there writes an unpaired line,
+-- The loops of `join`. Between groups the invariant is that of the merge; an iteration there writes an unpaired line,
 -- ends the loop, or runs the loops of a group: one reads the second input's lines of the key, and one writes the pairs
--- of the first input's lines. Each reads a line, so the reads that are left decrease.
+-- of the first input's lines.
 pub mod Group
 pub mod Fields
 pub mod FieldMasks
 use Rattle.ptmerge.proofs
 use Rattle.ptmerge.specs
 use proofs.Common.{cond, Err, flat_map-append, Cmp, MergeFault, IsReadyToContinue, AdvanceOkPost, MergePost}
-use proofs.Common.{MergeRunPre, merge_state, both, lines_of, Memory, HaveEqualKeys, HasOnlyLeastKey, ◌⊎◌, AdvancePre}
-use proofs.Common.{push_nothing, inl, inr, ◌==◌, length_push, nil_from_length}
-use specs.Private.JoinGroup.{IsInItsSlot, IsCopiedToGroup, ReadGroupLineOkPost, ReadGroupLinePost, IsGroup}
-use specs.Private.JoinGroup.{group_lines}
+use proofs.Common.{MergeRunPre, merge_state, both, lines_of, Memory, HaveEqualKeys, HasOnlyLeastKey, ◌⊎◌, push_nothing}
+use proofs.Common.{inl, inr, ◌==◌, length_push, nil_from_length}
+use specs.Private.JoinGroup.{IsInItsSlot, IsCopiedToGroup, ReadGroupLineOkPost, ReadGroupLinePost, IsGroup, group_lines}
 use specs.Private.WriteAndAdvance.{WriteThenAdvancePre}
-use proofs.MergeLemmas.{BetweenSteps, between_next, advance_pre, wrote_alone}
-use proofs.MergeLemmas.{alone_breaks, place_is, LoopInvariant, Extends, input_split_of, extends}
-use proofs.MergeLemmas.{extends_on, runs_on, valid_cursors_kept, wrote_and_sent, others_stay, open_merge, IsKeyOrder}
-use proofs.MergeLemmas.{IsOpenMerge}
-use proofs.MergeLemmas.{exit_is_merge_post, continues, same_bound, bounds_change, EachKey-at, Kept, reads_ahead}
-use proofs.MergeLemmas.{reads_less}
-use Rattle.std.proofs.lemmas.Bool.{false≢true}
+use proofs.MergeLemmas.{BetweenSteps, between_next, advance_pre, wrote_alone, alone_breaks, place_is, LoopInvariant}
+use proofs.MergeLemmas.{Extends, input_split_of, extends, extends_on, runs_on, valid_cursors_kept, wrote_and_sent}
+use proofs.MergeLemmas.{others_stay, open_merge, IsKeyOrder, IsOpenMerge, exit_is_merge_post, continues, same_bound}
+use proofs.MergeLemmas.{bounds_change, EachKey-at, Kept, reads_ahead, reads_less}
 use specs.Join.{unpaired_entries1, join_entries}
 use specs.Private.BlockLines as lines
 use specs.Calls.Join.{join_with, join_key, join_tool}
 use Group.*
-
--- ---- the output, by lines and by pairs
 
 cond_of_empty : (t : Bool) → cond {A = Lines} t [] [] ≡ []
 cond_of_empty = grind arith
 
 module _ (job : Join) (cmp : Cmp) (key : Side → Key) where
   first_alone : (k : List ℕ) (g : Lines) → join_entries job k g [] ≡ unpaired_entries1 job k g
-  first_alone k [] = grind arith
-  first_alone k (a ∷ g) = refl
+  first_alone = grind arith
 
   pub join_opens : {first second : Reader} {out : Output} {store : Slots} → IsKeyOrder cmp
       → MergeRunPre job.terminator first second out store
       → IsOpenMerge (join_with job cmp key) (merge_state first second out store)
-  join_opens o begins = open_merge o (grind (arith, cond_of_empty, first_alone)) (λ ls. omega arith) begins
+  join_opens o begins = open_merge o (grind (arith, first_alone)) (λ ls. omega arith) begins
 
   some_pairs : job.pairs ≡ true → (k : List ℕ) (f g : Lines) → 0 < length f → 0 < length g
       → 0 < length (pair_entries job k f g)
@@ -46,7 +38,7 @@ module _ (job : Join) (cmp : Cmp) (key : Side → Key) where
   some_pairs keeps k f g some1 some2 = absurd (omega arith)
 
   pub join_pairs : IsPairTool (join_with job cmp key) (pair_entries job)
-  join_pairs = grind (arith, cond_of_empty, flat_map-append, some_pairs)
+  join_pairs = grind (arith, flat_map-append, some_pairs)
 
 -- ---- in a group
 
@@ -81,14 +73,8 @@ pub record WritePairs (end : ℕ) (call : JoinCall) (now : MergeState) (cursor :
   pub above : IsAbove call.cmp (call.key Second) k (q.d Second)
   pub head : IsAtGroupLine q First
 
--- between groups
 abbrev pub BetweenGroups : JoinCall → MergeState → (Side → Sorted) → Type 0
 BetweenGroups call now cursor = LoopInvariant call.w now cursor
-
-copied_end : (n : ℕ) → 0 < n → (4 + n == 4) ≡ false
-copied_end = grind arith
-
--- ---- an iteration
 
 abbrev pub join_call : (job : Join) (cmp : Cmp) (key : Side → Key) {old : MergeState}
     → IsOpenMerge (join_with job cmp key) old → JoinCall
@@ -115,7 +101,7 @@ module _ {job : Join} {cmp : Cmp} {key : Side → Key} {old : MergeState}
   iteration_continues s {one2} {two2} continues here = record {
     w = t.w;
     keys = t.keys;
-    here = rw (← place_is s one two one2 two2 continues.others) here;
+    here = rw (← place_is s one two _ _ continues.others) here;
     between = between_next t.between s continues;
   }
 
@@ -202,12 +188,6 @@ module _ {job : Join} {cmp : Cmp} {key : Side → Key} {old now : MergeState} {o
   abbrev call : JoinCall
   call = join_call job cmp key t.w
 
-  pub read_group_in : (4 ≤ end) × (end ≤ length now.store.lines)
-  read_group_in = end_in a.q
-
-  pub read_group_pre : AdvancePre key Second one two (now.reader Second) now.store
-  read_group_pre = advance_pre t.between Second (a.heads Second).head
-
   pub read_group_less : {one2 two2 : Sorted} {reader : Reader} {made after : Slots} {out : Output}
       → NextOkPost (key Second) cmp two two2 (now.reader Second) reader now.store made
       → IsReadyToContinue key Second one two one2 two2 reader after out
@@ -215,16 +195,14 @@ module _ {job : Join} {cmp : Cmp} {key : Side → Key} {old now : MergeState} {o
   read_group_less came continues = reads_less t.between Second continues (a.heads Second).head came
 
   all_copied : call.keeps_groups ≡ true → a.kept ≡ a.g
-  all_copied = grind (arith, a)
+  all_copied = grind arith
 
   abbrev y : List ℕ
   y = line now.store two.current_slot
 
-  -- the group with the current line of the second input
   abbrev grown : Lines
   grown = a.g ++ y ∷ []
 
-  -- buffered output was written out
   module _ {out : Output} (written_out : PushEffect now.out out []) where
     wrote_none : PushEffect a.q.mid out []
     wrote_none = wrote_and_sent _ _ _ _ t.clean (rw (call.laws.none a.k a.g) at a.q.wrote) written_out
@@ -251,11 +229,6 @@ module _ {job : Join} {cmp : Cmp} {key : Side → Key} {old now : MergeState} {o
         stays : line after two2.current_slot ≡ line made two2.current_slot
         stays = same _ (low_slot Second two2 (on_second.group.sides Second).slots).current
 
-      one_for_all : a.kept ≡ [] → IsOneForAll call a.k (line made two2.previous_slot) a.kept grown
-      one_for_all none =
-          let same = last_stays (a.heads Second) comes in
-          record { none = none; own = rw same (a.heads Second).is; same_pairs = search (rules, all_copied, a) }
-
       record GrownGroup (after : Slots) (to : ℕ) : Type 0 where
         kept : Lines
         q : GroupState call (state_after_read now Second reader out after) (with_side Second two2 (both one two)) to
@@ -268,14 +241,17 @@ module _ {job : Join} {cmp : Cmp} {key : Side → Key} {old now : MergeState} {o
           ⊎ IsCopiedToGroup call.keeps_groups two2 made after end to → GrownGroup after to
       grown_group (inl e) =
           let none = ⊎_elim (λ without. a.copied ∙ (λ i. cond (without i) a.g []))
-          (λ (_, four). nil_from_length a.kept (omega (arith, a.q.at))) e.stays in
+          (λ (_, four). nil_from_length a.kept (omega arith)) e.stays in
           rw (e.end_is, e.store_is) (record {
             kept = a.kept;
             q = on_second.group;
             same = λ i low. refl;
-            copied = λ s. none ∙ ⊎_elim (λ without i. cond ((sym without) i) grown [])
-                (λ (left, _). absurd (false≢true (sym left ∙ s))) e.stays;
-            lines_in = inr (one_for_all none);
+            copied = λ s. none ∙ ⊎_elim (λ without i. cond ((sym without) i) grown []) (λ (left, _). cc) e.stays;
+            lines_in = inr (record {
+              none = none;
+              own = rw (last_stays (a.heads Second) comes) (a.heads Second).is;
+              same_pairs = search (rules, a);
+            });
           })
       grown_group {after} (inr e) =
           let all : a.kept ++ y ∷ [] ≡ grown = cc (all_copied e.keeps) in
@@ -285,7 +261,7 @@ module _ {job : Join} {cmp : Cmp} {key : Side → Key} {old now : MergeState} {o
           (λ all more. rw (all_copied e.keeps) (call.laws.largest e.keeps _ all (inside (more Second)))) in
           rw e.end_is (record {
             kept = a.kept ++ y ∷ [];
-            q = group_kept on_second.group new.same new.store_holds (omega (arith, a.q.at, length_push a.kept y));
+            q = group_kept on_second.group new.same new.store_holds (omega (arith, length_push a.kept y));
             same = new.same;
             copied = λ s i. cond ((sym e.keeps) i) (all i) [];
             lines_in = inl all;
@@ -299,7 +275,7 @@ module _ {job : Join} {cmp : Cmp} {key : Side → Key} {old now : MergeState} {o
       read_group_continues same =
           let r = grown_group h.came h.kept in
           let (head, has_key) = continues_key (a.heads Second) h.came same in
-          iteration_continues t Second continues (record {
+          iteration_continues t _ continues (record {
             k = a.k;
             g = grown;
             kept = r.kept;
@@ -315,14 +291,14 @@ module _ {job : Join} {cmp : Cmp} {key : Side → Key} {old now : MergeState} {o
           (state_after_read now Second reader out after) one2 two2
       write_pairs_next same =
           let r = grown_group h.came h.kept in
-          iteration_continues t Second continues (record {
+          iteration_continues t _ continues (record {
             k = a.k;
             g = both [] grown;
             kept = r.kept;
             q = r.q;
             lines_in = r.lines_in;
             some = omega (arith, length_push a.g y);
-            above = is_past r.q Second
+            above = is_past r.q _
                 (λ e has. leaves_key (a.heads Second) h.came same e (rw (stays h.came after r.same) at has));
             head = record { head = (a.heads First).head; is = key1_on h.came after r.same };
           })
@@ -352,8 +328,7 @@ module _ {job : Join} {cmp : Cmp} {key : Side → Key} {old now : MergeState} {o
           length_push a.g y,
         ))
         (both_begun (λ side. (q.sides side).begun))
-        (λ side fail. absurd (false≢true (sym ((q.sides side).lines_read.advance_ok.failed
-        ∙ call.w.unfailed side) ∙ fail))) (Err Memory) (record {
+        (λ side fail. cc ((q.sides side).lines_read.advance_ok.failed, call.w.unfailed side)) (Err Memory) (record {
           denied = e.copy_failed.denied;
           unfailed = λ side read. (q.sides side).lines_read.advance_ok.failed;
           clean = fine;
@@ -380,16 +355,13 @@ module _ {job : Join} {cmp : Cmp} {key : Side → Key} {old now : MergeState} {o
   abbrev writing : JoinCall
   writing = join_call job cmp key t.w
 
-  pub write_pairs_pre : WriteThenAdvancePre (join_tool job) key First one two (now.reader First) now.store now.out
-  write_pairs_pre = write_pre t First state.head.head
-
   pub write_pairs_less : {one2 two2 : Sorted} {reader : Reader} {after : Slots} {new : Output}
       → AdvanceOkPost key cmp First one two one2 two2 (now.reader First) reader now.store after new
       → reads_ahead (with_side First reader now.reader) one2 two2 < reads_ahead now.reader one two
   write_pairs_less h = reads_less t.between First h.continues state.head.head h.came
 
   is_kept : state.kept ≡ state.g Second → (end == 4) ≡ false
-  is_kept same = rw (state.q.at, same) (copied_end _ state.some)
+  is_kept same = rw (state.q.at, same) (grind arith)
 
   is_alone : state.kept ≡ [] → (end == 4) ≡ true
   is_alone none = rw (state.q.at, none)
@@ -400,7 +372,7 @@ module _ {job : Join} {cmp : Cmp} {key : Side → Key} {old now : MergeState} {o
   group_pairs_are : (f : Lines) → pair_entries job state.k f in_slots ≡ pair_entries job state.k f (state.g Second)
   group_pairs_are f = ⊎_elim (λ same. rw (is_kept same, group_is state.q.keeps state.q.at, same)) (λ h. rw (
     is_alone h.none,
-    group_one now.store two.previous_slot (omega (arith, state.q.keeps.four)),
+    group_one now.store two.previous_slot (omega arith),
   ) (h.same_pairs f))
       state.lines_in
 
@@ -411,8 +383,8 @@ module _ {job : Join} {cmp : Cmp} {key : Side → Key} {old now : MergeState} {o
     keyed = λ slot from low. sym (t.keys Second (line now.store slot)) ∙ ⊎_elim (λ same.
         let first = rw (is_kept same) at from in
         let last = rw (is_kept same) at low in
-        rw (kept_line state.q.keeps slot first (omega (arith, state.q.at))) (EachKey-at _ _
-        state.kept (slot - 4) (omega (arith, state.q.at)) (rw (← same) at (state.q.within.own Second))))
+        rw (kept_line state.q.keeps _ first (omega arith)) (EachKey-at _ _
+        _ _ (omega arith) (rw (← same) at (state.q.within.own Second))))
         (λ h. let is : slot ≡ two.previous_slot = omega
         (arith, rw (is_alone h.none) at from, rw (is_alone h.none) at low) in rw is h.own) state.lines_in
         ∙ sym state.head.is;
@@ -448,7 +420,7 @@ module _ {job : Join} {cmp : Cmp} {key : Side → Key} {old now : MergeState} {o
 
       pub write_pairs_continues : one2.same ≡ true
           → IterationInvariant job cmp key old (WritePairs end) (state_after_read now First reader new after) one2 two2
-      write_pairs_continues same = iteration_continues t First h.continues (record {
+      write_pairs_continues same = iteration_continues t _ h.continues (record {
         k = state.k;
         g = with_added_line now (both one two) First state.g;
         kept = state.kept;
@@ -471,7 +443,7 @@ module _ {job : Join} {cmp : Cmp} {key : Side → Key} {old now : MergeState} {o
             p = λ side. q.p side ++ with_added_line now (both one two) First state.g side;
             b = q.d;
             cursors = record {
-              sides = same_cursors writing.tool q.sides (omega (arith, clear.slots))
+              sides = same_cursors writing.tool q.sides (omega arith)
                   (λ i low. clear.others i (inl low));
               keeps = group_store_cleared q.keeps q.at clear;
             };

@@ -1,7 +1,5 @@
--- The loop of a merge: its invariant at the start, after each step, and at its exits. A line that precedes everything
--- in the other input is processed, and its input advances; the next line has no lesser key, so the invariant holds
--- again. A fault ends the loop with a prefix of the output. Also the reads that are left, which decrease, and the
--- contract of the cursor's `next`.
+-- The loop of a merge. A line that precedes everything in the other input is processed, and its input advances; the
+-- next line has no lesser key, so the invariant holds again. A fault ends the loop with a prefix of the output.
 pub mod Exits
 use Rattle.ptmerge.proofs
 use Rattle.ptmerge.specs
@@ -10,14 +8,10 @@ use proofs.Common.{Ok, IsErrAnd, HasOnlyLeastKey}
 use specs.declared.faults.MergeFault.TheVariants as faults
 use specs.Calls.Cursor.{NextErrPost, NextLinePost, HasDistinctSlots, initial_cursor, base_slot}
 use specs.Calls.MergeSteps.{StartErrPost, StartFirstPost, MergeInputs, IsReaderOf, IsReportable, AreValidCursors}
-use specs.Calls.MergeSteps.{StartOkPost}
-use specs.Calls.MergeSteps.{merge_inputs, IsDisorderDecided}
-use specs.Calls.MergeSteps.{current_key, previous_key}
+use specs.Calls.MergeSteps.{StartOkPost, merge_inputs, IsDisorderDecided, current_key, previous_key}
 use specs.Private.BlockLines.{entries_alone}
 use Rattle.ptlines.specs.Calls.Engines.{AllPushed}
 pub use Exits.*
-
--- ---- keys that may follow
 
 abbrev pub IsAbove : Cmp → Key → List ℕ → Bound → Type 0
 IsAbove cmp key x b = (r : Lines) → MayFollow cmp key b r → EachKey (Above cmp x) key r
@@ -28,13 +22,10 @@ pub current_key_is_above : (cmp : Cmp) (o : IsKeyOrder cmp) (key : Key) (x : Lis
     → PrecedesInput cmp x status (key (line store cursor.current_slot)) (key (line store cursor.previous_slot))
     → MatchesStatus cmp key status cursor store now ls p b → IsAbove cmp key x b × IsLater cmp key (AtLeast x) b
 current_key_is_above cmp o key x Head cursor store now ls p b before line_is =
-    let head = key (line store cursor.current_slot) in
     let above = is_greater _ before in
-    rw line_is.bound (search (rules, Each-weaker, at_most_trans, greater_flips cmp o, less_flips cmp o))
+    rw line_is.bound (search (rules, Each-weaker, at_most_trans, less_flips cmp o))
 current_key_is_above cmp o key x Ended cursor store now ls p b before (bound, _) = grind arith
-current_key_is_above cmp o key x (Disorder n) cursor store now ls p b before st = grind arith
-
--- ---- one line
+current_key_is_above cmp o key x _ _ _ now ls p b before st = grind arith
 
 abbrev pub alone : Side → List ℕ → Side → Lines
 alone s x = with_side s (x ∷ []) (λ side. [])
@@ -55,7 +46,6 @@ abbrev pub SidesInvariant : MergeTool → (Side → Reader) → (Side → Reader
 SidesInvariant tool old now cursor store ls p b =
     (side : Side) → SideInvariant tool side (old side) (now side) (cursor side) store (ls side) (p side) (b side)
 
--- the input `s`, at a line, advances
 module _ {tool : MergeTool} (o : IsKeyOrder tool.cmp) {old now : Side → Reader} {cursor : Side → Sorted} {store : Slots}
     {ls p : Side → Lines} {b : Side → Bound} (sides : SidesInvariant tool old now cursor store ls p b) (s : Side)
     (head : (cursor s).status ≡ Head) {new : Reader} {next : Sorted} {after : Slots}
@@ -76,18 +66,15 @@ module _ {tool : MergeTool} (o : IsKeyOrder tool.cmp) {old now : Side → Reader
   sides_next = side_case _ s (simp put_same next_at.side_invariant)
       (simp put_other (grind (arith, others_stay.0, others_stay.1, next_at.side_invariant.four)))
 
--- ---- the end of the loop
-
-module _ (cmp : Cmp) (o : IsKeyOrder cmp) where
-  -- a disorder of the other input is not the one to report
-  named_is : (key : Key) (s : Side) (d : FirstDisorder) (status : CursorStatus) (cursor : Sorted) (store : Slots)
-      (now : Reader) (ls p : Lines) (b : Bound)
-      → IsReportable cmp s d.last_key status (key (line store cursor.current_slot))
-      (key (line store cursor.previous_slot))
-      → MatchesStatus cmp key status cursor store now ls p b → (f : Side → Option FirstDisorder) → f s ≡ Some d
-      → MayDisorder cmp b (f (other s))
-      → earlier_disorder cmp (f First) (f Second) ≡ Some (record { file = s; first_disorder = d })
-  named_is = grind arith
+-- a disorder of the other input is not the one to report
+named_is : (cmp : Cmp) → IsKeyOrder cmp → (key : Key) (s : Side) (d : FirstDisorder) (status : CursorStatus)
+    (cursor : Sorted) (store : Slots) (now : Reader) (ls p : Lines) (b : Bound)
+    → IsReportable cmp s d.last_key status (key (line store cursor.current_slot))
+    (key (line store cursor.previous_slot))
+    → MatchesStatus cmp key status cursor store now ls p b → (f : Side → Option FirstDisorder) → f s ≡ Some d
+    → MayDisorder cmp b (f (other s))
+    → earlier_disorder cmp (f First) (f Second) ≡ Some (record { file = s; first_disorder = d })
+named_is = grind arith
 
 -- ---- a failed read
 
@@ -115,7 +102,6 @@ failed_advance : (s : Side) (cursor : Sorted) (was is : Reader) (before after : 
     → FailedAdvance cursor was is before after
 failed_advance = search rules
 
--- the input `s` is to advance: all its lines are processed
 module _ {tool : MergeTool} {old : MergeState} (w : IsOpenMerge tool old) (now : MergeState) {s : Side}
     (cursor : Sorted) {ls p : Side → Lines} {b : Side → Bound}
     (facts : (side : Side) → ReadFactsOf tool old now.reader ls p b side (now.reader side) []) (all : p s ≡ ls s)
@@ -127,25 +113,23 @@ module _ {tool : MergeTool} {old : MergeState} (w : IsOpenMerge tool old) (now :
   advance_fails {out} lag new after fault e =
       let f = failed_advance s cursor (now.reader s) new _ after out fault (facts s).sound e in
       let ends = put_both (ReadFactsOf tool old now.reader ls p b) s new _ f.piece (λ side. [])
-      (grind (arith, f)) (facts (other s)) in
+      (grind arith) (facts (other s)) in
       exit_is_merge_post w (state_by_side (with_side s new now.reader) out after) ends lag
       (λ all holds.
       let longest = rw (put_same s _ _) at (holds s).longest in
       let next = group_store_line s cursor slots f.piece keeps (λ side. extends (holds side)) (omega arith) refl in
       omega (arith, next.fits all (λ side. extends_itself _))) (order new f.piece f.line)
       (put_each (λ side (r : Reader). r.failed ≡ true → IsFailedRead r (ls side) (p side)) s new _
-      (grind (arith, f, w.unfailed s)) (λ side fail. cc ((facts side).lines_read.advance_ok.failed, w.unfailed side)))
-      (Err fault) (grind (arith, w.unfailed, put_same, side_case, put_other, e))
+      (grind (arith, f)) (λ side fail. cc ((facts side).lines_read.advance_ok.failed, w.unfailed side)))
+      _ (grind (arith, put_same, side_case, put_other, e))
 
 -- ---- between two steps
 
 pub open_merge : {tool : MergeTool} {first second : Reader} {out : Output} {store : Slots} → IsKeyOrder tool.cmp
     → IsLineByLine tool.entries → ((ls : Side → Lines) → HasRoom tool [] ls)
-    → MergeRunPre tool.terminator first second out store
-    → IsOpenMerge tool (merge_state first second out store)
+    → MergeRunPre tool.terminator first second out store → IsOpenMerge tool (merge_state first second out store)
 open_merge = grind arith
 
--- what the loop invariant says of the cursors and the store
 pub record CursorsInvariant {tool : MergeTool} {old : MergeState} (w : IsOpenMerge tool old) (reader : Side → Reader)
     (cursor : Side → Sorted) (store : Slots) (ls p : Side → Lines) (b : Side → Bound) : Type 0 where
   pub sides : SidesInvariant tool old.reader reader cursor store ls p b
@@ -171,7 +155,6 @@ module _ {tool : MergeTool} {old : MergeState} {w : IsOpenMerge tool old} {reade
   begun : (side : Side) → HasBegun (reader side) (ls side)
   begun side = (a.sides side).begun
 
-  -- if the lines `q` are processed
   abbrev ReadFactsBy : Side → Lines → Type 0
   ReadFactsBy side q = ReadFactsOf tool old reader ls (λ t. q) b side (reader side) []
 
@@ -189,7 +172,6 @@ module _ {tool : MergeTool} {old : MergeState} {w : IsOpenMerge tool old} {reade
       (side_case _ s (rw same (passing_now s head)) rest) same (λ r piece free. both_begun begun) a.keeps
       (a.sides s).slots lag
 
-  -- an input advances
   module _ (s : Side) (head : (cursor s).status ≡ Head) {next : Sorted} {new : Reader} {after : Slots}
       (comes : NextOkPost (key s) cmp (cursor s) next (reader s) new store after) where
     abbrev pub n : SideAfterNext tool s (old.reader s) new next (cursor s).previous_slot store after (ls s)
@@ -216,7 +198,6 @@ module _ {tool : MergeTool} {old : MergeState} {w : IsOpenMerge tool old} {now :
   open tool use {cmp, key}
   open loop use {ls, p, b, cursors as a, sides, merge_invariant as m}
 
-  -- the current line of the input `s` is written
   module _ {s : Side} (step : HasOnlyLeastKey cmp key cursor now.store s) {new : Output}
       (wrote : PushEffect now.out new (unlines (now.reader s).terminator (entries_alone tool.entries s
       (current_key key cursor now.store s) (line now.store (cursor s).current_slot)))) where
@@ -229,9 +210,9 @@ module _ {tool : MergeTool} {old : MergeState} {w : IsOpenMerge tool old} {now :
         write_least_run w.o (key s x) (with_side s (ls s) p) (alone s x)
         (side_case _ s (simp put_same (line_is_least_run w.o h.bound refl)) (simp put_other
         -- no line of the other input has the key, and only greater keys follow
-        (search (rules, later, self_at_most))))
+        (search (rules, later))))
         (side_case _ s (simp put_same h.all) (simp (put_other, append-nil))) (w.alone.none (key s x))
-        (λ r c. grind (arith, w.alone)) clean m
+        (λ r c. grind arith) clean m
         (rw (entries_of_line tool s x) (rw (sides s).lines_read.terminator at wrote))
 
     pub alone_breaks : EndsIfFails tool old now s (cursor s) new
@@ -244,10 +225,10 @@ module _ {tool : MergeTool} {old : MergeState} {w : IsOpenMerge tool old} {now :
       let d : FirstDisorder = record { last_key = previous_key key cursor now.store s; line = n } in
       let disordered : b s ≡ AfterDisorder d = rw dec.status_is at (sides s).status_is in
       let st = (sides (other s)).status_is in
-      let (above, _) = current_key_is_above _ w.o _ _ _ _ _ _ _ _ _ (grind (arith, is_greater, dec.named)) st in
+      let (above, _) = current_key_is_above _ w.o _ _ _ _ _ _ _ _ _ (grind (arith, dec.named)) st in
       rw (named_is _ w.o _ s d _ _ _ _ _ _ _ dec.named st (λ side. first_disorder cmp (key side) (l side))
       (rw disordered at (f s)) (f (other s))) (
-        none_wanted tool (λ k. is_le (cmp k d.last_key)) r (side_case _ s (rw (rw disordered at (c s)) tt)
+        none_wanted tool _ r (side_case _ s (rw (rw disordered at (c s)) tt)
             (Each-weaker _ _ (λ k h. ap is_le h) _ (above _ (c (other s))))),
         refl,
       )
@@ -262,23 +243,22 @@ module _ {tool : MergeTool} {old : MergeState} {w : IsOpenMerge tool old} {now :
     pushed_all ended stop =
         let exact = exact_output w last (read_facts_current a) m stop in
         record {
-          out = search (rules, exact);
-          disorder = search (rules, exact);
-          ended = search (rules, ended);
-          fault = search (rules, sides);
-          short = search (rules, sides, w.sound, w.readable);
-          unfailed = search (rules, none_failed a);
+          out = search rules;
+          disorder = search rules;
+          ended = search rules;
+          fault = search rules;
+          short = search (rules, sides, w.sound);
+          unfailed = search rules;
           clean = clean;
           not_denied = clear.denied ∙ a.keeps.denied;
           empty = omega (arith, (has_lines_total now.store.lines (λ side. max_length (ls side)) 0 a.keeps.lines).is);
         }
 
     concludes : (result : Result (Unit {0}) MergeFault) → CallOutcome both_sides (merge_engine tool) old last
-        (given w last (read_facts_current a)) (output_of tool p) (merge_end result)
-        → MergePost tool old last result
+        (given w last (read_facts_current a)) (output_of tool p) (merge_end result) → MergePost tool old last result
     concludes result ends = exit_is_merge_post w _ (read_facts_current a)
         (lag_invariant_starts w.o m clean (push_nothing now.out)) (fits_emptied a.keeps after clear.peak clear.slots)
-        (both_begun (begun a)) (λ side fail. search (rules, none_failed a side, w.unfailed side)) result ends
+        (both_begun (begun a)) (λ side fail. search (rules, w.unfailed side)) result ends
 
     pub ends_well : ((side : Side) → (cursor side).status ≡ Ended) → MergePost tool old last (Ok tt)
     ends_well step =
@@ -288,12 +268,7 @@ module _ {tool : MergeTool} {old : MergeState} {w : IsOpenMerge tool old} {now :
 
     pub ends_fallen : {s : Side} {n : ℕ} → IsDisorderDecided cmp key cursor now.store s n
         → MergePost tool old last (Err (faults.Disorder s n))
-    ends_fallen step = concludes _ (record {
-      named = refl;
-      pushed_all = pushed_all (λ none. cc) (stops_at step);
-    })
-
--- ---- after one input advanced
+    ends_fallen step = concludes _ (record { named = refl; pushed_all = pushed_all (λ none. cc) (stops_at step) })
 
 pub fails_by : {tool : MergeTool} {old now : MergeState} {r : Result (Unit {0}) MergeFault} {fault : MergeFault}
     → IsErrAnd r (λ y. y ≡ fault) → MergePost tool old now (Err fault) → MergePost tool old now r
@@ -324,7 +299,7 @@ reads_ahead reader one two =
 
 pub place_is : (s : Side) (one two one2 two2 : Sorted) → both one2 two2 (other s) ≡ both one two (other s)
     → with_side s (both one2 two2 s) (both one two) ≡ both one2 two2
-place_is s one two one2 two2 same = grind arith
+place_is s one two _ _ same = grind arith
 
 pub record BetweenSteps (key : Side → Key) (now : MergeState) (one two : Sorted) : Type 0 where
   pub valid_cursors : AreValidCursors key one two now.store
@@ -338,20 +313,17 @@ module _ {key : Side → Key} {now : MergeState} {one two : Sorted} (t : Between
   module _ (s : Side) {one2 two2 : Sorted} {reader : Reader} {after : Slots} {new : Output}
       (continues : IsReadyToContinue key s one two one2 two2 reader after new) where
     pub between_next : BetweenSteps key (state_by_side (with_side s reader now.reader) new after) one2 two2
-    between_next = grind (arith, put_same, put_other)
+    between_next = grind (arith, put_same)
 
     pub reads_less : {cmp : Cmp} {made : Slots} → (both one two s).status ≡ Head
         → NextOkPost (key s) cmp (both one two s) (both one2 two2 s) (now.reader s) reader now.store made
         → reads_ahead (with_side s reader now.reader) one2 two2 < reads_ahead now.reader one two
     reads_less head came = grind arith
 
--- writing out the buffer does not change what was pushed
 pub wrote_and_sent : (was mid is : Output) (pushed : List ℕ) → mid.write_failed ≡ false → PushEffect was mid pushed
     → PushEffect mid is [] → PushEffect was is pushed
-wrote_and_sent was mid is pushed clean wrote written_out =
+wrote_and_sent was mid is _ clean wrote written_out =
     rw append-nil at (push_trans was mid is _ [] clean wrote written_out)
-
--- ---- keys in slots
 
 later_status : (key : Key) (cmp : Cmp) (number : ℕ) (last next : List ℕ) (r : Ordering) → 0 < number
     → r ≡ cmp (key last) (key next) → (cond (is_gt r) (Disorder (number + 1)) Head ≡ status_at key cmp number last next)
@@ -373,17 +345,15 @@ line_moves {key} {cmp} {old} {new} {before = before} {after} slots some at stays
     (line_other before _ _ e.line (λ is. slots.apart (sym is))) in
     let head_is : line after new.current_slot ≡ e.line = rw (at, e.stored)
     (line_of_with_line before _ e.line slots.previous_slot) in
-    let step = later_status key cmp old.number (line before old.current_slot) e.line _ some (cc) in
-    let status_is = status ∙ step.0 in
-    let same_is = same ∙ step.1 in
+    let step = later_status key cmp old.number (line before old.current_slot) e.line _ some cc in
     record {
       next_line = e;
       cursor = λ i. record {
         current_slot = at i;
         previous_slot = stays i;
         number = count i;
-        status = status_is i;
-        same = same_is i;
+        status = (status ∙ step.0) i;
+        same = (same ∙ step.1) i;
         key = new.key;
       };
       sound = sound;
@@ -397,19 +367,6 @@ valid_cursors_kept = grind arith
 pub kept_line : (before after : Slots) (from to slot : ℕ) → slot < to → CopyToGroupPost before after from to
     → line after slot ≡ line before slot
 kept_line = grind (arith, line_added, line_other)
-
--- copying a line to the group changes only slots from 4 on, so the cursors stay valid
-pub copied_continues : {key : Side → Key} {s : Side} {one two one2 two2 : Sorted} {reader : Reader}
-    {before after : Slots} {out : Output} {from to : ℕ} → 4 ≤ to → CopyToGroupPost before after from to
-    → IsReadyToContinue key s one two one2 two2 reader before out
-    → IsReadyToContinue key s one two one2 two2 reader after out
-copied_continues low copied c = record {
-  clean = c.clean;
-  others = c.others;
-  valid_cursors = valid_cursors_kept _ _ _ _ _ c.valid_cursors (search rules)
-      (λ slot small. kept_line _ _ _ _ _ (omega arith) copied);
-  own_reader = c.own_reader;
-}
 
 -- ---- the start
 
@@ -425,12 +382,12 @@ module _ {tool : MergeTool} {old : MergeState} (w : IsOpenMerge tool old) where
   unstarted = record { reader = old.reader; store = old.store }
 
   none_read : (side : Side) → LinesRead terminator (old.reader side) (old.reader side) []
-  none_read side = grind (arith, w.readable side)
+  none_read side = grind arith
 
   first_line : (side : Side) {new : Reader} {cursor : Sorted} {before after : Slots} → 4 ≤ length before.lines
       → NextOkPost (key side) cmp (initial_cursor side) cursor (old.reader side) new before after
       → SideAfterNext tool side (old.reader side) new cursor (base_slot side) before after [] None
-  first_line side four comes = next_invariant tool w.o side _ _ _ _ _ _ _ _ (fresh_slots side) four (none_read _)
+  first_line side four comes = next_invariant tool w.o side _ _ _ _ _ _ _ _ (fresh_slots _) four (none_read _)
       refl (grind (arith, sorted_prefix_is, first_disorder_is)) refl comes
 
   abbrev no_lines : Side → Lines
@@ -446,7 +403,7 @@ module _ {tool : MergeTool} {old : MergeState} (w : IsOpenMerge tool old) where
         (store_starts w.fits s.four w.allowed w.empty) began
 
     half_invariant : MergeInvariant tool (both began.bound NoBound) no_lines old.out old.out
-    half_invariant = search (rules, bound_changes, began)
+    half_invariant = search (rules, began)
 
   pub start_ok : {first second : Reader} {store : Slots} {one two : Sorted}
       → StartOkPost key cmp (both one two) unstarted (merge_inputs first second store)
@@ -466,7 +423,7 @@ module _ {tool : MergeTool} {old : MergeState} (w : IsOpenMerge tool old) where
       }
 
   unread : (side : Side) → ReadFactsOf tool old old.reader no_lines no_lines (λ t. NoBound) side (old.reader side) []
-  unread side = grind (arith, none_read, reads_nothing, w.sound side)
+  unread side = grind (arith, none_read, w.sound side)
 
   abbrev StartErr : Reader → Reader → Slots → MergeFault → Type 0
   StartErr new1 new2 after fault =
@@ -478,7 +435,7 @@ module _ {tool : MergeTool} {old : MergeState} (w : IsOpenMerge tool old) where
     start_fault (inl u) = rw u.memory (merge_without_slots w refl u.unread u.slots)
     start_fault (inr (inl f)) =
         rw f.unread (advance_fails w (state_by_side old.reader old.out f.made) (initial_cursor First)
-        unread refl (λ r piece free. grind (arith, one_line_at_most, free))
+        unread refl (λ r piece free. grind (arith, one_line_at_most))
         (store_starts w.fits f.four w.allowed w.empty) (fresh_slots First)
         (lag_invariant_starts w.o (merge_invariant_starts tool _) w.writable (push_nothing _)) _ _ _
         (inr (w.writable, f.fails)))

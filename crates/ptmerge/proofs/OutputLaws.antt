@@ -1,4 +1,4 @@
--- The modules of the proofs of the laws of the output of `comm` and `join` for whole inputs.
+-- The laws of the output of `comm` and `join` for whole inputs.
 pub mod Keys
 pub mod Counts
 pub mod Columns

@@ -1,20 +1,19 @@
--- Output of inputs in parts. Inputs split at the same key: the keys of the first parts are below those of the second,
--- so the entries of the first come first, and a disorder can only be in the second. Inputs distributed by a function of
--- the key: a filter by keys commutes with computing the distinct keys, so each part has the entries of its keys, and
--- the entries of all parts are a permutation of all entries.
+-- Output of inputs in parts. If they are split at the same key, the entries of the first parts come first, and a
+-- disorder can only be in the second. If they are distributed by keys, each part has the entries of its keys, since a
+-- filter by keys commutes with computing the distinct keys.
 use Rattle.ptmerge.proofs
 use Rattle.ptmerge.specs
 use Rattle.std.proofs.lemmas
 use proofs.Common.{arith, ◌≡◌, ℕ, ◌+◌, List, [], ◌∷◌, ◌++◌, Bool, true, false, Option, Some, None, refl, ap, sym, ◌∙◌}
 use proofs.Common.{filter, Less, Side, First, Second, Lines, MergeTool, FirstDisorder, entries_by_key, disorder, usual}
 use proofs.Common.{first_disorder, keys, merged_entries, sorted_prefixes, sorted_prefix, is_up_to, lines_of, Cmp, Key}
-use proofs.Common.{unlines, unlines-append, ◌&&◌, not, map, tied_itself, flat_map, is_lt, distinct_keys, entries_of_key}
-use proofs.Common.{IsLine, zero, suc, ◌<◌, ◌==◌, nat_lt, append_assoc, nat_tests, range_with_len, lines, rules}
+use proofs.Common.{unlines, unlines-append, ◌&&◌, not, tied_itself, flat_map, is_lt, distinct_keys, entries_of_key}
+use proofs.Common.{IsLine, zero, suc, ◌<◌, ◌==◌, nat_lt, append_assoc, range_with_len, lines, rules}
 use proofs.MergeLemmas.Exits.Invariant.{IsDisorderFrom, after_from, disorder_after, first_disorder_is, IsSortedFrom}
 use proofs.MergeLemmas.Exits.Invariant.{sorted_from_start, sorted_from_none, is_disordered, sorted_after}
 use proofs.MergeLemmas.Exits.Invariant.{sorted_prefix_is, IsDownwardClosed, all_keys, all_wanted, by_keys_kept}
 use proofs.MergeLemmas.Exits.Invariant.{downward_splits, up_to_from, Each, Each-weaker, EachKey, Each-all, Each-parts}
-use proofs.MergeLemmas.Exits.Invariant.{IsKeyOrder, AtMost, at_most_trans, greater_flips, line_order}
+use proofs.MergeLemmas.Exits.Invariant.{IsKeyOrder, AtMost, line_order}
 use lemmas.List.Elements.{All-filter, recursion_from_All}
 use lemmas.List.Sorted.{IsPermutation-refl, IsPermutation-trans, IsPermutation-append_left, IsPermutation-append_right}
 use lemmas.List.Sorted.{IsPermutation-append_comm}
@@ -35,10 +34,8 @@ kept_parts p key (x ∷ xs) ys (here, more) f = search (rules, kept_parts p key 
 
 key_split : (tool : MergeTool) (P : List ℕ → Type 0) (ls : Side → Lines) → Each P (keys tool ls) → (side : Side)
     → EachKey P (tool.key side) (ls side)
-key_split tool P ls e = let (first, second) = Each-parts P (map (tool.key First) (ls First)) _ e in
-    elim [ First ↦ first | Second ↦ second ]
+key_split _ P ls e = let (first, second) = Each-parts P _ _ e in elim [ First ↦ first | Second ↦ second ]
 
--- the key is below all of these
 abbrev is_under : Cmp → Lines → List ℕ → Bool
 is_under cmp [] k = true
 is_under cmp (x ∷ ls) k = is_lt (cmp k x) && is_under cmp ls k
@@ -50,13 +47,11 @@ module _ (cmp : Cmp) (o : IsKeyOrder cmp) where
 
   downward_under : (ls : Lines) → IsDownwardClosed cmp (is_under cmp ls)
   downward_under [] a b g h = refl
-  downward_under (x ∷ ls) a b g h = search (rules, greater_flips, downward_under ls a b g)
+  downward_under (x ∷ ls) a b g h = search (rules, downward_under ls a b g)
 
   none_under : (ls : Lines) → Each (λ l. is_under cmp ls l ≡ false) ls
   none_under [] = tt
   none_under (x ∷ ls) = (rw (tied_itself o.total x), Each-weaker _ _ (λ l h. grind arith) ls (none_under ls))
-
--- ---- lists in order
 
 abbrev without_line_number : Option FirstDisorder → Option FirstDisorder
 without_line_number None = None
@@ -66,17 +61,16 @@ module _ (cmp : Cmp) (o : IsKeyOrder cmp) (key : Key) where
   -- only the line number depends on the number of lines before
   uncounted : (last : Option (List ℕ)) (n m : ℕ) (ys : Lines)
       → without_line_number (disorder_after cmp key last n ys) ≡ without_line_number (disorder_after cmp key last m ys)
-  uncounted last n m [] = refl
+  uncounted _ n m [] = refl
   uncounted last n m (y ∷ ys) = grind (arith, uncounted (Some (key y)) (n + 1) (m + 1) ys)
 
-  -- A list appended to a sorted list with keys of at most its own has its own disorder.
   appended : (last : Option (List ℕ)) (n : ℕ) (xs ys : Lines) → IsSortedFrom cmp key last xs
       → EachKey (λ k. is_disordered cmp last k ≡ false) key ys → EachKey (λ k. EachKey (AtMost cmp k) key ys) key xs
       → (sorted_after cmp key last (xs ++ ys) ≡ xs ++ sorted_after cmp key None ys)
       × (without_line_number (disorder_after cmp key last n (xs ++ ys))
       ≡ without_line_number (disorder_after cmp key None 0 ys))
-  appended last n [] [] e h b = grind arith
-  appended last n [] (y ∷ ys) e (here, _) b = grind (arith, uncounted)
+  appended _ n [] [] e h b = grind arith
+  appended _ n [] (y ∷ ys) e (here, _) b = grind (arith, uncounted)
   appended last n (x ∷ xs) ys (here, more) h (below, below_all) =
       grind (arith, appended (Some (key x)) (n + 1) xs ys more below below_all)
 
@@ -84,28 +78,26 @@ module _ (cmp : Cmp) (o : IsKeyOrder cmp) (key : Key) where
       → (sorted_prefix cmp key (xs ++ ys) ≡ xs ++ sorted_prefix cmp key ys)
       × (without_line_number (first_disorder cmp key (xs ++ ys)) ≡ without_line_number (first_disorder cmp key ys))
   together xs ys e b =
-      let all = appended _ 0 xs ys (sorted_from_none cmp key xs e) (Each-all _ (λ k. refl) (map key ys)) b in
-      grind (arith, all, first_disorder_is, sorted_prefix_is)
+      let all = appended _ 0 xs ys (sorted_from_none cmp key xs e) (Each-all _ (λ k. refl) _) b in
+      grind (arith, first_disorder_is, sorted_prefix_is)
 
   each_ordered : (P : List ℕ → Type 0) (ys : Lines) → EachKey P key ys → EachKey P key (sorted_prefix cmp key ys)
-  each_ordered P [] e = tt
-  each_ordered P (x ∷ []) e = e
   each_ordered P (x ∷ y ∷ ys) (here, more) = grind (arith, each_ordered P (y ∷ ys) more)
+  each_ordered P _ e = e
 
   from_below : (k : List ℕ) (ys : Lines) → EachKey (AtMost cmp k) key ys
       → IsDisorderFrom cmp k (first_disorder cmp key ys)
   from_below k [] e = tt
-  from_below k (y ∷ ys) (here, _) = rw (first_disorder_is cmp key _) (grind (arith, after_from))
+  from_below k _ (here, _) = rw (first_disorder_is cmp key _) (grind (arith, after_from))
 
   kept_after : (p : List ℕ → Bool) (last from : Option (List ℕ)) (xs : Lines)
       → ((k : List ℕ) → is_disordered cmp last k ≡ false → is_disordered cmp from k ≡ false)
       → IsSortedFrom cmp key last xs → IsSortedFrom cmp key from (filter p xs)
-  kept_after p last from [] up s = tt
+  kept_after p _ _ [] up s = tt
   kept_after p last from (x ∷ xs) up (here, more) =
-      let left_out = kept_after p (Some (key x)) from xs (λ k g. grind (arith, at_most_trans, g)) more in
+      let left_out = kept_after p (Some (key x)) from xs (λ k g. grind (arith, g)) more in
       grind (arith, kept_after p (Some (key x)) (Some (key x)) xs (λ k g. g) more)
 
-  -- a sublist of a sorted list is sorted
   in_order_kept : (p : List ℕ → Bool) (xs : Lines) → first_disorder cmp key xs ≡ None
       → first_disorder cmp key (filter p xs) ≡ None
   in_order_kept p xs e = grind (arith, sorted_from_start, kept_after, sorted_from_none)
@@ -119,14 +111,14 @@ module _ (tool : MergeTool) (o : IsKeyOrder tool.cmp) where
 
   pub merged_in_order : (ls : Side → Lines) → disorder tool ls ≡ None
       → merged_entries tool ls ≡ entries_by_key tool all_keys ls
-  merged_in_order = grind (arith, sorted_from_start, sorted_from_none, none_disordered)
+  merged_in_order = grind (arith, sorted_from_start, sorted_from_none)
 
   -- the keys of the sorted lists `a` pass the test; those of `b`, which are higher, do not
   module _ (p : List ℕ → Bool) (down : IsDownwardClosed cmp p) (a b : Side → Lines) (in_order : disorder tool a ≡ None)
       (low : (side : Side) → EachKey (λ k. p k ≡ true) (key side) (a side))
       (high : (side : Side) → EachKey (λ k. p k ≡ false) (key side) (b side)) where
     at_most_high : (side : Side) (k : List ℕ) → p k ≡ true → EachKey (AtMost cmp k) (key side) (b side)
-    at_most_high side k h = Each-weaker _ _ (λ l g. grind (arith, down l k)) _ (high side)
+    at_most_high side k h = Each-weaker _ _ (λ l g. grind arith) _ (high side)
 
     both_go_on : (side : Side)
         → (sorted_prefix cmp (key side) (a side ++ b side) ≡ a side ++ sorted_prefix cmp (key side) (b side))
@@ -179,7 +171,7 @@ join_of_parts = search (rules, of_parts, line_order)
 module _ {A : Type 0} where
   changed : (u v w : List A) → IsPermutation (u ++ (v ++ w)) (v ++ (u ++ w))
   changed u v w = rw (← append_assoc u v w, ← append_assoc v u w)
-      (IsPermutation-append_left w (u ++ v) (v ++ u) (IsPermutation-append_comm u v))
+      (IsPermutation-append_left w _ _ (IsPermutation-append_comm u v))
 
   of_some : (f : List ℕ → List A) (p q : List ℕ → Bool) → ((k : List ℕ) → q k ≡ true → p k ≡ true) → (ks : Lines)
       → IsPermutation (flat_map f (filter p ks))
@@ -189,22 +181,19 @@ module _ {A : Type 0} where
       let own = flat_map f (filter q ks) in
       let first = IsPermutation-append_right (f k) _ _ (of_some f p q all ks) in
       let second = IsPermutation-trans _ _ _ first (changed _ own _) in
-      grind (arith, append_assoc, all k, of_some f p q all ks, first, second)
+      grind (arith, append_assoc, of_some f p q all ks, first, second)
 
-  -- part by part, from part `a` on
   of_each : (f : List ℕ → List A) (part_of : List ℕ → ℕ) (w : List ℕ → Bool) (a n : ℕ)
       → ((k : List ℕ) → (w k ≡ not (nat_lt (part_of k) a)) × part_of k < a + n) → (ks : Lines)
       → IsPermutation (flat_map f (filter w ks))
       (flat_map (λ i. flat_map f (filter (λ k. part_of k == i) ks)) (range_with_len a n))
   of_each f part_of w a zero h [] = IsPermutation-refl []
-  of_each f part_of w a zero h (k ∷ ks) = let out : w k ≡ false = grind (arith, nat_tests, h k) in
-      rw out (of_each f part_of w a zero h ks)
+  of_each f part_of w a zero h (k ∷ ks) = let out : w k ≡ false = grind (arith, h k) in
+      rw out (of_each f _ w a _ h ks)
   of_each f part_of w a (suc n) h ks =
-      IsPermutation-trans _ _ _ (of_some f w (λ k. part_of k == a) (λ k here. grind (arith, nat_tests, h k, here)) ks)
+      IsPermutation-trans _ _ _ (of_some f w (λ k. part_of k == a) (λ k here. grind (arith, h k, here)) ks)
       (IsPermutation-append_right _ _ _ (of_each f part_of (λ k. w k && not (part_of k == a)) (a + 1) n
-      (λ k. (grind (arith, nat_tests, h k), omega (arith, h k))) ks))
-
--- ---- texts
+      (λ k. (grind (arith, h k), omega (arith, h k))) ks))
 
 lines_of_each : (end : ℕ) (f : List ℕ → Lines) (ks es : Lines)
     → lines end (unlines end (es ++ flat_map f ks)) ≡ flat_map (λ e. lines end (e ++ end ∷ [])) es ++ flat_map
@@ -215,12 +204,12 @@ lines_of_each end f ks (e ∷ es) = search (rules, the_lines_of_parts, lines_of_
 
 lines_dealt : (end : ℕ) (q : List ℕ → Bool) (bytes : List ℕ)
     → lines end (unlines end (filter q (lines end bytes))) ≡ filter q (lines end bytes)
-lines_dealt end q bytes = lines-unlines end _
+lines_dealt end q _ = lines-unlines end _
     (recursion_from_All _ _ (All-filter q (IsLine end) _ (grind (usual, lines_are))))
 
 split_by_key : (tool : MergeTool) → IsKeyOrder tool.cmp → IsSplittableByKey tool
 split_by_key tool o inputs part_of parts in_order below = simp (whole, of_part)
-    (of_each each part_of all_keys 0 parts (λ k. (grind (arith, nat_tests), omega (arith, below k))) ds)
+    (of_each each part_of all_keys 0 parts (λ k. (grind arith, omega arith)) ds)
   where
     ls : Side → Lines
     ls = lines_of tool inputs
@@ -237,7 +226,7 @@ split_by_key tool o inputs part_of parts in_order below = simp (whole, of_part)
         let own : List ℕ → Bool = λ k. part_of k == i in
         let in_part : Side → List ℕ → Bool = λ side line. own (tool.key side line) in
         let entries = merged_in_order tool o (λ side. filter (in_part side) (ls side))
-        (grind (arith, in_order_kept, none_disordered, in_order)) ∙ by_keys_kept own tool o ls all_keys in
+        (grind (arith, in_order_kept, in_order)) ∙ by_keys_kept own tool o ls all_keys in
         (λ t. lines tool.terminator (unlines tool.terminator
         (merged_entries tool (λ side. lines_dealt tool.terminator (in_part side) (inputs side) t))))
         ∙ ap (λ es. lines tool.terminator (unlines tool.terminator es)) entries

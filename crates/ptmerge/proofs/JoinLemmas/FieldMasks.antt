@@ -1,14 +1,12 @@
 -- Fields of a line of `join`, found by masks of its blanks or of its separators. A mask is the number of a list of
--- bits, so each fact is by induction on that list: no blank is misplaced if two masks are zero; and the first run of set
--- bits is the first word, after which the words of the rest of the line follow. Last, the fields after a number of
--- separators.
+-- bits, so each fact is by induction on that list. The first run of set bits is the first word.
 use Rattle.ptmerge.proofs
 use Rattle.ptmerge.specs
 use Rattle.std.proofs.lemmas
 use proofs.Common.{◌≡◌, ⊎_elim, false, ℕ, List, ◌++◌, true, ◌∷◌, [], refl, arith, length-drop, suc, ◌+◌, ◌-◌, ◌≤◌, Bool}
-use proofs.Common.{None, Some, length, drop, get_or, sym, ap, zero, ◌<◌, ◌==◌, cond, filter, slice_split, is_blank}
-use proofs.Common.{Lines, usual, map, join_fields, is_single_spaced, with_prefix, ◌^◌, eqb, ◌≢◌, ◌*◌, not, ◌&&◌, ◌∙◌}
-use proofs.Common.{Option, drop_more, length-append, option_map, unwrap_or}
+use proofs.Common.{None, Some, length, drop, get_or, sym, zero, ◌<◌, ◌==◌, cond, filter, slice_split, is_blank, Lines}
+use proofs.Common.{usual, map, join_fields, is_single_spaced, with_prefix, ◌^◌, eqb, ◌≢◌, ◌*◌, not, ◌&&◌, ◌∙◌, Option}
+use proofs.Common.{drop_more, length-append, option_map, unwrap_or}
 use lemmas.Bool.{cases_Bool, eqb-true}
 use Rattle.std.specs.List.{prefix_len, onto_first, count_by}
 use Rattle.std.proofs.Common.{rules, ◌/◌, bit_and, bit_or, replicate, take, ◌%◌}
@@ -17,7 +15,7 @@ use lemmas.Simd.{mask_l-lt, trailing_mask_l}
 use Rattle.std.specs.Simd.Lanes.{chunk, mask_l}
 use Rattle.memchr.specs.Find.{is_byte, IsFirst, IsFirstByte, Passes}
 use Rattle.std.proofs.Math.Nat.{div-div-eq-div-mul}
-use Rattle.std.proofs.Math.Pow.{pow-lt, pow_mono}
+use Rattle.std.proofs.Math.Pow.{pow_mono}
 use lib.Bits.{and_step, or_zero_r, and_zero_l, or_shifted_r, and_mod, and_le_l, and_self, or_self}
 use lib.Count.{count_trailing_zeros}
 use Rattle.ptlines.proofs.MatchMasks.{bit, halves, or_bits}
@@ -29,17 +27,13 @@ use specs.Join.{is_nonempty}
 use specs.Private.JoinFields.{IsFieldAt, has_single_spaces}
 use proofs.JoinLemmas.Fields.{first_is_position, none_past, prefixed_fields, space_is, single_spaced_words}
 
--- ---- the lowest bits of two numbers
-
 and_bits : (b c : Bool) (x y : ℕ) → bit_and (bit b + 2 * x) (bit c + 2 * y) ≡ bit (b && c) + 2 * bit_and x y
-and_bits b c x y = grind (arith, and_step (bit b + 2 * x) (bit c + 2 * y), halves b x, halves c y)
-
--- ---- single spaces
+and_bits b c x y = grind (arith, and_step (bit b + 2 * x) (bit c + 2 * y), halves c y)
 
 no_misplaced : (blank : Bool) (bytes : List ℕ) → cond (eqb (mask_l (map (is_byte 9) bytes)) 0)
     (eqb (bit_and (mask_l (map (is_byte 32) bytes)) (bit blank + 2 * mask_l (map (is_byte 32) bytes))) 0) false
     ≡ has_single_spaces blank bytes
-no_misplaced blank [] = cc
+no_misplaced _ [] = cc
 no_misplaced blank (b ∷ bytes) = grind (arith, and_bits, no_misplaced (b == 32) bytes)
 
 pub single_spaces_is : (spaces tabs before : ℕ) (bytes : List ℕ) → before ≤ 1 → length bytes ≤ 64
@@ -66,11 +60,11 @@ single_spaces_is spaces tabs before bytes low few is tabs_is =
     and_low x y low = grind (arith, and_le_l x y, and_mod x y 64)
 
 power_fits : (v : List ℕ) → length v < 64 → 1 * 2 ^ length v % 2 ^ 64 ≡ 1 * 2 ^ length v
-power_fits = search (rules, pow-lt)
+power_fits = search rules
 
 end_bit : (test : ℕ → Bool) (bytes : List ℕ)
     → mask_l (map test (bytes ++ 32 ∷ [])) ≡ mask_l (map test bytes) + cond (test 32) (2 ^ length bytes) 0
-end_bit test [] = grind arith
+end_bit _ [] = grind arith
 end_bit test (b ∷ bytes) = grind (arith, end_bit test bytes)
 
 spaced_to_end : (blank : Bool) (bytes : List ℕ)
@@ -82,11 +76,12 @@ spaced_to_end blank (b ∷ bytes) = cc (spaced_to_end (b == 32) bytes)
 pub spaced_rest : (blank : Bool) (spaces tabs : ℕ) (bytes : List ℕ) {result : Bool} → length bytes < 64
     → spaces ≡ mask_l (map (is_byte 32) bytes) → tabs ≡ mask_l (map (is_byte 9) bytes)
     → ((all : List ℕ) → length all ≤ 64 → bit_or spaces (1 * 2 ^ length bytes % 2 ^ 64) ≡ mask_l (map (is_byte 32) all)
-    → tabs ≡ mask_l (map (is_byte 9) all) → result ≡ has_single_spaces blank all) → result ≡ is_single_spaced blank bytes
+    → tabs ≡ mask_l (map (is_byte 9) all) → result ≡ has_single_spaces blank all)
+    → result ≡ is_single_spaced blank bytes
 spaced_rest blank spaces tabs bytes short spaces_is tabs_is ensures =
     ensures (bytes ++ 32 ∷ []) (omega (arith, length-append bytes (32 ∷ [])))
-    (grind (arith, spaces_is, mask_l-lt, length-map, power_fits, or_shifted_r, end_bit (is_byte 32) bytes))
-    (omega (arith, tabs_is, end_bit (is_byte 9) bytes)) ∙ spaced_to_end blank bytes
+    (grind (arith, mask_l-lt, length-map, power_fits, or_shifted_r, end_bit (is_byte 32) bytes))
+    (omega (arith, end_bit (is_byte 9) bytes)) ∙ spaced_to_end blank bytes
 
 -- ---- the next 64 bytes of a line
 
@@ -96,22 +91,18 @@ last_blank blank (b ∷ bytes) = last_blank (b == 32) bytes
 
 spaced_append : (blank : Bool) (v back : List ℕ) → is_single_spaced blank (v ++ back) ≡ cond
     (has_single_spaces blank v) (is_single_spaced (last_blank blank v) back) false
-spaced_append blank [] back = refl
+spaced_append _ [] back = refl
 spaced_append blank (b ∷ v) back = grind (arith, spaced_append (b == 32) v back)
 
 pub top_bit : (n : ℕ) (blank : Bool) (v : List ℕ) → length v ≡ suc n
     → mask_l (map (is_byte 32) v) / 2 ^ n ≡ bit (last_blank blank v)
-top_bit n blank [] size = absurd (omega arith)
+top_bit n _ [] size = absurd (omega arith)
 top_bit zero blank (b ∷ []) size = grind arith
 top_bit zero blank (b ∷ c ∷ v) size = absurd (omega arith)
 top_bit (suc n) blank (b ∷ v) size =
     let m = mask_l (map (is_byte 32) v) in
     let twice : 2 ^ suc n ≡ 2 * 2 ^ n = omega arith in
-    cc (
-      top_bit n (b == 32) v (omega arith),
-      (halves (b == 32) m).0,
-      div-div-eq-div-mul (bit (b == 32) + 2 * m) 2 (2 ^ n),
-    )
+    cc (top_bit n _ v (omega arith), (halves _ m).0, div-div-eq-div-mul (bit (b == 32) + 2 * m) 2 (2 ^ n))
 
 pub chunk_spaced : (blank : Bool) (bytes : List ℕ) (at : ℕ) → at + 64 ≤ length bytes
     → is_single_spaced blank (drop at bytes) ≡ cond (has_single_spaces blank (chunk at 64 bytes))
@@ -144,13 +135,11 @@ after_run [] = true ∷ []
 after_run (true ∷ bits) = false ∷ after_ones bits
 after_run (false ∷ bits) = false ∷ after_run bits
 
--- without the run that the bits begin with
 abbrev clear_ones : List Bool → List Bool
 clear_ones [] = []
 clear_ones (true ∷ bits) = false ∷ clear_ones bits
 clear_ones (false ∷ bits) = false ∷ bits
 
--- without the first run
 abbrev clear_run : List Bool → List Bool
 clear_run [] = []
 clear_run (true ∷ bits) = false ∷ clear_ones bits
@@ -162,12 +151,9 @@ plus_one (b ∷ bits) = grind (arith, plus_one bits)
 
 or_less : (bits : List Bool) → 0 < mask_l bits → bit_or (mask_l bits) (mask_l bits - 1) + 1 ≡ mask_l (after_run bits)
 or_less [] some = absurd (omega arith)
-or_less (true ∷ bits) some =
+or_less (b ∷ bits) some =
     let m = mask_l bits in
-    grind (arith, or_bits true false m m, or_self m, plus_one bits)
-or_less (false ∷ bits) some =
-    let m = mask_l bits in
-    grind (arith, or_bits false true m (m - 1), or_less bits)
+    grind (arith, or_bits true false m m, or_self m, plus_one bits, or_bits false true m (m - 1), or_less bits)
 
 and_ones : (bits : List Bool) → bit_and (mask_l bits) (mask_l (after_ones bits)) ≡ mask_l (clear_ones bits)
 and_ones [] = and_zero_l 1
@@ -180,17 +166,14 @@ and_run : (bits : List Bool) → bit_and (mask_l bits) (mask_l (after_run bits))
 and_run [] = and_zero_l 1
 and_run (b ∷ bits) = grind (arith, and_run bits, and_ones bits, and_bits b false (mask_l bits))
 
-length-after_ones : (bits : List Bool) → length (after_ones bits) ≤ suc (length bits)
-length-after_ones [] = omega arith
-length-after_ones (b ∷ bits) = grind (arith, length-after_ones bits)
-
-length-after_run : (bits : List Bool) → length (after_run bits) ≤ suc (length bits)
-length-after_run [] = omega arith
-length-after_run (b ∷ bits) = grind (arith, length-after_ones bits, length-after_run bits)
+length-after : (bits : List Bool)
+    → (length (after_ones bits) ≤ suc (length bits)) × (length (after_run bits) ≤ suc (length bits))
+length-after [] = (omega arith, omega arith)
+length-after (b ∷ bits) = grind (arith, length-after bits)
 
 lowest : (bits : List Bool) → length bits ≤ 64 → 0 < mask_l bits
     → count_trailing_zeros 64 (mask_l bits) ≡ prefix_len not bits
-lowest bits few some = cc (map-id bits, trailing_mask_l (λ b. b) 64 bits few (rw (map-id bits) some))
+lowest bits few some = cc (map-id bits, trailing_mask_l (λ b. b) 64 _ few (rw (map-id bits) some))
 
 -- ---- a word is a run of bytes that are no blanks
 
@@ -224,7 +207,7 @@ in_word (b ∷ v) =
     let split = split_byte b v e in
     let more = slice_split is_blank v in
     simp e (grind (arith, more, split, single_spaced_words true v)))
-    (λ (e : is_blank b ≡ false). simp (e, one_more) (let more = w.more in grind (arith, more, w, e)))
+    (λ (e : is_blank b ≡ false). simp e (let more = w.more in grind (arith, more, w, e)))
     (cases_Bool (is_blank b))
 
 -- the first word of `v` from the index `at` on is from `start` to before `end`
@@ -264,8 +247,8 @@ word_at zero (b ∷ v) low some =
       high = omega arith;
       is = rw (size, split_byte b v e, w.split, w.words);
       rest = search w.rest;
-      spaced = λ blank s. w.spaced (grind (arith, s));
-    })) (cases_Bool (is_blank b))
+      spaced = λ blank s. w.spaced (grind arith);
+    })) (cases_Bool _)
 
 no_words : (at : ℕ) (v : List ℕ) → mask_l (from at v) ≡ 0 → join_fields None (drop at v) ≡ []
 no_words zero [] none = refl
@@ -319,7 +302,7 @@ module _ {line : List ℕ} {passed words : ℕ} (short : length line < 64) (left
     start_is = grind (arith, lowest, bits_long)
 
     end_is : count_trailing_zeros 64 after ≡ prefix_len not (after_run bits)
-    end_is = grind (arith, after_is, lowest, length-after_run, bits_long, or_less)
+    end_is = grind (arith, lowest, length-after bits, bits_long, or_less)
 
     pub word_passed : WordsLeft line (passed + 1) (bit_and words after)
     word_passed = let w = first_word in
@@ -333,7 +316,7 @@ module _ {line : List ℕ} {passed words : ℕ} (short : length line < 64) (left
 
     pub word_found : (number : ℕ) → passed ≡ number - 1 → IsFieldAt None number line
         (record { start = count_trailing_zeros 64 words; end = count_trailing_zeros 64 after })
-    word_found number is = let w = first_word in
+    word_found _ is = let w = first_word in
         rw (start_is, end_is) (record {
           more = join_fields None (drop (prefix_len not (after_run bits)) line);
           is = cc w.is;
@@ -347,9 +330,7 @@ pub ruleset word_steps = (any_fits, words_start, word_passed, none_left, word_fo
 -- ---- fields after a number of separators
 
 onto_first_drop : (b m : ℕ) (pieces : Lines) → drop (suc m) (onto_first b pieces) ≡ drop (suc m) pieces
-onto_first_drop b zero [] = refl
-onto_first_drop b (suc m) [] = refl
-onto_first_drop b m (piece ∷ pieces) = refl
+onto_first_drop = grind arith
 
 byte_passed : (b k m : ℕ) (pieces rest : Lines) → drop (suc (m + k)) pieces ≡ rest → (ends : Bool)
     → drop (suc (m + (cond ends 1 0 + k))) (cond ends ([] ∷ pieces) (onto_first b pieces)) ≡ rest
@@ -358,7 +339,7 @@ byte_passed b k m pieces rest is false =
     let none : m + (0 + k) ≡ m + k = omega arith in rw none (onto_first_drop b (m + k) pieces ∙ is)
 
 none_passed : (m : ℕ) (pieces : Lines) → drop (suc (m + 0)) pieces ≡ drop (suc m) pieces
-none_passed m pieces = let same : m + 0 ≡ m = omega arith in ap (λ k. drop (suc k) pieces) same
+none_passed m pieces = grind arith
 
 pieces_passed : (c : ℕ) (v : List ℕ) (n m : ℕ)
     → drop (suc (m + count_by (is_byte c) (take n v))) (join_fields (Some c) v)
@@ -369,14 +350,12 @@ pieces_passed c (b ∷ v) (suc n) m =
     rw (sum_by-cons (λ x. cond (is_byte c x) 1 0) b (take n v))
     (byte_passed b (count_by (is_byte c) (take n v)) m _ _ (pieces_passed c v n m) (b == c))
 
--- the bytes after the n-th separator are the fields after the first n
 pub fields_after_nth : (c number at : ℕ) (line : List ℕ) → 1 < number → 0 < at
     → IsNth (is_byte c) 0 (number - 2) (take (length line) line) (at - 1)
     → drop (number - 1) (join_fields (Some c) line) ≡ join_fields (Some c) (drop at line)
 fields_after_nth c number at line some after nth =
-    let all = take_all (length line) line (omega arith) in
-    let (within, passes, counted) = rw all at nth in
-    let count : suc (0 + count_by (is_byte c) (take (at - 1) line)) ≡ number - 1 = omega (arith, counted) in
+    let (within, passes, counted) = rw (take_all (length line) line (omega arith)) at nth in
+    let count : suc (0 + count_by (is_byte c) (take (at - 1) line)) ≡ number - 1 = omega arith in
     let next : at - 1 + 1 ≡ at = omega arith in
     let here = rw (eqb-true (get_or line (at - 1) 0) c passes, next) at (drop_more line (at - 1) 0 within) in
     rw (count, here, byte_eq c) at (pieces_passed c line (at - 1) 0)
@@ -385,27 +364,16 @@ pub no_field_after : (c number : ℕ) (line : List ℕ) → 1 < number
     → count_by (is_byte c) (take (length line) line) ≤ number - 2 → drop (number - 1) (join_fields (Some c) line) ≡ []
 no_field_after c number line some few =
     let left = number - 2 - count_by (is_byte c) (take (length line) line) in
-    let count : suc (left + count_by (is_byte c) (take (length line) line)) ≡ number - 1 = omega (arith, few) in
-    let none : Lines = [] in
+    let count : suc (left + count_by (is_byte c) (take (length line) line)) ≡ number - 1 = omega arith in
     rw (count, drop_all (length line) line (omega arith)) at (pieces_passed c line (length line) left)
-    ∙ drop_all left none (omega arith)
+    ∙ drop_all left [] (omega arith)
 
--- the first match from an index on, in the bytes from there on
 first_of_rest : (test : ℕ → Bool) (hay : List ℕ) (start : ℕ) → start ≤ length hay → (r : Option ℕ)
     → IsFirst (Passes test hay) start (length hay) r
     → IsFirstByte test (drop start hay) (option_map (λ at. at - start) r)
 first_of_rest test hay start within None none = λ k low high passes.
     none (start + k) (omega arith) (omega (arith, length-drop start hay)) (rw (get_or-drop start hay k 0) at passes)
-first_of_rest test hay start within (Some at) (first, found) =
-    let same : start + (at - start) ≡ at = omega (arith, first.low) in (
-      record {
-        low = omega arith;
-        high = omega (arith, first.low, first.high, length-drop start hay);
-        before = λ k low high passes.
-            first.before (start + k) (omega arith) (omega (arith, first.low)) (rw (get_or-drop start hay k 0) at passes);
-      },
-      rw (get_or-drop start hay (at - start) 0, same) found,
-    )
+first_of_rest test hay start within (Some at) (first, found) = grind (arith, get_or-drop, length-drop, first.before)
 
 module _ {c : ℕ} {line : List ℕ} {number start : ℕ} (within : start ≤ length line)
     (fields : drop (number - 1) (join_fields (Some c) line) ≡ join_fields (Some c) (drop start line)) where
@@ -414,8 +382,7 @@ module _ {c : ℕ} {line : List ℕ} {number start : ℕ} (within : start ≤ le
   last_at none =
       let tail = drop start line in
       let more : Lines = [] in
-      let all : drop (number - 1) (join_fields (Some c) line) ≡ tail ∷ [] =
-      fields ∙ split_whole (is_byte c) tail (sym (first_is_position (is_byte c) tail None none)) in
+      let all = fields ∙ split_whole (is_byte c) tail (sym (first_is_position (is_byte c) tail None none)) in
       grind (usual, all, more, within)
 
   found_at : (n : ℕ) → IsFirstByte (is_byte c) (drop start line) (Some n) → IsFieldAt (Some c) number line
@@ -424,22 +391,16 @@ module _ {c : ℕ} {line : List ℕ} {number start : ℕ} (within : start ≤ le
       let (range, passes) = found in
       let tail = drop start line in
       let rest = take_all (length tail - (n + 1)) (drop (n + 1) tail) (omega (arith, length-drop (n + 1) tail)) in
-      let split = rw rest at (split_around (is_byte c) tail n (sym (first_is_position (is_byte c) tail (Some n) found))) in
+      let is = sym (first_is_position (is_byte c) tail (Some n) found) in
+      let split = rw rest at (split_around (is_byte c) tail n is) in
       let end = rw (eqb-true (get_or tail n 0) c passes) at (drop_more tail n 0 range.high) in
       let size : start + n - start ≡ n = omega arith in
-      record {
-        more = join_fields (Some c) (drop (n + 1) tail);
-        is = rw size (fields ∙ split);
-        ordered = omega arith;
-        within = omega (arith, range.high, length-drop start line);
-        after = λ e. rw (sym (drop-drop n start line)) (prefixed_fields c (drop (n + 1) tail) ∙ sym end);
-      }
+      grind (arith, size, split, end, drop-drop n start line, prefixed_fields c (drop (n + 1) tail), length-drop)
 
-  -- the field at an index is up to the first separator after it
   pub field_at : (r : Option ℕ) → IsFirst (Passes (is_byte c) line) start (length line) r
       → IsFieldAt (Some c) number line (record { start = start; end = unwrap_or r (length line) })
   field_at None none = last_at (first_of_rest (is_byte c) line start within None none)
   field_at (Some at) first =
       let (range, passes) = first in
-      let same : start + (at - start) ≡ at = omega (arith, range.low) in
+      let same : start + (at - start) ≡ at = omega arith in
       rw same at (found_at (at - start) (first_of_rest (is_byte c) line start within (Some at) first))

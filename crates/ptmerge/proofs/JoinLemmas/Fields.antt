@@ -1,16 +1,14 @@
--- Fields of a line of `join`: how they are found by a split, where they are in the line, and how they are written, in
--- several writes of which one may fail. A line is split by repeatedly taking the bytes before the first separator.
--- Joining undoes splitting, so a line can be written unchanged: its fields give the line back, and the fields after a
--- field are the bytes after it.
+-- Fields of a line of `join`: how they are found, and written in several writes of which one may fail. Joining undoes
+-- splitting, so a line can be written unchanged, and the fields after a field are the bytes after it.
 use Rattle.ptmerge.proofs
 use Rattle.ptmerge.specs
 use Rattle.std.proofs.lemmas
 use proofs.Common.{◌≡◌, ⊎_elim, false, ℕ, List, ◌++◌, Result, Ok, Err, IsErrAnd, true, Output, PushPost, PushEffect}
 use proofs.Common.{push_trans, ◌∷◌, [], refl, append_assoc, arith, length-drop, length-append, suc, ◌+◌, ◌-◌, ◌≤◌, Bool}
 use proofs.Common.{Option, None, Some, length, drop, get_or, sym, ap, zero, ◌<◌, ◌==◌, cond, position, MatchOption}
-use proofs.Common.{filter, is_some, slice_split, nat_tests, is_blank, Lines, is_separator, entry_with_list, usual}
+use proofs.Common.{filter, is_some, slice_split, is_blank, Lines, is_separator, entry_with_list, usual}
 use proofs.Common.{remaining_fields, map, remove, unwrap_or, append-nil, flat_map-append, Join, output_separator, entry}
-use proofs.Common.{join_fields, other_fields, is_single_spaced, with_prefix, ◌∙◌, First, Second, Side}
+use proofs.Common.{join_fields, other_fields, is_single_spaced, with_prefix, First, Second, Side}
 use lemmas.Bool.{cases_Bool, eqb-true}
 use Rattle.ptlines.proofs.Push.{push_past_failure}
 use Rattle.std.specs.List.{flat_map, slice_range, join_with_byte, onto_first}
@@ -38,7 +36,7 @@ use specs.Calls.KeySpan.{IsKeySpan}
 wrote_then : {a b c : Output} {xs ys : List ℕ} → (a.write_failed ≡ false → b.write_failed ≡ false)
     → PushEffect a b xs → PushEffect b c ys → PushEffect a c (xs ++ ys)
 wrote_then {a} {b} {c} {xs} {ys} clean p q =
-    ⊎_elim (λ fault. grind (arith, fault)) (λ fine. push_trans a b c xs ys (clean fine) p q) (cases_Bool _)
+    ⊎_elim (λ fault. grind arith) (λ fine. push_trans a b c xs ys (clean fine) p q) (cases_Bool _)
 
 pub then_pushes : {E : Type 0} {a b c : Output} {xs ys : List ℕ} {r : Result (Unit {0}) E}
     → (a.write_failed ≡ false → b.write_failed ≡ false) → PushEffect a b xs → PushPost b c ys r
@@ -72,7 +70,7 @@ module _ {E : Type 0} {r : Result (Unit {0}) E} (P : E → Type 0) (err_is : IsE
     {was new : Output} {all bytes : List ℕ} (left : List ℕ) where
   pub first_fails : all ≡ bytes ++ left → PushEffect was new bytes → new.write_failed ≡ true
       → WriteBytesPost was new all r
-  first_fails = grind (arith, push_fails, push_past_failure)
+  first_fails = grind (arith, push_past_failure)
 
   pub partial_fails : {is : Output} {now : List ℕ} → now ≡ bytes ++ left → PartialWrite was is all now
       → PushEffect is new bytes → new.write_failed ≡ true → WriteBytesPost was new all r
@@ -91,25 +89,18 @@ partial_ends e a m = grind (arith, (wrote_then a.clean a.wrote m.wrote))
 -- a piece is added to a row, and `rest` is still to be added
 row_whole : (row left piece rest next pushed : List ℕ) → next ≡ piece ++ rest → row ++ piece ≡ pushed ++ left
     → row ++ next ≡ pushed ++ (left ++ rest)
-row_whole row left piece rest next pushed is split =
-    rw (is, ← append_assoc row piece rest, split, append_assoc pushed left rest)
+row_whole row left piece rest next pushed is split = grind (usual, append_assoc)
 
 module _ {was now new : Output} {all next pushed : List ℕ} (row left piece rest : List ℕ)
     (a : PartialWrite was now all (row ++ next)) (is : next ≡ piece ++ rest) (split : row ++ piece ≡ pushed ++ left)
     (wrote : PushEffect now new pushed) where
   pub piece_added : (now.write_failed ≡ false → new.write_failed ≡ false) → PartialWrite was new all (left ++ rest)
-  piece_added clean = record {
-    done = a.done ++ pushed;
-    split = a.split ∙ ap (λ l. a.done ++ l) (row_whole row left piece rest next pushed is split)
-        ∙ sym (append_assoc a.done pushed (left ++ rest));
-    wrote = wrote_then a.clean a.wrote wrote;
-    clean = λ fine. clean (a.clean fine);
-  }
+  piece_added clean = grind (arith, row_whole row left piece rest next pushed is split, append_assoc a.done pushed,
+      wrote_then a.clean a.wrote wrote)
 
   pub piece_fails : new.write_failed ≡ true → {E : Type 0} {r : Result (Unit {0}) E} (P : E → Type 0) → IsErrAnd r P
       → WriteBytesPost was new all r
-  piece_fails fault P err_is =
-      partial_fails P err_is (left ++ rest) (row_whole row left piece rest next pushed is split) a wrote fault
+  piece_fails fault P err_is = partial_fails P err_is (left ++ rest) (row_whole row _ _ _ _ _ is split) a wrote fault
 
 pub first_piece_fails : {was new : Output} {all pushed : List ℕ} (row left piece rest : List ℕ) → row ≡ []
     → all ≡ piece ++ rest → row ++ piece ≡ pushed ++ left → PushEffect was new pushed → new.write_failed ≡ true
@@ -117,7 +108,6 @@ pub first_piece_fails : {was new : Output} {all pushed : List ℕ} (row left pie
 first_piece_fails row left piece rest empty all split wrote fault P err_is =
     piece_fails row left piece rest (partial_starts (rw empty all)) refl split wrote fault P err_is
 
--- one call for each item of a list
 module _ {X : Type 0} (f : X → List ℕ) {xs more : List X} {x : X} (is : xs ≡ x ∷ more) {was now new : Output}
     {all : List ℕ} (a : PartialWrite was now all (flat_map f xs)) (wrote : PushEffect now new (f x)) where
   pub each_more : new.write_failed ≡ false → PartialWrite was new all (flat_map f more)
@@ -127,29 +117,21 @@ module _ {X : Type 0} (f : X → List ℕ) {xs more : List X} {x : X} (is : xs �
       → WriteBytesPost was new all r
   each_fails fault P err_is = partial_fails P err_is (flat_map f more) (rw is) a wrote fault
 
--- ---- the end of a field
-
 pub first_is_position : (test : ℕ → Bool) (bytes : List ℕ) (r : Option ℕ) → IsFirstByte test bytes r
     → r ≡ position test bytes
-first_is_position test bytes None none =
-    grind (arith, (position_or_len_is test bytes (length bytes) 0), none, nat_tests)
-first_is_position test bytes (Some at) (range, found) = grind (arith, position_or_len_is)
-
--- ---- the field with a number
+first_is_position test bytes None none = grind (arith, (position_or_len_is test bytes (length bytes) 0), none)
+first_is_position _ _ _ (range, found) = grind (arith, position_or_len_is)
 
 pub none_past : (fs : Lines) (i n : ℕ) → drop i fs ≡ [] → i ≤ n → drop n fs ≡ []
 none_past fs i n none le = grind (arith, drop-drop (n - i) i fs)
 
 pub drop_next : (fs more : Lines) (f : List ℕ) (i : ℕ) → drop i fs ≡ f ∷ more → drop (i + 1) fs ≡ more
-drop_next fs more f i some = rw (← drop-drop 1 i fs, some)
+drop_next fs _ f i some = rw (← drop-drop 1 i fs, some)
 
 abbrev pub remaining_length : Option (List ℕ) → ℕ
 remaining_length None = 0
 remaining_length (Some bytes) = suc (length bytes)
 
--- ---- spans of fields
-
--- all fields of the rest of a line are fields of the line
 abbrev pub AreFieldsOf : Option ℕ → Option (List ℕ) → Option (List ℕ) → Type 0
 AreFieldsOf separator line left = (field : List ℕ) (remainder : Option (List ℕ))
     → IsFieldIn separator left field remainder → IsFieldIn separator line field remainder
@@ -167,8 +149,6 @@ fields_after separator (Some l) field (Some b) p f r q =
       ends = q.ends;
     }
 
--- ---- the first field
-
 pub piece_at : (separator : Option ℕ) (bytes : List ℕ) (at : ℕ)
     → position (is_separator separator) bytes ≡ Some at → IsPiece separator bytes (take at bytes)
     (Some (take (length bytes - (at + 1)) (drop (at + 1) bytes)))
@@ -182,9 +162,7 @@ piece_at separator bytes at is = let (within, found, _) = position-Some _ bytes 
 
 pub ends_at : (separator : Option ℕ) (bytes : List ℕ) (at : ℕ) (end : Option ℕ)
     → end ≡ position (is_separator separator) bytes → end ≡ Some at → IsFirstPieceEnd separator bytes at
-ends_at separator bytes at end first some =
-    let is : position (is_separator separator) bytes ≡ Some at = cc in
-    grind (arith, (split_around (is_separator separator) bytes at is))
+ends_at separator bytes at end first some = grind (arith, split_around (is_separator separator) bytes at)
 
 pub ends_whole : (separator : Option ℕ) (bytes : List ℕ) (end : Option ℕ)
     → end ≡ position (is_separator separator) bytes → end ≡ None → IsFirstPieceEnd separator bytes (length bytes)
@@ -194,8 +172,6 @@ pub first_piece_span : (c number end : ℕ) (line : List ℕ) → number ≤ 1 �
     → IsKeySpan line (nth_field number (remaining_fields (Some c) (Some line))) (record { start = 0; end = end })
 first_piece_span = grind arith
 
--- ---- an empty word is skipped
-
 pub skip_empty_word : (separator : Option ℕ) (bytes field : List ℕ) (remainder : Option (List ℕ))
     → is_some separator ≡ false → (length field == 0) ≡ true
     → MatchOption remainder (slice_split (is_separator separator) bytes ≡ field ∷ [])
@@ -203,14 +179,12 @@ pub skip_empty_word : (separator : Option ℕ) (bytes field : List ℕ) (remaind
     → remaining_fields separator remainder ≡ remaining_fields separator (Some bytes)
 skip_empty_word = grind arith
 
--- ---- writing lines field by field
-
 pub prefixed_fields : (c : ℕ) (bytes : List ℕ) → with_prefix c (slice_split (λ b. b == c) bytes) ≡ c ∷ bytes
 prefixed_fields c [] = refl
 prefixed_fields c (x ∷ xs) = search (rules, prefixed_fields c xs)
 
 join_is_prefixed : (byte : ℕ) (f : List ℕ) (fs : Lines) → join_with_byte byte (f ∷ fs) ≡ f ++ with_prefix byte fs
-join_is_prefixed byte f [] = sym (append-nil f)
+join_is_prefixed _ f [] = sym (append-nil f)
 join_is_prefixed byte f (g ∷ fs) = cc (join_is_prefixed byte g fs)
 
 -- ---- the other fields, after `count` of them
@@ -258,7 +232,7 @@ WordsAre false bytes = (c : ℕ) → words_of (onto_first c (slice_split is_blan
 
 word_more : (c b : ℕ) (split : Lines) {l : List ℕ} → words_of (onto_first b split) ≡ 32 ∷ b ∷ l
     → words_of (onto_first c (onto_first b split)) ≡ 32 ∷ c ∷ b ∷ l
-word_more c b split is = grind arith
+word_more c b _ is = grind arith
 
 pub single_spaced_words : (blank : Bool) (bytes : List ℕ) → is_single_spaced blank bytes ≡ true → WordsAre blank bytes
 single_spaced_words true [] tidy = cc
@@ -269,7 +243,7 @@ single_spaced_words false [] tidy = λ c. refl
 single_spaced_words false (b ∷ bytes) tidy =
     λ c.
     let more = λ (h : is_single_spaced false bytes ≡ true). word_more c b _ (single_spaced_words false bytes h b) in
-    grind (arith, more, single_spaced_words true bytes)
+    grind (arith, single_spaced_words true bytes)
 
 -- ---- lines that are written unchanged
 
@@ -277,8 +251,7 @@ pub pair_is : (job : Join) (key : List ℕ) {one two : List ℕ} (end : ℕ) →
     → IsUnchanged job Second two → join_key job First one ≡ key → join_key job Second two ≡ key
     → one ++ take (length two - length key) (drop (length key) two) ++ end ∷ []
     ≡ entry job key (join_fields job.separator one) (join_fields job.separator two) ++ end ∷ []
-pair_is job key {one} {two} end w1 w2 keyed1 keyed2 =
-    grind (usual, append_assoc, entry_plain job key (Some one) (Some two) w1.list)
+pair_is job key {one} {two} end w1 w2 keyed1 keyed2 = grind (usual, entry_plain job key (Some one) (Some two) w1.list)
 
 first_is : (job : Join) (key : List ℕ) {line : List ℕ} → IsUnchanged job First line
     → nth_field job.field1 (join_fields job.separator line) ≡ key
@@ -293,23 +266,21 @@ second_is job key {line} w keyed = grind (arith, entry_plain job key None (Some 
 pub alone_is : (job : Join) (key : List ℕ) (side : Side) {line : List ℕ} → IsUnchanged job side line
     → join_key job side line ≡ key → line ≡ entry_alone job side key line
 alone_is job key First w keyed = first_is job key w keyed
-alone_is job key Second w keyed = second_is job key w keyed
+alone_is job key _ w keyed = second_is job key w keyed
 
 pub one_line_is : {job same : Join} {key k : List ℕ} (side : Side) (line : List ℕ) (one two : Option (List ℕ))
     → same ≡ job → k ≡ key → HasOneLine side line one two
     → entry_with_list same same.list k one two ≡ entry_alone job side key line
 one_line_is First line one two jobs keys is = rw (jobs, keys, is.0, is.1)
-one_line_is Second line one two jobs keys is = rw (jobs, keys, is.0, is.1)
-
--- ---- blanks
+one_line_is _ _ one two jobs keys is = rw (jobs, keys, is.0, is.1)
 
 pub space_is : (blank : Bool) (b : ℕ) (v : List ℕ) → is_blank b ≡ true → is_single_spaced blank (b ∷ v) ≡ true
     → (b ≡ 32) × (is_single_spaced true v ≡ true)
-space_is blank b v here spaced = grind (arith, here, spaced)
+space_is _ b v here spaced = grind (arith, here)
 
 spaced_suffix : (blank : Bool) (xs : List ℕ) (b : ℕ) (ys : List ℕ) → is_single_spaced blank (xs ++ b ∷ ys) ≡ true
     → is_blank b ≡ true → (b ≡ 32) × (is_single_spaced true ys ≡ true)
-spaced_suffix blank [] b ys s here = space_is _ b ys here s
+spaced_suffix _ [] b ys s here = space_is _ b ys here s
 spaced_suffix blank (x ∷ xs) b ys s here = grind (arith, spaced_suffix (x == 32) xs b ys)
 
 -- ---- the bytes before a field and after it
@@ -350,7 +321,7 @@ remove_at (g ∷ fs) (suc i) f more is = cc (remove_at fs i f _ is)
 cut_before : (c : ℕ) (before more line : List ℕ) → before ++ (c ∷ more) ≡ c ∷ line → (rest : List ℕ)
     → before ++ rest ≡ cond (length before == 0) rest (c ∷ take (length before - 1) line ++ rest)
 cut_before c [] more line is rest = refl
-cut_before c (x ∷ before) more line is rest = grind usual
+cut_before c _ _ _ is _ = grind usual
 
 -- without a field: the bytes before it, except the separator, and those after it
 pub around_is : (separator : Option ℕ) (number : ℕ) (line : List ℕ) (found : Option Span)

@@ -1,32 +1,30 @@
--- The group of one key: the slots of its lines, how they are copied and emptied, and the largest group, which bounds
--- the store; and tools that write pairs. The lines are read, paired and then closed. Lesser keys are complete and the
--- pairs of the group are written in their final order, so output during a group is a prefix of the output for all
--- inputs. Once both inputs are past the key, the group counts as processed.
+-- The group of one key, in slots, of which the largest bounds the store. Lesser keys are complete and the pairs of the
+-- group are written in their final order, so output during a group is a prefix of the output for all inputs. Once both
+-- inputs are past the key, the group counts as processed.
 use Rattle.ptmerge.proofs
 use Rattle.ptmerge.specs
 use Rattle.std.proofs.lemmas
-pub use proofs.Common.{◌≡◌, ⊎_elim, ℕ, ◌+◌, ◌-◌, ◌≤◌, ◌<◌, suc, true, false, length-drop, List, [], ◌∷◌, ◌++◌, length}
+pub use proofs.Common.{◌≡◌, ⊎_elim, ℕ, ◌+◌, ◌-◌, ◌≤◌, ◌<◌, true, false, length-drop, List, [], ◌∷◌, ◌++◌, length}
 pub use proofs.Common.{map, drop, get_or, set, max, refl, ap, ◌∙◌, arith, append_assoc, length-append, length-set}
 pub use proofs.Common.{drop_more, Slots, line, total_bytes, with_line, with_denied, unlines, max_length, Join, usual}
-pub use proofs.Common.{ClearGroupPost, CopyToGroupPost, entry, join_fields, pair_entries, Lines, lines_with_key}
-pub use proofs.Common.{Reader, Side, First, Second, Sorted, Key, with_side, MergeTool, ◌&&◌, Bool, Some, sym, subst}
-pub use proofs.Common.{bytes_eq, bytes_decides, append-nil, Output, PushEffect, push_trans, unlines-append}
-pub use proofs.Common.{CursorStatus, Head, Ended, Disorder, entries_by_key, MergeState, NextOkPost, other}
-pub use proofs.Common.{PrecedesInput, disorder, merged_entries, sorted_prefixes, is_up_to, line_of_with_line}
-pub use proofs.Common.{lines_of_slots}
+pub use proofs.Common.{ClearGroupPost, CopyToGroupPost, entry, join_fields, pair_entries, Lines, lines_with_key, Reader}
+pub use proofs.Common.{Side, First, Second, Sorted, Key, with_side, MergeTool, ◌&&◌, Bool, Some, sym, subst, bytes_eq}
+pub use proofs.Common.{bytes_decides, append-nil, Output, PushEffect, push_trans, unlines-append, CursorStatus, Head}
+pub use proofs.Common.{entries_by_key, MergeState, NextOkPost, other, PrecedesInput, disorder}
+pub use proofs.Common.{merged_entries, sorted_prefixes, is_up_to, line_of_with_line, lines_of_slots}
 use proofs.JoinLemmas.Fields.{partial_starts}
 pub use proofs.MergeLemmas.{total_within, low_slot, same_bytes, AtLeast, all_keys, at_current_line, both_begun, IsAbove}
 pub use proofs.MergeLemmas.{EndsIfFails}
 use proofs.MergeLemmas.{line_other, HasLines, GroupStore, AllExtend, HasRoom, side_extends, group_store_next, put_each}
 use proofs.MergeLemmas.{put_same, put_both, put_other, side_case, EachKey, Bound, MayFollow, IsUnder, MergeInvariant}
 use proofs.MergeLemmas.{IsFuture, MayCome, write_least_run, all_wanted, written_is_wanted, LagInvariant, IsLater}
-use proofs.MergeLemmas.{EachKey-append, front_is, later_entries, lines_with_key-above, Each-weaker, AtMost}
+use proofs.MergeLemmas.{HaveKey, EachKey-append, front_is, later_entries, lines_with_key-above, Each-weaker, AtMost}
 use proofs.MergeLemmas.{self_at_most, equal_is, SideAfterNext, IsAtCurrentLine, MatchesStatus, read_facts_after_line}
 use proofs.MergeLemmas.{IsOpenMerge, ReadFactsOf, SidesInvariant, current_key_is_above, next_at, sides_next}
 use proofs.MergeLemmas.{advance_fails}
 pub use Rattle.std.proofs.Common.{rules}
 use Rattle.std.proofs.Math.ListN.{get_or-append}
-use lemmas.List.{drop-set-add, set_at, take_at, take_more}
+use lemmas.List.{set_at, take_at, take_more}
 use lemmas.List.Sums.{sum_by-append, sum_by-cons, sum_by_push}
 use Rattle.ptlines.proofs.SlotTotals.{total_bytes_set}
 use specs.Private.JoinGroup.{EnsureSlotPost, CopyToGroupErrPost, is_head}
@@ -43,14 +41,11 @@ group_from store end slot fits low = grind (arith, drop_more store.lines slot []
 
 group_more : (store : Slots) (from end : ℕ) → from ≤ end → end < length store.lines
     → lines_of_slots store from (end + 1) ≡ lines_of_slots store from end ++ line store end ∷ []
-group_more store from end least within =
-    let more = take_more (drop from store.lines) (end - from) [] in grind usual
+group_more store from end least within = grind (usual, take_more (drop from store.lines) (end - from) [])
 
 pub group_one : (store : Slots) (slot : ℕ) → slot < length store.lines
     → lines_of_slots store slot (slot + 1) ≡ line store slot ∷ []
 group_one = grind (arith, group_more)
-
--- ---- the output
 
 abbrev pub pair_of : Join → List ℕ → List ℕ → List ℕ → List ℕ
 pair_of job k first second = entry job k (join_fields job.separator first) (join_fields job.separator second)
@@ -58,8 +53,6 @@ pair_of job k first second = entry job k (join_fields job.separator first) (join
 pub pairs_text : (job : Join) (end : ℕ) (x k : List ℕ) (g : Lines) → job.pairs ≡ true
     → unlines end (pair_entries job k (x ∷ []) g) ≡ unlines end (map (pair_of job k x) g)
 pairs_text = search rules
-
--- ---- emptying the group
 
 pub clears_none : (s : Slots) → ClearGroupPost s s 4
 clears_none = grind arith
@@ -70,7 +63,6 @@ clears_more a s t slot from within c is =
     let rest = drop 4 s.lines in
     let back : 4 + (slot - 4) ≡ slot = omega arith in
     let all = total_bytes_set s.lines slot [] (omega arith) in
-    let at : get_or rest (slot - 4) [] ≡ line a slot = grind (arith, back) in
     let here = total_bytes_set rest (slot - 4) [] (omega (arith, length-drop 4 s.lines)) in
     let grows = ap total_bytes (group_more a 4 slot from within)
     ∙ sum_by_push length (lines_of_slots a 4 slot) (line a slot) in
@@ -87,8 +79,7 @@ record EnsuredSlot (before made : Slots) (slot : ℕ) : Type 0 where
   denied : made.denied ≡ before.denied
 
 ensured_slot : (before made : Slots) (slot : ℕ) → EnsureSlotPost before made slot → EnsuredSlot before made slot
-ensured_slot before made slot g =
-    ⊎_elim (λ e. let more : Lines = [] in grind usual) (λ e. grind usual) g.grown
+ensured_slot before made slot g = ⊎_elim (λ e. grind usual) (λ e. grind usual) g.grown
 
 pub failed_copy : (before made : Slots) (to : ℕ) → EnsureSlotPost before made to
     → CopyToGroupErrPost before (with_denied (with_line made to [])) to
@@ -96,15 +87,13 @@ failed_copy = grind (usual, total_bytes_set)
 
 -- ---- the largest group
 
--- a measure that is the sum of a weight of each line
 record IsLineMeasure (m : Lines → ℕ) : Type 0 where
   weight : List ℕ → ℕ
   none : m [] ≡ 0
   more : (x : List ℕ) (xs : Lines) → m (x ∷ xs) ≡ weight x + m xs
 
 module _ (m : Lines → ℕ) (laws : IsLineMeasure m) (key : Key) where
-  group_measure_max : (k : List ℕ) (p g c : Lines) → EachKey (λ x. x ≡ k) key g
-      → m g ≤ m (lines_with_key key (p ++ (g ++ c)) k)
+  group_measure_max : (k : List ℕ) (p g c : Lines) → HaveKey key k g → m g ≤ m (lines_with_key key (p ++ (g ++ c)) k)
   group_measure_max k [] [] c e = omega arith
   group_measure_max k [] (x ∷ g) c (here, more) = grind (arith, same_bytes, group_measure_max k [] g c more)
   group_measure_max k (x ∷ p) g c e = grind (arith, group_measure_max k p g c e)
@@ -114,7 +103,7 @@ module _ (m : Lines → ℕ) (laws : IsLineMeasure m) (key : Key) where
   greatest_has ls [] y w = omega arith
   greatest_has ls (x ∷ p) y w = omega (arith, greatest_has ls p y w)
 
-  measure_in : (k : List ℕ) (p g w : Lines) → EachKey (λ x. x ≡ k) key g → 0 < length g
+  measure_in : (k : List ℕ) (p g w : Lines) → HaveKey key k g → 0 < length g
       → m g ≤ max_over_keys m key ((p ++ g) ++ w) ((p ++ g) ++ w)
   measure_in k p [] w own some = absurd (omega arith)
   measure_in k p (x ∷ g) w (is, more) some = rw (append_assoc p (x ∷ g) w) (omega (
@@ -126,7 +115,7 @@ module _ (m : Lines → ℕ) (laws : IsLineMeasure m) (key : Key) where
 abbrev pub InLargest : Key → Lines → Lines → Type 0
 InLargest key g ls = (total_bytes g ≤ max_group_bytes key ls) × (length g ≤ max_group_lines key ls)
 
-pub group_in : (key : Key) (k : List ℕ) (p g w : Lines) → EachKey (λ x. x ≡ k) key g → 0 < length g
+pub group_in : (key : Key) (k : List ℕ) (p g w : Lines) → HaveKey key k g → 0 < length g
     → InLargest key g ((p ++ g) ++ w)
 group_in key k p g w own some = (
   measure_in total_bytes (record { weight = length; none = refl; more = λ x xs. sum_by-cons length x xs })
@@ -153,7 +142,7 @@ module _ {tool : MergeTool} {before store : Slots} {ls : Side → Lines} {g : Li
     module _ (y : List ℕ) (at : to ≡ 4 + length g) (within : to < length made.lines)
         (largest : (all : Side → Lines) → AllExtend ls all → HasRoom tool (g ++ y ∷ []) all) where
       first_same : (i : ℕ) → i < 4 → get_or (set made.lines to y) i [] ≡ get_or store.lines i []
-      first_same i low = line_other made to i y (omega (arith, at, low)) ∙ made_same i low
+      first_same i low = line_other made to i y (omega (arith, at)) ∙ made_same i low
 
       by_tail : (t : Lines) → total_bytes t ≡ 0 → length g + 1 ≤ length (g ++ t)
           → drop 4 (set made.lines to y) ≡ set (g ++ t) (length g) y
@@ -163,14 +152,14 @@ module _ {tool : MergeTool} {before store : Slots} {ls : Side → Lines} {g : Li
           let four : 4 ≤ length (set made.lines to y) = grind arith in
           let split : drop 4 (set made.lines to y) ≡ (g ++ y ∷ []) ++ t = grind (usual, set_at) in
           let lines = same_lines store.lines (set made.lines to y) (λ side. max_length (ls side)) (total_bytes g)
-          (total_bytes (g ++ y ∷ [])) k.lines four first_same (grind (usual, none)) in
+          (total_bytes (g ++ y ∷ [])) k.lines four first_same (grind usual) in
           record {
             tail = t;
             split = split;
             empty = omega (arith, sum_by-cons length z t);
             lines = lines;
             room = largest;
-            fits = λ all more. search (rules, k.fits, total_within, largest, length-append);
+            fits = λ all more. search (rules, k.fits, total_within, length-append);
             four = four;
             denied = w.denied ∙ k.denied;
           }
@@ -181,7 +170,6 @@ module _ {tool : MergeTool} {before store : Slots} {ls : Side → Lines} {g : Li
         by_tail,
         first_same,
         append_assoc g k.tail w.more,
-        drop-set-add 4 made.lines (length g) y,
         sum_by-append length k.tail w.more,
         length-drop 4 made.lines,
       )
@@ -189,11 +177,11 @@ module _ {tool : MergeTool} {before store : Slots} {ls : Side → Lines} {g : Li
   pub group_store_copied : {after : Slots} {from to : ℕ} → to ≡ 4 + length g → from < 4
       → CopyToGroupPost store after from to → {y : List ℕ} → line store from ≡ y
       → ((all : Side → Lines) → AllExtend ls all → HasRoom tool (g ++ y ∷ []) all) → CopiedLine after y
-  group_store_copied {after} {from} {to} at low e {y} is largest = let w = ensured_slot store e.made to e.grown in
-      rw (e.copied, made_same w from low, is) (kept w y at e.grown.within largest)
+  group_store_copied {after} {from} {to} at low e {y} is largest = let w = ensured_slot _ _ to e.grown in
+      rw (e.copied, made_same w _ low, is) (kept w y at e.grown.within largest)
 
   pub kept_line : (slot : ℕ) → 4 ≤ slot → slot < 4 + length g → line store slot ≡ get_or g (slot - 4) []
-  kept_line slot from low = search (rules, k.split, get_or-append)
+  kept_line _ from low = search (rules, get_or-append)
 
   pub group_is : {end : ℕ} → end ≡ 4 + length g → lines_of_slots store 4 end ≡ g
   group_is at = grind (arith, take_at)
@@ -216,7 +204,7 @@ pub record OutputInGroup (tool : MergeTool) (was mid : Output) (p g : Side → L
     (k : List ℕ) : Type 0 where
   pub merge_invariant : MergeInvariant tool (λ side. AtLeast k) p was mid
   pub clean : mid.write_failed ≡ false
-  pub own : (side : Side) → EachKey (λ x. x ≡ k) (tool.key side) (g side)
+  pub own : (side : Side) → HaveKey (tool.key side) k (g side)
   pub later : (side : Side) → IsLater tool.cmp (tool.key side) (AtLeast k) (d side)
 
 -- `extra` is a prefix of the group's entries, for all lines that may follow
@@ -238,7 +226,6 @@ module _ {tool : MergeTool} {old : MergeState} (w : IsOpenMerge tool old) {mid :
   rest_not_less side r c = EachKey-append _ (key side) (g side) r
       (Each-weaker _ _ (λ x is. rw is (self_at_most cmp o k)) _ (m.own side)) ((m.later side).may_follow r c)
 
-  -- two lists that continue the lines read so far
   module _ (all : Side → Lines)
       (seen : (side : Side) → IsFuture cmp (key side) (all side) (p side ++ g side) (d side)) where
     abbrev coming : Side → Lines
@@ -256,7 +243,7 @@ module _ {tool : MergeTool} {old : MergeState} (w : IsOpenMerge tool old) {mid :
     is_wanted = is_up_to cmp (disorder tool all)
 
     front_is_first : entries_by_key tool is_wanted p ≡ front
-    front_is_first = all_wanted tool is_wanted p (λ side. Each-weaker _ _ wanted _ (m.merge_invariant.under First side))
+    front_is_first = all_wanted tool _ p (λ side. Each-weaker _ _ wanted _ (m.merge_invariant.under First side))
 
     group_comes_first : {extra : Lines} → OutputStartsWith tool g d k extra → (rest : Lines)
         × (merged_entries tool all ≡ (front ++ extra) ++ rest)
@@ -282,9 +269,9 @@ module _ {tool : MergeTool} {old : MergeState} (w : IsOpenMerge tool old) {mid :
     wrote = m.merge_invariant.wrote;
     bytes = unlines terminator extra;
     more = wrote;
-    all = sym (unlines-append terminator front extra);
+    all = sym (unlines-append _ _ _);
     split = λ side. refl;
-    under = λ of side. Each-weaker _ _ (m.later of).under _ (passed_keys of side);
+    under = λ of side. Each-weaker _ _ (m.later of).under _ (passed_keys of _);
     under_bound = passed_keys;
     may_follow = rest_not_less;
     first = λ all seen. group_comes_first all seen begins;
@@ -318,12 +305,11 @@ head_of now cursor s = line now.store (cursor s).current_slot
 abbrev pub state_after_read : MergeState → Side → Reader → Output → Slots → MergeState
 state_after_read now s reader out store = record { reader = with_side s reader now.reader; out = out; store = store }
 
--- only the first four slots matter
 pub same_cursors : (tool : MergeTool) {old now : Side → Reader} {cursor : Side → Sorted} {before after : Slots}
     {ls p : Side → Lines} {b : Side → Bound} → SidesInvariant tool old now cursor before ls p b
     → 4 ≤ length after.lines → ((i : ℕ) → i < 4 → line after i ≡ line before i)
     → SidesInvariant tool old now cursor after ls p b
-same_cursors = grind (arith, low_slot)
+same_cursors = grind arith
 
 -- ---- the output of a group
 
@@ -334,10 +320,9 @@ module _ (call : JoinCall) {mid : Output} {p g : Side → Lines} {d : Side → B
   none_less : (r : Side → Lines) → MayCome tool d r → (side : Side) → EachKey (AtMost cmp k) (key side) (r side)
   none_less = grind arith
 
-  -- the pairs of a group come first, for all lines of its key that the first input still has
   starts_pairs : (f c s : Lines) → 0 < length s → (rest : Lines) × (entries k (f ++ c) s ≡ pairs k f s ++ rest)
   starts_pairs [] c s some = (entries k c s, rw (laws.none k s))
-  starts_pairs (a ∷ f) c s some = (pairs k c s, grind arith)
+  starts_pairs _ c s some = (pairs k c s, grind arith)
 
   pub starts_none : OutputStartsWith tool g d k []
   starts_none = record { rest = λ w r c wanted. (entries_by_key tool w (λ side. g side ++ r side), refl) }
@@ -346,7 +331,7 @@ module _ (call : JoinCall) {mid : Output} {p g : Side → Lines} {d : Side → B
       → OutputStartsWith tool g d k (pairs k (g First) (g Second))
   starts some above = record {
     rest = λ w r c wanted.
-        let none = lines_with_key-above tool o (key Second) k (r Second) (above (r Second) (c Second)) in
+        let none = lines_with_key-above tool o _ k _ (above (r Second) (c Second)) in
         let (rest, is) = starts_pairs (g First) (lines_with_key (key First) (r First) k) (g Second) some in (
           rest ++ later_entries tool o w k (call.w.alone.none k) r,
           front_is tool o w k (call.w.alone.none k) g r m.own (none_less r c)
@@ -382,13 +367,12 @@ module _ (call : JoinCall) {mid : Output} {p g : Side → Lines} {d : Side → B
       some_text xs [] none same = absurd (omega arith)
       some_text xs (y ∷ ys) some same = absurd (omega (arith, simp (unlines-append, length-append) at (ap length same)))
 
-  -- a group is complete if only greater keys follow
   pub closes : {is : Output} → ((side : Side) → 0 < length (g side))
       → ((side : Side) → IsAbove cmp (key side) k (d side))
       → PushEffect mid is (unlines call.terminator (pairs k (g First) (g Second)))
       → MergeInvariant tool d (λ side. p side ++ g side) call.old.out is
   closes some above wrote = (write_least_run o k _ g
-      (λ side. search (rules, m.own side, m.later side, rest_not_less call.w m, self_at_most)) (λ side. refl)
+      (λ side. search (rules, m.own side, rest_not_less call.w m, self_at_most)) (λ side. refl)
       (call.w.alone.none k)
       (λ r c.
       let none = λ (side : Side). lines_with_key-above tool o (key side) k (r side) (above side (r side) (c side)) in
@@ -426,8 +410,8 @@ module _ {call : JoinCall} {now : MergeState} {cursor : Side → Sorted} {end : 
 
   pub is_past : (s : Side) → ((cursor s).status ≡ Head → ¬ (key s (head_of now cursor s) ≡ k))
       → IsAbove cmp (key s) k (q.d s)
-  is_past s other = (current_key_is_above _ o _ k _ _ _ _ _ _ _
-      (by _ (q.sides s).status_is other) (q.sides s).status_is).0
+  is_past s other =
+      (current_key_is_above _ o _ k _ _ _ _ _ _ _ (by _ (q.sides s).status_is other) (q.sides s).status_is).0
     where
       under : IsUnder cmp (q.d s) k
       under = (q.within.later s).under k (self_at_most cmp o k)
@@ -435,7 +419,7 @@ module _ {call : JoinCall} {now : MergeState} {cursor : Side → Sorted} {end : 
       by : (t : CursorStatus) → MatchesStatus cmp (key s) t (cursor s) now.store (now.reader s) (q.ls s) (q.p s ++ g s)
           (q.d s) → (t ≡ Head → ¬ (key s (head_of now cursor s) ≡ k))
           → PrecedesInput cmp k t (key s (head_of now cursor s)) (key s (line now.store (cursor s).previous_slot))
-      by = search (rules, under)
+      by = search rules
 
   pub end_in : (4 ≤ end) × (end ≤ length now.store.lines)
   end_in = (omega arith, end_within q.keeps q.at)
@@ -472,7 +456,7 @@ module _ {call : JoinCall} {now : MergeState} {cursor : Side → Sorted} {end : 
   pub with_head : q.ls s ≡ q.p s ++ (g s ++ head_of now cursor s ∷ [])
   with_head = at_head.all ∙ append_assoc (q.p s) (g s) (x ∷ [])
 
-  pub own_more : (side : Side) → EachKey (λ z. z ≡ k) (key side) (added side)
+  pub own_more : (side : Side) → HaveKey (key side) k (added side)
   own_more = grind (usual, q.within.own, l.is)
 
   pub within_more : OutputInGroup tool old.out q.mid q.p added q.d k
@@ -498,10 +482,10 @@ module _ {call : JoinCall} {now : MergeState} {cursor : Side → Sorted} {end : 
     gone_to = next_at o q.sides s l.head comes
 
     pub last_stays : line after next.previous_slot ≡ head_of now cursor s
-    last_stays = grind (arith, gone_to.stored, line_other)
+    last_stays = grind (arith, line_other)
 
     says : next.same ≡ (is_head next.status && bytes_eq k (key s (line after next.current_slot)))
-    says = grind (arith, line_of_with_line, equal_is, low_slot, at_head, (q.sides s).slots)
+    says = grind (arith, line_of_with_line, equal_is, low_slot, at_head)
 
     pub continues_key : next.same ≡ true → (next.status ≡ Head) × (key s (line after next.current_slot) ≡ k)
     continues_key same = grind (arith, has_key, says)

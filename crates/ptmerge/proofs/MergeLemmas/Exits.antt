@@ -1,24 +1,20 @@
--- The invariant of one input of a merge, which holds again after its next line; the bound of the lag, by which all
--- output is written that was decided two blocks earlier; and the exits of a tool. At an exit the lines read, the
--- processed ones and a bound on the others are known for each input; the contract of the tool follows from these and
--- from the output.
+-- The bound of the lag; the invariant of one input, which holds again after its next line; and the exits of a tool,
+-- whose contract follows from the lines read, the processed ones, a bound on the others, and the output.
 pub mod Invariant
 pub mod SlotLines
 use Rattle.ptmerge.proofs
 use Rattle.ptmerge.specs
-pub use proofs.Common.{⊎_elim, IsPrefix, nat_tests, length_push, line_of_with_line, CursorStatus, Head}
+pub use proofs.Common.{⊎_elim, IsPrefix, length_push, line_of_with_line, CursorStatus, Head}
 pub use proofs.Common.{Ended, Disorder, status_at, same_key_at, NextOkPost, Result, Err, Memory, advance_trans, Write}
 pub use proofs.Common.{MergeFault, lines_of, MergeState, MergePost, merge_state, terminator}
 use Rattle.ptlines.proofs.LineSearch.{IsLine-append}
-use specs.Calls.MergeSpec.{decided_output, decided_entries, merge_output}
-use specs.Calls.MergeSpec.{lines_decide_disorder, disorder_is_decided}
+use specs.Calls.MergeSpec.{decided_output, decided_entries, merge_output, lines_decide_disorder, disorder_is_decided}
 use Rattle.ptlines.proofs.Calls.{call_ends, call_set, call_without_slots, given_before, given_by, CallProgress}
 use Rattle.ptlines.proofs.Calls.{DecidedIfReadFailed, call_on_failed_output}
 use Rattle.std.proofs.lemmas.List.{append_cancel_right, map-append}
 use Rattle.ptlines.proofs.Lag.{bounded_lag_after}
 use Rattle.ptlines.proofs.Received.{has_received}
 use Rattle.ptlines.specs.Received.{HasReceived}
-use Rattle.std.specs.Io.KnownBytes.{prepend_known, IsAtEnd}
 use specs.declared.faults.MergeFault.TheVariants as faults
 use Rattle.ptlines.specs.Calls.Engines.{CallEnd, ReadFault, AreAllConsistent}
 use Rattle.ptlines.proofs.TextLaws.{complete_lines_of_unlines, the_lines}
@@ -42,33 +38,27 @@ use Rattle.ptlines.specs.declared.sizes.TheConstants.{BLOCK}
 
 sorted_from_after : (cmp : Cmp) (key : Key) (last : Option (List ℕ)) (ls : Lines)
     → IsSortedFrom cmp key last (sorted_after cmp key last ls)
-sorted_from_after cmp key last [] = tt
+sorted_from_after cmp key _ [] = tt
 sorted_from_after cmp key last (x ∷ ls) = grind (arith, sorted_from_after cmp key (Some (key x)) ls)
 
 sorted_from_parts : (cmp : Cmp) (key : Key) (last : Option (List ℕ)) (xs ys : Lines)
     → IsSortedFrom cmp key last (xs ++ ys) → IsSortedFrom cmp key last xs
     × IsSortedFrom cmp key (last_or last (map key xs)) ys
-sorted_from_parts cmp key last [] ys r = (tt, r)
+sorted_from_parts cmp key _ [] ys r = (tt, r)
 sorted_from_parts cmp key last (x ∷ xs) ys (here, more) = grind (arith, sorted_from_parts cmp key _ xs ys more)
 
 module _ (cmp : Cmp) (o : IsKeyOrder cmp) (key : Key) where
-  pub from_key : (k : List ℕ) (ls : Lines) → IsSortedFrom cmp key (Some k) ls → EachKey (AtMost cmp k) key ls
-  from_key k [] r = tt
-  from_key k (x ∷ ls) (here, more) =
-      (here, Each-weaker _ _ (λ y h. at_most_trans cmp o k (key x) y here h) _ (from_key (key x) ls more))
-
   none_below : (xs ys : Lines) → IsSortedFrom cmp key None (xs ++ ys)
       → EachKey (λ k. is_below cmp k (last_or None (map key xs)) ≡ false) key ys
   none_below xs ys r =
       let (_, rest) = sorted_from_parts cmp key _ xs ys r in by _ rest
     where
       by : (l : Option (List ℕ)) → IsSortedFrom cmp key l ys → EachKey (λ k. is_below cmp k l ≡ false) key ys
-      by None h = Each-all _ (λ k. refl) (map key ys)
-      by (Some x) h = Each-weaker _ _ (λ k a. not_below cmp o k x a) _ (from_key x ys h)
+      by None h = Each-all _ (λ k. refl) _
+      by (Some x) h = Each-weaker _ _ (λ k a. not_below cmp o k x a) _ (from_key cmp o key x ys h)
 
 -- ---- the bytes received
 
--- all lines have their terminator, or the last one lacks it
 abbrev Shape : ℕ → List ℕ → Lines → Type 0
 Shape end given ls = AreLines end ls × ((given ≡ unlines end ls) ⊎ (given ++ end ∷ [] ≡ unlines end ls))
 
@@ -78,7 +68,7 @@ last_of (x ∷ xs) = ⊎_elim (λ none. inr ([], x, cc)) (λ (front, y, is). inr
 
 are_split : (end : ℕ) (xs : Lines) (x : List ℕ) → AreLines end (xs ++ x ∷ []) → AreLines end xs × IsLine end x
 are_split end [] x (line, _) = (tt, line)
-are_split end (y ∷ xs) x (line, more) = let (front, last) = are_split end xs x more in ((line, front), last)
+are_split end (y ∷ xs) x (line, more) = grind (arith, are_split end xs x more)
 
 -- the input at most two blocks earlier: it had not ended, and all its complete lines are processed
 pub record LagPoint (end : ℕ) (given : Received) (p : Lines) : Type 0 where
@@ -96,7 +86,6 @@ module _ (end : ℕ) (given piece : List ℕ) (ls p : Lines) (now new : Reader) 
   abbrev Point : Type 0
   Point = LagPoint end (received_with (given ++ piece) new) p
 
-  -- complete lines, a part of a line, and `last`, which is left out
   point : (whole : Lines) (tail last : List ℕ)
       → (given ++ piece) ++ new.buffered ≡ (unlines end whole ++ tail) ++ last → length last ≤ BLOCK + 1
       → AreLines end whole → IsLine end tail → (rest : Lines) → p ≡ whole ++ rest → Point
@@ -113,7 +102,6 @@ module _ (end : ℕ) (given piece : List ℕ) (ls p : Lines) (now new : Reader) 
     split = rw (complete_lines_of_unlines end _ _ all line) split;
   }
 
-  -- the last line lacks its terminator
   open_line : (w : Lines) (y : List ℕ) → ls ≡ w ++ y ∷ [] → AreLines end ls → given ++ end ∷ [] ≡ unlines end ls
       → (rest : Lines) → p ≡ w ++ rest → Point
   open_line w y last all is rest split =
@@ -152,13 +140,12 @@ pub record Differ (tool : MergeTool) (last : Option (List ℕ)) (key : Key) (xs 
   pub none_rest : EachKey (λ k. is_below tool.cmp k last ≡ false) key rest
   pub none_tail : EachKey (λ k. is_below tool.cmp k last ≡ false) key tail
 
--- if one list is in order, the reported disorder is that of the other
 of_other : (cmp : Cmp) (s : Side) (f : Side → Option FirstDisorder) (test : Option MergeDisorder → Bool) → f s ≡ None
     → test None ≡ false
     → ((d : FirstDisorder) → f (other s) ≡ Some d → test (Some (record { file = other s; first_disorder = d })) ≡ false)
     → test (earlier_disorder cmp (f First) (f Second)) ≡ false
-of_other cmp First f test none calm some = grind (arith, some)
-of_other cmp Second f test none calm some = grind (arith, some)
+of_other cmp First f test none calm some = grind arith
+of_other cmp Second f test none calm some = grind arith
 
 module _ (tool : MergeTool) (o : IsKeyOrder tool.cmp) (eof : Side → Bool) (ls : Side → Lines) (of : Side)
     (going : eof of ≡ false) (no_disorder : first_disorder tool.cmp (tool.key of) (ls of) ≡ None) where
@@ -173,12 +160,10 @@ module _ (tool : MergeTool) (o : IsKeyOrder tool.cmp) (eof : Side → Bool) (ls 
       → IsPrefix (unlines terminator (decided_entries tool eof ls)) (output_of tool p)
   decided_of_passed p differ =
       let dec = is_decided tool eof ls in
-      let down = downward_decided tool o eof ls in
       let rest = entries_by_key tool (λ k. not (dec k)) p in
-      let is = downward_splits tool o all_keys dec down p in
+      let is = downward_splits tool o all_keys dec (downward_decided tool o eof ls) p in
       let none = λ (side : Side) (l : Lines) (e : EachKey _ (tool.key side) l). kept_none dec (tool.key side) l
       (Each-weaker _ _ undecided _ e) in
-      -- the lists differ only in lines that are left out
       let kept = λ (side : Side). (let d = differ side in
       simp (filter-append, none side d.rest d.none_rest, none side d.tail d.none_tail, append-nil) at
       (ap (filter (λ line. dec (tool.key side line))) d.same)) in
@@ -194,7 +179,6 @@ module _ (tool : MergeTool) (o : IsKeyOrder tool.cmp) (eof : Side → Bool) (ls 
   not_settled : EachKey (λ k. IsDisorderFrom cmp k (first_disorder cmp (tool.key (other of)) (ls (other of))))
       (tool.key of) (ls of) → lines_decide_disorder tool eof ls (disorder tool ls) ≡ false
   not_settled up =
-      -- a bound of all keys is not below the last one
       let above = λ (e : List ℕ) (most : EachKey _ (tool.key of) (ls of)).
       (let (below, _) = past_none cmp o (tool.key of) (λ k. k) (AtLeast e) (ls of) (e ∷ []) most
       (self_at_most cmp o e, tt) in undecided e below) in
@@ -204,7 +188,7 @@ module _ (tool : MergeTool) (o : IsKeyOrder tool.cmp) (eof : Side → Bool) (ls 
 -- ---- the output decided two blocks earlier
 
 front_has : (P : List ℕ → Type 0) (key : Key) (xs ys : Lines) → EachKey P key (xs ++ ys) → EachKey P key xs
-front_has P key xs ys e = let (front, _) = Each-parts P (map key xs) (map key ys) (rw map-append at e) in front
+front_has P key xs ys e = (Each-parts P _ _ (rw map-append at e)).0
 
 -- `q` are the processed lines; the output for the first of them is complete, and the rest of `q` follows it
 module _ {tool : MergeTool} (o : IsKeyOrder tool.cmp) (given : Side → Received) {b : Side → Bound} {q : Side → Lines}
@@ -212,7 +196,6 @@ module _ {tool : MergeTool} (o : IsKeyOrder tool.cmp) (given : Side → Received
     → IsFuture tool.cmp (tool.key side) (known_lines tool.terminator (given side)) (q side) (b side)) where
   open tool use {cmp, terminator}
 
-  -- the lines whose output is not complete, and then lines that may follow
   abbrev to_come : Side → Lines
   to_come side = lag.tail side ++ (seen side).rest
 
@@ -235,7 +218,6 @@ module _ {tool : MergeTool} (o : IsKeyOrder tool.cmp) (given : Side → Received
         past_none cmp o (tool.key of) _ (lag.bound side) whole _ (front_has _ _ _ _
         (rw point.split at (lag.under_bound side of))) (lag.may_follow side _ (seen side).may_follow)
 
-    -- only lines whose keys are not below `last` differ from the processed ones
     abbrev Differs : Side → Received → Type 0
     Differs side g =
         Differ tool last (tool.key side) (sorted_prefix cmp (tool.key side) (known_lines terminator g)) (lag.front side)
@@ -244,12 +226,11 @@ module _ {tool : MergeTool} (o : IsKeyOrder tool.cmp) (given : Side → Received
     others side = record {
       rest = [];
       tail = to_come side;
-      same = grind (arith, append-nil, lag.split side, append_assoc);
+      same = grind (arith, append-nil, append_assoc);
       none_rest = tt;
       none_tail = above _;
     }
 
-    -- the input `of` as it was at `point`
     module _ (mix : Side → Received) (own : mix of ≡ point.before.earlier) where
       whole_now : known_lines terminator (mix of) ≡ whole
       whole_now = rw own
@@ -275,7 +256,7 @@ module _ {tool : MergeTool} (o : IsKeyOrder tool.cmp) (given : Side → Received
     unsettled =
         let up = Each-weaker _ (λ k. IsDisorderFrom cmp k (first_disorder cmp (tool.key (other of))
         (known_lines terminator (given (other of)))))
-        (λ k u. grind (arith, at_most_trans)) _ (lag.under (other of) of) in
+        (λ k u. grind arith) _ (lag.under (other of) of) in
         let mix = with_side of point.before.earlier given in
         let own = put_same of _ _ in (
           point.before,
@@ -286,7 +267,6 @@ module _ {tool : MergeTool} (o : IsKeyOrder tool.cmp) (given : Side → Received
 
 -- ---- the cursor of one input
 
--- all lines before the current line `x` are processed
 pub record IsAtCurrentLine (cmp : Cmp) (key : Key) (number : ℕ) (x : List ℕ) (ls p : Lines) (b : Bound) : Type 0 where
   pub all : ls ≡ p ++ x ∷ []
   pub sorted_up_to : IsSortedUpTo cmp key ls (Some (key x))
@@ -335,7 +315,6 @@ abbrev pub bound_after : Option (List ℕ) → Bound
 bound_after None = NoBound
 bound_after (Some k) = AtLeast k
 
--- the current line is the last one read, or none was read
 abbrev pub IsLastKey : Key → Option (List ℕ) → Sorted → Slots → Type 0
 IsLastKey key None cursor store = cursor.number ≡ 0
 IsLastKey key (Some k) cursor store = (0 < cursor.number) × (k ≡ key (line store cursor.current_slot))
@@ -346,7 +325,6 @@ reads_left Head = 1
 reads_left Ended = 0
 reads_left (Disorder n) = 0
 
--- the next line is read, and all earlier ones are processed
 pub record SideAfterNext (tool : MergeTool) (s : Side) (old new : Reader) (cursor : Sorted) (slot : ℕ)
     (before after : Slots) (ls : Lines) (last : Option (List ℕ)) : Type 0 where
   pub now_ls : Lines
@@ -388,14 +366,12 @@ module _ (tool : MergeTool) (o : IsKeyOrder tool.cmp) (s : Side) (old now new : 
   Goal last q = SideAfterNext tool s old new q cursor.previous_slot before after ls last
 
   at_next : (last : Option (List ℕ)) (more : Lines) (bytes : List ℕ) (status : CursorStatus) (number : ℕ) (same : Bool)
-      (b : Bound)
-      → LinesRead tool.terminator old new (ls ++ more) → HasBegun new (ls ++ more) → IsSound new
-      → ProcessedNearly (ls ++ more) ls [] → number ≡ length (ls ++ more)
-      → IsProcessedPrefix cmp own (ls ++ more) ls b
+      (b : Bound) → LinesRead tool.terminator old new (ls ++ more) → HasBegun new (ls ++ more) → IsSound new
+      → ProcessedNearly (ls ++ more) ls [] → number ≡ length (ls ++ more) → IsProcessedPrefix cmp own (ls ++ more) ls b
       → MatchesStatus cmp own status (next_cursor status number same) after new (ls ++ more) ls b
       → IsLater cmp own (bound_after last) b → after ≡ with_line before cursor.previous_slot bytes
       → length bytes ≤ max_length (ls ++ more) → Goal last (next_cursor status number same)
-  at_next = grind (arith, reads_nothing, length-set)
+  at_next = grind (arith, length-set)
 
   low : AreLow cursor
   low = low_slot s _ slots
@@ -406,7 +382,7 @@ module _ (tool : MergeTool) (o : IsKeyOrder tool.cmp) (s : Side) (old now new : 
         → IsProcessedPrefix cmp own (ls ++ e.line ∷ []) ls b
         → MatchesStatus cmp own status (next_cursor status (cursor.number + 1) same) after new (ls ++ e.line ∷ []) ls b
         → IsLater cmp own (bound_after last) b → Goal last (next_cursor status (cursor.number + 1) same)
-    at_status last status b processed status_is later =
+    at_status _ _ b processed status_is later =
         at_next _ _ _ _ _ _ b (lines_read_more lines_read e)
         (inr (omega (arith, length_push ls e.line))) sound (inr (e.line, refl, refl))
         (omega (arith, length_push ls e.line)) processed status_is later e.stored
@@ -417,25 +393,25 @@ module _ (tool : MergeTool) (o : IsKeyOrder tool.cmp) (s : Side) (old now new : 
         → Goal last (next_cursor (cond t (Disorder (cursor.number + 1)) Head) (cursor.number + 1) same)
     at_line last sorted_up_to is false none =
         let more : IsSortedUpTo cmp own (ls ++ e.line ∷ []) (Some (own e.line)) =
-        grind (arith, append_assoc, length_push, sorted_up_to) in
-        at_status _ _ _ (grind (arith, append_assoc, after_from, more, self_at_most))
+        grind (arith, append_assoc, length_push) in
+        at_status _ _ _ (grind (arith, append_assoc, after_from, more))
         (grind (arith, line_of_with_line)) (from_next o own _ _ none)
     at_line None sorted_up_to is true disordered = cc
     at_line (Some k) sorted_up_to is true disordered =
         at_status (Some k) (Disorder (cursor.number + 1))
         (AfterDisorder (record { last_key = k; line = length ls + 1 }))
-        (grind (arith, append_assoc, sorted_up_to)) (grind (arith, line_other, low)) (grind arith)
+        (grind (arith, append_assoc)) (grind (arith, line_other)) (grind arith)
 
   pub next_invariant : {last : Option (List ℕ)} → LinesRead tool.terminator old now ls → cursor.number ≡ length ls
       → IsSortedUpTo cmp own ls last → IsLastKey own last cursor before
       → NextOkPost own cmp cursor next now new before after → Goal last next
   next_invariant {last} lines_read number sorted_up_to is (inl e) =
-      rw (e.cursor, status_after_next cmp own last cursor before e.next_line.line is)
+      rw (e.cursor, status_after_next cmp own _ _ _ _ is)
       (at_line e.next_line e.sound lines_read number _ _ sorted_up_to is _ refl)
   next_invariant lines_read number sorted_up_to is (inr e) =
       rw e.cursor (at_next _ [] [] Ended cursor.number false NothingMore (search rules) (inl e.done) e.sound
       (inl (append-nil ls)) (simp append-nil number) (grind usual) (refl, e.done)
-      (grind (arith, may_follow_none))
+      (grind arith)
       e.empty (omega arith))
 
 pub group_store_next : {tool : MergeTool} {before store after : Slots} {ls : Side → Lines} {g : Lines}
@@ -443,7 +419,7 @@ pub group_store_next : {tool : MergeTool} {before store after : Slots} {ls : Sid
     → GroupStore tool before store ls g
     → (n : SideAfterNext tool s old new next cursor.previous_slot store after (ls s) last)
     → GroupStore tool before after (with_side s n.now_ls ls) g
-group_store_next s cursor slots k n = search (rules, group_store_line, side_extends, put_same)
+group_store_next s _ slots k n = search (rules, group_store_line, side_extends, put_same)
 
 -- ---- an exit
 
@@ -462,7 +438,7 @@ Fits tool before now ls piece after = (all : Side → Lines)
     → ((side : Side) → HoldsLines (now side) (ls side) (piece side) (all side)) → FitsIn tool before after all
 
 pub extends : {now : Reader} {ls all : Lines} {piece : List ℕ} → HoldsLines now ls piece all → Extends ls all
-extends w = record { more = w.continues.more; is = w.continues.is }
+extends w = grind arith
 
 module _ {tool : MergeTool} {before store : Slots} {ls : Side → Lines} {g : Lines}
     (k : GroupStore tool before store ls g) {now : Side → Reader} where
@@ -491,16 +467,7 @@ IsFaultBehind real out after (faults.Disorder side number) = ⊥
 
 behind : {was virtual real : Reader} {given : Received} → virtual ≡ record real { buffered = virtual.buffered }
     → HasReceived was virtual given → HasReceived was real given
-behind {was} {virtual} {real} {given} same h = record {
-  moved = h.moved ∙ ap (λ (r : Reader). prepend_known given.bytes r.left) same;
-  count = ap (λ (r : Reader). r.pulled + length was.buffered) (sym same) ∙ h.count;
-  eof = h.eof ∙ ap (λ (r : Reader). r.eof) same;
-  refused = ap (λ (r : Reader). r.refused) (sym same) ∙ h.refused;
-  still = λ ended. let (none, eof) = h.still ended in
-      (ap (λ (r : Reader). r.pulled) (sym same) ∙ none, ap (λ (r : Reader). r.eof) (sym same) ∙ eof);
-  end = λ before ended. subst (λ (r : Reader). IsAtEnd r.left) same
-      (h.end before (ap (λ (r : Reader). r.eof) same ∙ ended));
-}
+behind same h = grind (arith, h)
 
 -- The second input is unread until the first has begun; until the second has, at most one line of the first was read.
 pub record FirstReads (end : ℕ) (old now new : Side → Reader) (ls : Side → Lines) (piece : Side → List ℕ) : Type 0 where
@@ -514,7 +481,6 @@ both_begun = search rules
 pub record IsOpenMerge (tool : MergeTool) (old : MergeState) : Type 0 where
   pub o : IsKeyOrder tool.cmp
   pub alone : IsLineByLine tool.entries
-  -- the measure has room for two lines of each input
   pub fits : (ls : Side → Lines) → HasRoom tool [] ls
   pub terminator : (side : Side) → (old.reader side).terminator ≡ tool.terminator
   pub sound : (side : Side) → IsSound (old.reader side)
@@ -552,7 +518,7 @@ module _ {tool : MergeTool} {old : MergeState} (w : IsOpenMerge tool old) (new :
 
   pub continues : (texts : Side → List ℕ) → AreAllConsistent both_sides given texts → (side : Side)
       → Continues (now side) (ls side) (lines tool.terminator (texts side))
-  continues texts agree side = (input_lines _ agree _).continues
+  continues _ agree _ = (input_lines _ agree _).continues
 
   known : (side : Side) → KnownLines (g side).lines_read (g side).reads (g side).line
       (known_lines tool.terminator (given side))
@@ -561,6 +527,9 @@ module _ {tool : MergeTool} {old : MergeState} (w : IsOpenMerge tool old) (new :
   whole_input_split : (side : Side)
       → IsFuture cmp (key side) (known_lines tool.terminator (given side)) (p side) (b side)
   whole_input_split = input_split_of _ (λ side. (known _).known)
+
+  has_line : (side : Side) → HasBegun (now side) (ls side) → ¬ HasNoLine tool.terminator (given side)
+  has_line side = begun_gives_line (g side).lines_read (g side).reads (g side).line
 
   backs : (side : Side) → LagPoint tool.terminator (given side) (p side)
   backs side = back _ _ _ _ _ _ (new.reader side) (g side).lines_read.so_far
@@ -594,9 +563,9 @@ module _ {tool : MergeTool} {old : MergeState} (w : IsOpenMerge tool old) (new :
           };
           going = f.eof;
           rest = [];
-          split = rw ((known side).exact f.buffered f.eof, f.all) (sym (append-nil (p side)));
+          split = rw ((known _).exact f.buffered f.eof, f.all) (sym (append-nil (p side)));
         } in
-        decided_by w.o given lag whole_input_split side point given refl refl
+        decided_by w.o given lag whole_input_split _ point given refl refl
 
     progress : Fits tool old.store now ls piece new.store
         → CallProgress both_sides (merge_engine tool) old new took (unlines tool.terminator done)
@@ -607,11 +576,10 @@ module _ {tool : MergeTool} {old : MergeState} (w : IsOpenMerge tool old) (new :
       writable = w.writable;
       wrote = rw lag.all at (push_trans _ _ _ _ _ lag.clean lag.wrote lag.more);
       is_prefix = λ texts agree.
-          let come = lag.first _ (input_split_of (lines_of tool texts) (continues texts agree)) in
+          let come = lag.first _ (input_split_of _ (continues _ agree)) in
           search (rules, unlines-append);
-      -- everything was written that was decided two blocks of an input earlier
       bounded_lag = λ of read. rw lag.all at (bounded_lag_after _ _ old.out lag.mid _
-          (lag_bound w.o given lag whole_input_split of (backs of)) lag.wrote lag.clean new.out lag.bytes lag.more);
+          (lag_bound w.o given lag whole_input_split of (backs of)) lag.wrote lag.clean _ _ lag.more);
       peak = λ texts agree. (fits (lines_of tool texts) (input_lines _ agree)).0;
       slots = λ texts agree. (fits (lines_of tool texts) (input_lines _ agree)).1;
       least = omega (arith, has);
@@ -630,7 +598,7 @@ module _ {tool : MergeTool} {old : MergeState} (w : IsOpenMerge tool old) (new :
         → CallOutcome both_sides (merge_engine tool) old new given (unlines tool.terminator done) (merge_end result)
         → MergePost tool old new result
     unfolding call_ends
-    exit_is_merge_post fits order failed result ends = record {
+    exit_is_merge_post fits order failed _ ends = record {
       call = grind (arith, call_ends, progress, by);
       stops_at_disorder = λ of clean_then. unsettled w.o given lag whole_input_split of (backs of);
       first_reads = λ clean_then. record {
@@ -647,9 +615,6 @@ module _ {tool : MergeTool} {old : MergeState} (w : IsOpenMerge tool old) (new :
         by (ReadFault input) = λ side read fail. decided _ (failed side fail)
         by other = tt
 
-        has_line : (side : Side) → HasBegun (now side) (ls side) → ¬ HasNoLine tool.terminator (given side)
-        has_line side begun none = begun_gives_line (g side).lines_read (g side).reads (g side).line begun none
-
     -- A fault while bytes are still buffered that the readers have consumed here: `real` are the readers then.
     pub exit_behind : Fits tool old.store now ls piece new.store → ((side : Side) → HasBegun (now side) (ls side))
         → (real : Side → Reader)
@@ -663,53 +628,34 @@ module _ {tool : MergeTool} {old : MergeState} (w : IsOpenMerge tool old) (new :
         untouched = λ side none. cc;
         pushed = unlines tool.terminator done;
         wrote = moves.wrote;
-        ends = outcome_behind fault ends;
+        ends = (ends_behind fault ends).0;
         is_prefix = moves.is_prefix;
-        decided_is_written = λ side read fail clean_then. absurd (calm_behind fault ends side fail);
+        decided_is_written = λ side read fail clean_then. cc ((ends_behind fault ends).1 side);
         bounded_lag = λ side read clean_then. moves.bounded_lag side read;
         peak = moves.peak;
         slots = moves.slots;
         added = λ clean_then. record { least = moves.least; all = λ allowed. moves.room };
-        unread = λ clean_then few. absurd (omega (arith, few, moves.room));
-        terminator = λ side read clean_then.
-            ap (λ r. r.terminator) (sym (same side)) ∙ (moves.reads side read).terminator ∙ w.terminator side;
+        unread = λ clean_then few. absurd (omega (arith, moves.room));
+        terminator = grind arith;
         unchanged_if_failed = λ failed_then. cc w.writable;
       };
       stops_at_disorder = λ of clean_then. unsettled w.o given lag whole_input_split of (backs of);
       first_reads = λ clean_then. record {
-        second_unread = λ none. absurd (begun_gives_line (g First).lines_read (g First).reads (g First).line
-            (begun First) none);
-        first_waits = λ none. absurd (begun_gives_line (g Second).lines_read (g Second).reads (g Second).line
-            (begun Second) none);
+        second_unread = λ none. absurd (has_line First (begun First) none);
+        first_waits = λ none. absurd (has_line Second (begun Second) none);
       };
     }
       where
         moves : CallProgress both_sides (merge_engine tool) old new took (unlines tool.terminator done)
         moves = progress fits
 
-        outcome_behind : (fault : MergeFault) → IsFaultBehind real new.out new.store fault
+        ends_behind : (fault : MergeFault) → IsFaultBehind real new.out new.store fault
             → CallOutcome both_sides (merge_engine tool) old (state_by_side real new.out new.store) given
-            (unlines tool.terminator done) (merge_end (Err fault))
-        outcome_behind Write e = record {
-          write_failed = e.write_failed;
-          unfailed = λ side read. e.unfailed side ∙ sym (w.unfailed side);
-          not_denied = e.not_denied;
-        }
-        outcome_behind Memory e = record {
-          denied = e.denied;
-          unfailed = λ side read. e.unfailed side ∙ sym (w.unfailed side);
-          clean = e.clean;
-          left = λ enough. inl (e.side, refl, e.left);
-        }
-        outcome_behind (faults.Read s) e = elim e [ ]
-        outcome_behind (faults.Disorder s n) e = elim e [ ]
-
-        calm_behind : (fault : MergeFault) → IsFaultBehind real new.out new.store fault → (side : Side)
-            → (real side).failed ≡ true → ⊥
-        calm_behind Write e side fail = cc (e.unfailed side)
-        calm_behind Memory e side fail = cc (e.unfailed side)
-        calm_behind (faults.Read s) e side fail = elim e [ ]
-        calm_behind (faults.Disorder s n) e side fail = elim e [ ]
+            (unlines tool.terminator done) (merge_end (Err fault)) × ((side : Side) → (real side).failed ≡ false)
+        ends_behind Write e = (search (rules, w.unfailed), e.unfailed)
+        ends_behind Memory e = (search (rules, w.unfailed), e.unfailed)
+        ends_behind (faults.Read s) e = elim e [ ]
+        ends_behind (faults.Disorder s n) e = elim e [ ]
 
 -- ---- the ends before the start
 
@@ -722,7 +668,7 @@ pub merge_set : {tool : MergeTool} {first second set1 set2 : Reader} {out : Outp
 unfolding call_set
 merge_set {tool} {first} {second} {set1} {set2} {new = new} zero_byte end clean is1 is2 m =
     let is : (side : Side) → both set1 set2 side ≡ record (both first second side) { terminator = tool.terminator } =
-    λ side. grind (arith, is1, is2) in record {
+    λ side. grind (arith, is2) in record {
       call = call_set both_sides _ refl _ _ new clean refl refl (λ side read. is side) (λ side none. cc) m.call;
       stops_at_disorder = m.stops_at_disorder;
       first_reads = grind arith;

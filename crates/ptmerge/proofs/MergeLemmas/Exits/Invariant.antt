@@ -1,12 +1,10 @@
--- The invariant of a merge, and what it is built on: keys and lines in order, the least key, the lines that may follow
--- in an input (`Bound`), and the output for some of the keys. No line that may follow has a lesser key than a
--- processed one, so the output for the processed lines is a prefix of the output for all inputs that begin with the
--- lines read. Also the invariant if a write may have failed (`LagInvariant`), and which keys are decided.
+-- The invariant of a merge. No line that may follow in an input (`Bound`) has a lesser key than a processed one, so the
+-- output for the processed lines is a prefix of the output for all inputs that begin with the lines read.
 use Rattle.ptmerge.proofs
 use Rattle.ptmerge.specs
 use Rattle.std.proofs.lemmas
 pub use proofs.Common.{◌≡◌, ◌⊎◌, inr, ℕ, List, Bool, true, false, refl, ◌∙◌, ap, arith, bytes_eq, Less, Equal, Greater}
-pub use proofs.Common.{is_eq, is_gt, is_le, bytes_decides, tied_itself, Cmp, byte_cmp, line_cmp, ◌<◌, length, get_or}
+pub use proofs.Common.{is_eq, is_gt, is_le, bytes_decides, tied_itself, Cmp, line_cmp, ◌<◌, length, get_or}
 pub use proofs.Common.{suc, zero, [], ◌∷◌, ◌++◌, cond, map, append_assoc, append-nil, filter, flat_map, Side, First}
 pub use proofs.Common.{Second, Lines, MergeTool, distinct_keys, keys, lines_with_key, entries_of_key, entries_by_key}
 pub use proofs.Common.{Key, ◌+◌, Option, Some, None, nat_lt, unwrap_or, if◌then◌else◌, last_or, sorted_prefix, usual}
@@ -14,20 +12,15 @@ pub use proofs.Common.{first_disorder, FirstDisorder, ◌&&◌, not, sym, flat_m
 pub use proofs.Common.{PushEffect, unlines, push_trans, push_nothing, unlines-append, disorder, merged_entries}
 pub use proofs.Common.{option_map, with_side, disordered_line, inl}
 use Rattle.std.specs.Cmp.{IsTotalOrder}
-use specs.Private.OrderLaws.{reversed_same_bytes}
 use Rattle.ptlines.specs.Private.ByteOrder.{byte_cmp_equal}
 pub use Rattle.std.proofs.Common.{rules}
-use proofs.MergeLemmas.Exits.SlotLines.{put_each}
-pub use specs.Private.BlockLines.{AtMost, Each, EachKey, IsSortedFrom, is_disordered}
+pub use specs.Private.BlockLines.{AtMost, Each, EachKey, HaveKey, IsSortedFrom, is_disordered}
 pub use specs.MergeSpec.{MergeDisorder, is_past, earlier_disorder, insert_key, is_below}
 pub use specs.Calls.MergeSpec.{is_decided}
 use lemmas.Cmp.{back_total, nat_list_cmp_total, upto}
 pub use lemmas.List.Elements.{filter-append}
 pub use Rattle.std.specs.declared.cmp.Ordering.{Ordering}
 
--- ---- keys in order
-
--- Distinct keys are sorted, so the entries of the least key come first, and then those of the lines with other keys.
 
 pub record IsKeyOrder (cmp : Cmp) : Type 0 where
   pub total : IsTotalOrder cmp
@@ -63,7 +56,7 @@ module _ (cmp : Cmp) (o : IsKeyOrder cmp) where
   less_flips = search rules
 
 pub line_order : (descending : Bool) → IsKeyOrder (line_cmp descending)
-line_order = grind (arith, back_total, nat_list_cmp_total, reversed_same_bytes, byte_cmp_equal)
+line_order = grind (arith, back_total, nat_list_cmp_total, byte_cmp_equal)
 
 -- ---- the least key
 
@@ -102,10 +95,10 @@ Each-distinct : (cmp : Cmp) (P : List ℕ → Type 0) (xs : Lines) → Each P xs
 Each-distinct cmp P [] e = tt
 Each-distinct cmp P (x ∷ xs) (here, more) = Each-insert cmp P x (distinct_keys cmp xs) here (Each-distinct _ P xs more)
 
-module _ (cmp : Cmp) (o : IsKeyOrder cmp) where
-  insert_least : (k : List ℕ) (ds : Lines) → Each (Above cmp k) ds → insert_key cmp k ds ≡ k ∷ ds
-  insert_least k [] a = refl
-  insert_least k (d ∷ ds) (here, _) = rw (greater_flips cmp o d k here)
+insert_least : (cmp : Cmp) → IsKeyOrder cmp → (k : List ℕ) (ds : Lines) → Each (Above cmp k) ds
+    → insert_key cmp k ds ≡ k ∷ ds
+insert_least cmp o k [] a = refl
+insert_least cmp o k (d ∷ ds) (here, _) = rw (greater_flips cmp o d k here)
 
 pub kept_none : (w : List ℕ → Bool) (key : Key) (ls : Lines) → EachKey (λ k. w k ≡ false) key ls
     → filter (λ line. w (key line)) ls ≡ []
@@ -122,58 +115,54 @@ module _ (tool : MergeTool) (o : IsKeyOrder tool.cmp) where
 
 -- ---- lines in order
 
--- after a line with the key `last`, if there is one
-abbrev pub sorted_after : Cmp → Key → Option (List ℕ) → Lines → Lines
-sorted_after cmp key last [] = []
-sorted_after cmp key last (x ∷ w) = cond (is_disordered cmp last (key x)) [] (x ∷ sorted_after cmp key (Some (key x)) w)
-
 abbrev pub disorder_at : Option (List ℕ) → ℕ → FirstDisorder
 disorder_at last n = record { last_key = unwrap_or last []; line = n + 1 }
 
-abbrev pub disorder_after : Cmp → Key → Option (List ℕ) → ℕ → Lines → Option FirstDisorder
-disorder_after cmp key last n [] = None
-disorder_after cmp key last n (x ∷ w) =
-    cond (is_disordered cmp last (key x)) (Some (disorder_at last n)) (disorder_after cmp key (Some (key x)) (n + 1) w)
+module _ (cmp : Cmp) (key : Key) where
+  -- after a line with the key `last`, if there is one
+  abbrev pub sorted_after : Option (List ℕ) → Lines → Lines
+  sorted_after last [] = []
+  sorted_after last (x ∷ w) = cond (is_disordered cmp last (key x)) [] (x ∷ sorted_after (Some (key x)) w)
 
-pub sorted_prefix_is : (cmp : Cmp) (key : Key) (ls : Lines) → sorted_prefix cmp key ls ≡ sorted_after cmp key None ls
-sorted_prefix_is cmp key [] = refl
-sorted_prefix_is cmp key (x ∷ []) = refl
-sorted_prefix_is cmp key (x ∷ y ∷ more) = grind (arith, sorted_prefix_is cmp key (y ∷ more))
+  abbrev pub disorder_after : Option (List ℕ) → ℕ → Lines → Option FirstDisorder
+  disorder_after last n [] = None
+  disorder_after last n (x ∷ w) =
+      cond (is_disordered cmp last (key x)) (Some (disorder_at last n)) (disorder_after (Some (key x)) (n + 1) w)
 
--- the first disorder, by the length of the sorted prefix
-abbrev by_length : Cmp → Key → Option (List ℕ) → ℕ → Lines → Lines → Option FirstDisorder
-by_length cmp key last n part ls = if nat_lt (length part) (length ls) then Some
-    (record { last_key = unwrap_or (last_or last (map key part)) []; line = (n + length part) + 1 }) else None
+  pub sorted_prefix_is : (ls : Lines) → sorted_prefix cmp key ls ≡ sorted_after None ls
+  sorted_prefix_is (x ∷ y ∷ more) = grind (arith, sorted_prefix_is (y ∷ more))
+  sorted_prefix_is _ = grind arith
 
-by_length_is : (cmp : Cmp) (key : Key) (last : Option (List ℕ)) (n : ℕ) (ls : Lines)
-    → by_length cmp key last n (sorted_after cmp key last ls) ls ≡ disorder_after cmp key last n ls
-by_length_is cmp key last n [] = refl
-by_length_is cmp key last n (x ∷ w) = search (rules, by_length_is cmp key (Some (key x)) (n + 1) w)
+  -- the first disorder, by the length of the sorted prefix
+  abbrev by_length : Option (List ℕ) → ℕ → Lines → Lines → Option FirstDisorder
+  by_length last n part ls = if nat_lt (length part) (length ls) then Some
+      (record { last_key = unwrap_or (last_or last (map key part)) []; line = (n + length part) + 1 }) else None
 
-pub first_disorder_is : (cmp : Cmp) (key : Key) (ls : Lines)
-    → first_disorder cmp key ls ≡ disorder_after cmp key None 0 ls
-first_disorder_is cmp key ls = grind (arith, sorted_prefix_is cmp key ls, by_length_is cmp key None 0 ls)
+  by_length_is : (last : Option (List ℕ)) (n : ℕ) (ls : Lines)
+      → by_length last n (sorted_after last ls) ls ≡ disorder_after last n ls
+  by_length_is last n [] = refl
+  by_length_is last n (x ∷ w) = search (rules, by_length_is (Some (key x)) (n + 1) w)
 
-sorted_from_whole : (cmp : Cmp) (key : Key) (last : Option (List ℕ)) (n : ℕ) (ls : Lines) → IsSortedFrom cmp key last ls
-    → (sorted_after cmp key last ls ≡ ls) × (disorder_after cmp key last n ls ≡ None)
-sorted_from_whole cmp key last n [] r = (refl, refl)
-sorted_from_whole cmp key last n (x ∷ ls) (here, more) =
-    grind (arith, sorted_from_whole cmp key (Some (key x)) (n + 1) ls more)
+  pub first_disorder_is : (ls : Lines) → first_disorder cmp key ls ≡ disorder_after None 0 ls
+  first_disorder_is ls = grind (arith, sorted_prefix_is ls, by_length_is None 0 ls)
 
-pub sorted_from_start : (cmp : Cmp) (key : Key) (ls : Lines) → IsSortedFrom cmp key None ls
-    → (sorted_prefix cmp key ls ≡ ls) × (first_disorder cmp key ls ≡ None)
-sorted_from_start cmp key ls r = grind (arith, sorted_from_whole cmp key _ 0 ls r, sorted_prefix_is)
+  sorted_from_whole : (last : Option (List ℕ)) (n : ℕ) (ls : Lines) → IsSortedFrom cmp key last ls
+      → (sorted_after last ls ≡ ls) × (disorder_after last n ls ≡ None)
+  sorted_from_whole last n [] r = (refl, refl)
+  sorted_from_whole last n (x ∷ ls) (here, more) = grind (arith, sorted_from_whole (Some (key x)) (n + 1) ls more)
 
-none_disordered : (cmp : Cmp) (key : Key) (last : Option (List ℕ)) (n : ℕ) (ls : Lines)
-    → disorder_after cmp key last n ls ≡ None → IsSortedFrom cmp key last ls
-none_disordered cmp key last n [] e = tt
-none_disordered cmp key last n (x ∷ ls) e = grind (arith, none_disordered cmp key (Some (key x)) (n + 1) ls)
+  pub sorted_from_start : (ls : Lines) → IsSortedFrom cmp key None ls
+      → (sorted_prefix cmp key ls ≡ ls) × (first_disorder cmp key ls ≡ None)
+  sorted_from_start ls r = grind (arith, sorted_from_whole _ 0 ls r, sorted_prefix_is)
 
-pub sorted_from_none : (cmp : Cmp) (key : Key) (ls : Lines) → first_disorder cmp key ls ≡ None
-    → IsSortedFrom cmp key None ls
-sorted_from_none cmp key ls e = grind (arith, none_disordered, first_disorder_is)
+  none_disordered : (last : Option (List ℕ)) (n : ℕ) (ls : Lines) → disorder_after last n ls ≡ None
+      → IsSortedFrom cmp key last ls
+  none_disordered last n [] e = tt
+  none_disordered last n (x ∷ ls) e = grind (arith, none_disordered (Some (key x)) (n + 1) ls)
 
--- lines in order, up to a last key
+  pub sorted_from_none : (ls : Lines) → first_disorder cmp key ls ≡ None → IsSortedFrom cmp key None ls
+  sorted_from_none ls e = grind (arith, none_disordered, first_disorder_is)
+
 pub record IsSortedUpTo (cmp : Cmp) (key : Key) (q : Lines) (last : Option (List ℕ)) : Type 0 where
   pub ordered : (w : Lines) → sorted_prefix cmp key (q ++ w) ≡ q ++ sorted_after cmp key last w
   pub may_disorder : (w : Lines) → first_disorder cmp key (q ++ w) ≡ disorder_after cmp key last (length q) w
@@ -183,16 +172,21 @@ abbrev pub IsDisorderFrom : Cmp → List ℕ → Option FirstDisorder → Type 0
 IsDisorderFrom cmp k None = Unit {0}
 IsDisorderFrom cmp k (Some d) = AtMost cmp k d.last_key
 
-pub after_from : (cmp : Cmp) (o : IsKeyOrder cmp) (key : Key) (k : List ℕ) (n : ℕ) (w : Lines)
-    → EachKey (AtMost cmp k) key (sorted_after cmp key (Some k) w)
-    × IsDisorderFrom cmp k (disorder_after cmp key (Some k) n w)
-after_from cmp o key k n [] = (tt, tt)
-after_from cmp o key k n (x ∷ w) =
-    let ih = after_from cmp o key (key x) (n + 1) w in
-    let (more, _) = ih in
-    let weaker : is_gt _ ≡ false → EachKey (AtMost cmp k) key _ =
-    λ h. Each-weaker _ _ (λ y a. at_most_trans cmp o k (key x) y h a) _ more in
-    grind (arith, weaker, at_most_trans)
+module _ (cmp : Cmp) (o : IsKeyOrder cmp) (key : Key) where
+  pub from_key : (k : List ℕ) (ls : Lines) → IsSortedFrom cmp key (Some k) ls → EachKey (AtMost cmp k) key ls
+  from_key k [] r = tt
+  from_key k (x ∷ ls) (here, more) =
+      (here, Each-weaker _ _ (λ y h. at_most_trans cmp o k (key x) y here h) _ (from_key (key x) ls more))
+
+  pub after_from : (k : List ℕ) (n : ℕ) (w : Lines) → EachKey (AtMost cmp k) key (sorted_after cmp key (Some k) w)
+      × IsDisorderFrom cmp k (disorder_after cmp key (Some k) n w)
+  after_from k n [] = (tt, tt)
+  after_from k n (x ∷ w) =
+      let ih = after_from (key x) (n + 1) w in
+      let (more, _) = ih in
+      let weaker : is_gt _ ≡ false → EachKey (AtMost cmp k) key _ =
+      λ h. Each-weaker _ _ (λ y a. at_most_trans cmp o k _ y h a) _ more in
+      grind (arith, weaker)
 
 -- The lines that may follow in an input: any; those with keys of at least k; none, after a disorder; none, at its end.
 pub data Bound : Type 0 where
@@ -213,7 +207,6 @@ MayDisorder cmp (AtLeast k) f = IsDisorderFrom cmp k f
 MayDisorder cmp (AfterDisorder d) f = f ≡ Some d
 MayDisorder cmp NothingMore f = f ≡ None
 
--- `k` is at most all keys that may follow
 abbrev pub IsUnder : Cmp → Bound → List ℕ → Type 0
 IsUnder cmp NoBound k = ⊥
 IsUnder cmp (AtLeast l) k = AtMost cmp k l
@@ -255,7 +248,6 @@ filter_none : (w : List ℕ → Bool) (ks : Lines) → Each (λ k. w k ≡ false
 filter_none w [] e = refl
 filter_none w (k ∷ ks) (here, more) = rw here (filter_none w ks more)
 
--- the keys ascend strictly
 abbrev pub Ascends : Cmp → Lines → Type 0
 Ascends cmp [] = Unit {0}
 Ascends cmp (k ∷ ks) = Each (Above cmp k) ks × Ascends cmp ks
@@ -266,8 +258,7 @@ IsDownwardClosed cmp w = (a b : List ℕ) → cmp b a ≡ Greater → w b ≡ tr
 module _ (cmp : Cmp) (o : IsKeyOrder cmp) where
   ascends_insert : (k : List ℕ) (ks : Lines) → Ascends cmp ks → Ascends cmp (insert_key cmp k ks)
   ascends_insert k [] a = (tt, tt)
-  ascends_insert k (x ∷ xs) (above, more) =
-      grind (arith, Each-weaker, Each-insert, less_flips, ascends_insert k xs more)
+  ascends_insert k (x ∷ xs) (above, more) = grind (arith, Each-weaker, Each-insert, ascends_insert k xs more)
 
   pub ascends_distinct : (ks : Lines) → Ascends cmp (distinct_keys cmp ks)
   ascends_distinct [] = tt
@@ -285,7 +276,7 @@ module _ (cmp : Cmp) (o : IsKeyOrder cmp) where
 
   pub written_is_wanted : (b1 b2 : Bound) (f1 f2 : Option FirstDisorder) (k : List ℕ) → MayDisorder cmp b1 f1
       → MayDisorder cmp b2 f2 → IsUnder cmp b1 k → IsUnder cmp b2 k → is_up_to cmp (earlier_disorder cmp f1 f2) k ≡ true
-  written_is_wanted = grind (arith, at_most_trans)
+  written_is_wanted = grind arith
 
 -- ---- lines with some of the keys
 
@@ -328,9 +319,7 @@ module _ (p : List ℕ → Bool) where
     keys_of_part : keys tool part ≡ filter p (keys tool ls)
     keys_of_part = simp (keys_kept, filter-append)
 
-    -- the entries of the lines that pass the test are those of the keys that pass it
-    pub by_keys_kept : (w : List ℕ → Bool) → entries_by_key tool w (λ side. filter (λ line. p (key side line))
-        (ls side)) ≡ entries_by_key tool (λ k. w k && p k) ls
+    pub by_keys_kept : (w : List ℕ → Bool) → entries_by_key tool w part ≡ entries_by_key tool (λ k. w k && p k) ls
     by_keys_kept w = (λ i. flat_map (entries_of_key tool part)
         (filter w ((ap (distinct_keys cmp) keys_of_part ∙ sym (distinct_kept cmp o _)) i)))
         ∙ each_of (distinct_keys cmp (keys tool ls))
@@ -345,32 +334,24 @@ module _ (p : List ℕ → Bool) where
 
 -- ---- the least key comes first
 
--- the lines of the least key, and those with other keys
 record LeastLines (cmp : Cmp) (key : Key) (k : List ℕ) (f r : Lines) : Type 0 where
   least : filter (λ line. is_le (cmp (key line) k)) (f ++ r) ≡ f ++ lines_with_key key r k
   other : filter (λ line. not (is_le (cmp (key line) k))) (f ++ r) ≡ filter (λ line. not (is_le (cmp (key line) k))) r
-  own : EachKey (λ x. x ≡ k) key (f ++ lines_with_key key r k)
+  own : HaveKey key k (f ++ lines_with_key key r k)
   all : lines_with_key key (f ++ lines_with_key key r k) k ≡ f ++ lines_with_key key r k
 
 module _ (cmp : Cmp) (o : IsKeyOrder cmp) where
-  least_lines : (key : Key) (k : List ℕ) (f r : Lines) → EachKey (λ x. x ≡ k) key f → EachKey (AtMost cmp k) key r
+  least_lines : (key : Key) (k : List ℕ) (f r : Lines) → HaveKey key k f → EachKey (AtMost cmp k) key r
       → LeastLines cmp key k f r
   least_lines key k [] [] e h = grind arith
-  least_lines key k [] (x ∷ r) e (here, more) = grind (arith, least_lines key k [] r tt more, rules, same_bytes)
+  least_lines key k [] (x ∷ r) e (here, more) = grind (arith, least_lines key k [] r tt more, rules)
   least_lines key k (x ∷ f) r (here, more) h =
-      let ih = least_lines key k f r more h in
-      let at : is_le (cmp (key x) k) ≡ true = rw here (grind (arith, self_at_most)) in
-      record {
-        least = simp (at, ih.least);
-        other = simp (at, ih.other);
-        own = (here, ih.own);
-        all = simp (same_bytes here, ih.all);
-      }
+      let at : is_le (cmp (key x) k) ≡ true = rw here (grind arith) in
+      grind (arith, at, same_bytes here, least_lines key k f r more h)
 
-  only_key : (key1 key2 : Key) (k : List ℕ) (xs ys : Lines) → EachKey (λ x. x ≡ k) key1 xs
-      → EachKey (λ x. x ≡ k) key2 ys
+  only_key : (key1 key2 : Key) (k : List ℕ) (xs ys : Lines) → HaveKey key1 k xs → HaveKey key2 k ys
       → (distinct_keys cmp (map key1 xs ++ map key2 ys) ≡ k ∷ []) ⊎ ((xs ≡ []) × (ys ≡ []))
-  only_key key1 key2 k [] [] e h = inr (refl, refl)
+  only_key _ _ k [] [] e h = inr (refl, refl)
   only_key key1 key2 k [] (y ∷ ys) e (here, more) = grind (arith, only_key key1 key2 k [] ys tt more)
   only_key key1 key2 k (x ∷ xs) ys (here, more) h = grind (arith, only_key _ _ k xs ys more h)
 
@@ -396,18 +377,16 @@ module _ (tool : MergeTool) where
       ap (flat_map (entries_of_key tool ls)) (grind (arith, downward_first, ascends_distinct))
       ∙ flat_map-append (entries_of_key tool ls) (filter (λ k. w k && p k) ks) (filter (λ k. w k && not (p k)) ks)
 
-  -- lines of the least key, followed by lines with no lesser keys
   module _ (o : IsKeyOrder cmp) (w : List ℕ → Bool) (k : List ℕ) (none : tool.entries k [] [] ≡ []) where
-    of_one_key : (ls : Side → Lines) → ((side : Side) → EachKey (λ x. x ≡ k) (key side) (ls side))
+    of_one_key : (ls : Side → Lines) → ((side : Side) → HaveKey (key side) k (ls side))
         → ((side : Side) → lines_with_key (key side) (ls side) k ≡ ls side)
         → entries_by_key tool w ls ≡ cond (w k) (tool.entries k (ls First) (ls Second)) []
-    of_one_key ls own all =
-        grind (arith, append-nil, none, all First, only_key cmp o _ _ k _ _ (own First) (own Second))
+    of_one_key ls own all = grind (arith, append-nil, none, only_key cmp o _ _ k _ _ (own First) (own Second))
 
     abbrev pub later_entries : (Side → Lines) → Lines
     later_entries r = entries_by_key tool (λ x. w x && not (is_le (cmp x k))) r
 
-    pub front_is : (f r : Side → Lines) → ((side : Side) → EachKey (λ x. x ≡ k) (key side) (f side))
+    pub front_is : (f r : Side → Lines) → ((side : Side) → HaveKey (key side) k (f side))
         → ((side : Side) → EachKey (AtMost cmp k) (key side) (r side))
         → entries_by_key tool w (λ side. f side ++ r side)
         ≡ cond (w k) (tool.entries k (f First ++ lines_with_key (key First) (r First) k)
@@ -415,12 +394,12 @@ module _ (tool : MergeTool) where
     front_is f r own above =
         let p = λ (x : List ℕ). is_le (cmp x k) in
         let ls : Side → Lines = λ side. f side ++ r side in
-        let s = λ (side : Side). least_lines cmp o (key side) k (f side) (r side) (own side) (above side) in
+        let s = λ (side : Side). least_lines cmp o _ k _ _ (own side) (above side) in
         let first = sym (by_keys_kept p tool o ls w) ∙ (λ i. entries_by_key tool w (λ side. (s side).least i))
         ∙ of_one_key _ (λ side. (s side).own) (λ side. (s side).all) in
         let rest = sym (by_keys_kept (λ x. not (p x)) tool o ls w)
         ∙ (λ i. entries_by_key tool w (λ side. (s side).other i)) ∙ by_keys_kept (λ x. not (p x)) tool o r w in
-        downward_splits o w p (grind (arith, greater_flips)) ls ∙ (λ i. first i ++ rest i)
+        downward_splits o w p (grind arith) ls ∙ (λ i. first i ++ rest i)
 
   abbrev pub MayCome : (Side → Bound) → (Side → Lines) → Type 0
   MayCome b r = (side : Side) → MayFollow cmp (key side) (b side) (r side)
@@ -454,7 +433,7 @@ pub input_split : {tool : MergeTool} (o : IsKeyOrder tool.cmp) {b : Side → Bou
     ++ entries_by_key tool (is_up_to tool.cmp (disorder tool ls)) (λ side. (s side).rest)
 input_split {tool} o {b} {p} {ls} m s =
     let w = is_up_to tool.cmp (disorder tool ls) in
-    let first = all_wanted tool w p (λ side. both_under (tool.key side) _ _ _
+    let first = all_wanted tool w p (λ side. both_under _ _ _ _
     (λ k u1 u2. written_is_wanted _ o _ _ _ _ k (s First).may_disorder (s Second).may_disorder u1 u2)
     _ (m.under First side) (m.under Second side)) in
     (λ i. entries_by_key tool w (λ side. (s side).is i))
@@ -490,7 +469,6 @@ pub record LagInvariant (tool : MergeTool) (b : Side → Bound) (p : Side → Li
 abbrev pub AllWritten : MergeTool → (Side → Bound) → (Side → Lines) → Output → Output → Type 0
 AllWritten tool b p was is = LagInvariant tool b p was is (entries_by_key tool all_keys p)
 
--- they are, and the invariant holds
 abbrev pub Written : MergeTool → (Side → Bound) → (Side → Lines) → Output → Output → Type 0
 Written tool b p was is = MergeInvariant tool b p was is × AllWritten tool b p was is
 
@@ -516,7 +494,7 @@ lag_invariant_starts o {b} {p} {mid = mid} m clean more = record {
 
 -- the lines `f`, all with the key `k`, may follow at the bound `b`, and precede all lines that may follow at `d`
 pub record IsLeastKeyRun (cmp : Cmp) (key : Key) (b d : Bound) (k : List ℕ) (f : Lines) : Type 0 where
-  pub own : EachKey (λ y. y ≡ k) key f
+  pub own : HaveKey key k f
   pub may_follow : (r : Lines) → MayFollow cmp key d r → MayFollow cmp key b (f ++ r)
   pub own_under : IsUnder cmp b k
   pub under : (j : List ℕ) → IsUnder cmp b j → IsUnder cmp d j
@@ -532,8 +510,7 @@ pub write_least_run : {tool : MergeTool} (o : IsKeyOrder tool.cmp) (k : List ℕ
     → ((side : Side) → q side ≡ p side ++ f side) → tool.entries k [] [] ≡ []
     → ((r : Side → Lines) → MayCome tool d r → tool.entries k (f First ++ lines_with_key (tool.key First) (r First) k)
     (f Second ++ lines_with_key (tool.key Second) (r Second) k) ≡ tool.entries k (f First) (f Second) ++ entries_of_key
-    tool r k)
-    → is.write_failed ≡ false → MergeInvariant tool b p was is
+    tool r k) → is.write_failed ≡ false → MergeInvariant tool b p was is
     → PushEffect is new (output_of tool f) → Written tool d q was new
 write_least_run {tool} o k q f {b} {d} {p} {was} {is} {new} front all none law clean m wrote =
     let nothing =
@@ -553,9 +530,8 @@ write_least_run {tool} o k q f {b} {d} {p} {was} {is} {new} front all none law c
             arith,
             m.splits w (λ side. f side ++ r side) (λ side. (front side).may_follow (r side) (c side)),
             alone,
-            (front_is tool o w k none (λ side. []) r (λ side. tt) above),
+            front_is tool o w k none (λ side. []) r (λ side. tt) above,
             front_is tool o w k none f r own above,
-            law r c,
             append_assoc (tool.entries k (f First) (f Second)) (entries_of_key tool r k)
                 (later_entries tool o w k none r),
             append_assoc (entries_by_key tool w p) (entries_by_key tool w f) (entries_by_key tool w r),
@@ -587,7 +563,7 @@ pub bounds_change : {tool : MergeTool} {b d : Side → Bound} {p : Side → Line
     → ((side : Side) → IsLater tool.cmp (tool.key side) (b side) (d side)) → MergeInvariant tool b p was is
     → MergeInvariant tool d p was is
 bounds_change later m = record {
-  splits = λ w r c. m.splits w r (λ side. (later side).may_follow (r side) (c side));
+  splits = λ w r c. m.splits w r (λ side. (later side).may_follow _ (c side));
   under = λ of side. Each-weaker _ _ (later of).under _ (m.under of side);
   wrote = m.wrote;
 }
@@ -595,7 +571,7 @@ bounds_change later m = record {
 pub bound_changes : {tool : MergeTool} {b : Side → Bound} {p : Side → Lines} {was is : Output} (s : Side) {d : Bound}
     → MergeInvariant tool b p was is → IsLater tool.cmp (tool.key s) (b s) d
     → MergeInvariant tool (with_side s d b) p was is
-bound_changes s m later = bounds_change (grind (arith, put_each)) m
+bound_changes s m later = bounds_change (grind arith) m
 
 -- the disorder is the one found, if any, and no line that may follow changes the output
 abbrev pub IsExactStop : MergeTool → (Side → Bound) → Option (Side × ℕ) → Type 0
@@ -608,9 +584,9 @@ IsExactStop tool b found = (ls r : Side → Lines) → MayCome tool b r
 
 last_has : (key : Key) (P : List ℕ → Type 0) (last : Option (List ℕ)) (xs : Lines) (x : List ℕ)
     → last_or last (map key xs) ≡ Some x → ((y : List ℕ) → last ≡ Some y → P y) → EachKey P key xs → P x
-last_has key P last [] x e f h = f x e
+last_has key P _ [] x e f h = f x e
 last_has key P last (y ∷ xs) x e f (here, more) =
-    last_has key P (Some (key y)) xs x e (λ z same. (let is : key y ≡ z = cc in subst P is here)) more
+    last_has key P (Some (key y)) xs x e (λ z same. subst P (cc same) here) more
 
 module _ (cmp : Cmp) (o : IsKeyOrder cmp) where
   pub not_below : (k x : List ℕ) → AtMost cmp x k → is_lt (cmp k x) ≡ false
@@ -641,7 +617,7 @@ module _ (tool : MergeTool) (o : IsKeyOrder tool.cmp) (eof : Side → Bool) (ls 
   open tool use {cmp}
 
   pub downward_decided : IsDownwardClosed cmp (is_decided tool eof ls)
-  downward_decided = grind (usual, all_three, greater_flips)
+  downward_decided = grind (usual, all_three)
 
   pub not_decided : (side : Side) (k : List ℕ) → is_past cmp (tool.key side) (eof side) (ls side) k ≡ false
       → is_decided tool eof ls k ≡ false

@@ -1,6 +1,5 @@
 -- The lines that were read of an input, and how they lie in the slots of a store. A slot changes only if its own input
--- reads, so two lines of each input, none longer than its longest line, bound the bytes stored. Also functions of the
--- side, changed for one side.
+-- reads, so two lines of each input, none longer than its longest line, bound the bytes stored.
 use Rattle.ptmerge.proofs
 use Rattle.std.proofs.lemmas
 pub use proofs.Common.{◌≡◌, ◌⊎◌, ℕ, ◌+◌, ◌<◌, ◌≤◌, true, false, List, [], ◌∷◌, ◌++◌, length, max, refl, ◌∙◌, arith}
@@ -27,21 +26,16 @@ pub use Rattle.ptmerge.specs.Private.MergeSlots.{ClearFourSlotsPost}
 -- The bytes received are the lines read so far, and all but the last have their terminator. So every input that begins
 -- with these bytes begins with these lines.
 
-ended_more : (end : ℕ) (ls : List (List ℕ)) (bytes : List ℕ) → AreLines end ls
+ended_more : (end : ℕ) (ls : Lines) (bytes : List ℕ) → AreLines end ls
     → complete_lines end (unlines end ls ++ bytes) ≡ ls ++ complete_lines end bytes
 ended_more end [] bytes w = refl
-ended_more end (line ∷ ls) bytes (free, more) = grind (
-  usual,
-  complete_lines_cons,
-  free,
-  ended_more end ls bytes more,
-)
+ended_more end (line ∷ ls) bytes (free, more) = grind (usual, complete_lines_cons, ended_more end ls bytes more)
 
 -- `ls` are the lines of `given`: all have their terminator, or the last one lacks it at the end of the source
-abbrev pub IsReadAs : ℕ → List ℕ → List (List ℕ) → Reader → Type 0
+abbrev pub IsReadAs : ℕ → List ℕ → Lines → Reader → Type 0
 IsReadAs end given ls now = ((given ≡ unlines end ls) × AreLines end ls) ⊎ ((lines end given ≡ ls) × IsDone now)
 
-pub record LinesRead (end : ℕ) (old now : Reader) (ls : List (List ℕ)) : Type 0 where
+pub record LinesRead (end : ℕ) (old now : Reader) (ls : Lines) : Type 0 where
   pub given : List ℕ
   pub so_far : IsReadAs end given ls now
   pub advance_ok : AdvanceOk old now given
@@ -56,43 +50,34 @@ done_gives_nothing : {now new : Reader} {bytes : List ℕ} → IsDone now → Re
     → GivesNothing new bytes
 done_gives_nothing = grind usual
 
-abbrev pub HasBegun : Reader → List (List ℕ) → Type 0
+abbrev pub HasBegun : Reader → Lines → Type 0
 HasBegun now ls = IsDone now ⊎ (0 < length ls)
 
 pub one_line_at_most : (end : ℕ) (piece : List ℕ) → IsLine end piece → length (lines end piece) ≤ 1
 one_line_at_most end [] free = omega arith
-one_line_at_most end (b ∷ piece) free = grind (usual, lines_of_last)
+one_line_at_most end _ free = grind (usual, lines_of_last)
 
-pub lines_read_more : {end : ℕ} {old now new : Reader} {ls : List (List ℕ)} {before after : Slots} {slot : ℕ}
+pub lines_read_more : {end : ℕ} {old now new : Reader} {ls : Lines} {before after : Slots} {slot : ℕ}
     → LinesRead end old now ls → (e : FillLine now new before after slot) → LinesRead end old new (ls ++ e.line ∷ [])
 lines_read_more {end} {old} {now} {new} c e =
     record {
       given = c.given ++ (e.line ++ e.terminator);
-      so_far = search (
-        rules,
-        done_gives_nothing,
-        unlines_push,
-        AreLines_push,
-        lines_of_unlines,
-        lines_of_last,
-        append-nil,
-        length-append,
-      );
+      so_far = search (rules, unlines_push, AreLines_push, lines_of_unlines, lines_of_last, append-nil, length-append);
       advance_ok = advance_ok_trans old now new _ _ c.advance_ok e.advance_ok;
       terminator = grind arith;
     }
 
-pub record Continues (now : Reader) (ls all : List (List ℕ)) : Type 0 where
-  pub more : List (List ℕ)
+pub record Continues (now : Reader) (ls all : Lines) : Type 0 where
+  pub more : Lines
   pub is : all ≡ ls ++ more
   pub done : IsDone now → more ≡ []
 
 -- no line of `ls`, nor this piece of a further line, is longer than the longest line of `all`
-pub record HoldsLines (now : Reader) (ls : List (List ℕ)) (piece : List ℕ) (all : List (List ℕ)) : Type 0 where
+pub record HoldsLines (now : Reader) (ls : Lines) (piece : List ℕ) (all : Lines) : Type 0 where
   pub continues : Continues now ls all
   pub longest : max (max_length ls) (length piece) ≤ max_length all
 
-module _ {end : ℕ} {old now new : Reader} {ls : List (List ℕ)} {piece : List ℕ} (c : LinesRead end old now ls)
+module _ {end : ℕ} {old now new : Reader} {ls : Lines} {piece : List ℕ} (c : LinesRead end old now ls)
     (reads : ReaderAdvance now new piece) (line : IsLine now.terminator piece) where
   abbrev came : Received
   came = received_with (c.given ++ piece) new
@@ -102,7 +87,7 @@ module _ {end : ℕ} {old now new : Reader} {ls : List (List ℕ)} {piece : List
 
   front_of : c.given ≡ unlines end ls → (rest : List ℕ)
       → ((c.given ++ piece) ++ new.buffered) ++ rest ≡ unlines end ls ++ (piece ++ (new.buffered ++ rest))
-  front_of is rest = rw is (simp append_assoc)
+  front_of is _ = rw is (simp append_assoc)
 
   pub lines_read_of_input : (input : List ℕ) → IsConsistent came input → HoldsLines now ls piece (lines end input)
   lines_read_of_input = search (
@@ -112,33 +97,19 @@ module _ {end : ℕ} {old now new : Reader} {ls : List (List ℕ)} {piece : List
     done_gives_nothing,
     max_length-append,
     piece_le_max_length,
-    free,
   )
 
   -- the lines that are known to be complete: `ls` and, if a read failed, no more
-  pub record KnownLines (ws : List (List ℕ)) : Type 0 where
+  pub record KnownLines (ws : Lines) : Type 0 where
     pub known : Continues now ls ws
     pub exact : new.buffered ≡ [] → new.eof ≡ false → ws ≡ ls
 
   pub lines_read_known : KnownLines (known_lines end came)
-  lines_read_known = grind (
-    usual,
-    lines_read_of_input,
-    front_of,
-    ended_more,
-    complete_lines_none,
-    done_gives_nothing,
-    append-nil,
-  )
+  lines_read_known = grind (usual, lines_read_of_input, front_of, ended_more, complete_lines_none, append-nil)
 
   pub begun_gives_line : HasBegun now ls → ¬ HasNoLine end came
   begun_gives_line begun none =
-      grind (
-        usual,
-        complete_lines_none end _ none.unterminated,
-        done_gives_nothing,
-        length-append ls lines_read_known.known.more,
-      )
+      grind (usual, complete_lines_none end _ none.unterminated, length-append ls lines_read_known.known.more)
 
   pub one_line_and_block : IsSound new → length ls + length (lines end piece) ≤ 1 → IsFirstLineAndBlock end came
   one_line_and_block = search (rules, lines_of_unlines, length-append, done_gives_nothing)
@@ -148,12 +119,12 @@ module _ {end : ℕ} {old now new : Reader} {ls : List (List ℕ)} {piece : List
 pub put_both : {X Y : Type 0} (P : Side → X → Y → Type 0) (s : Side) (x : X) (f : Side → X) (y : Y) (g : Side → Y)
     → P s x y → P (other s) (f (other s)) (g (other s))
     → (side : Side) → P side (with_side s x f side) (with_side s y g side)
-put_both P s x f y g p q side = grind (arith, p, q)
+put_both P s x f y g p q _ = grind (arith, q)
 
 module _ {X : Type 0} (P : Side → X → Type 0) where
   pub put_each : (s : Side) (x : X) (f : Side → X) → P s x → ((side : Side) → P side (f side)) → (side : Side)
       → P side (with_side s x f side)
-  put_each = search (rules, put_both)
+  put_each = search rules
 
 pub put_same : {X : Type 0} (s : Side) (x : X) (f : Side → X) → with_side s x f s ≡ x
 put_same = grind arith
@@ -162,7 +133,7 @@ pub put_other : {X : Type 0} (s : Side) (x : X) (f : Side → X) → with_side s
 put_other = grind arith
 
 pub side_case : (Q : Side → Type 0) (s : Side) → Q s → Q (other s) → (side : Side) → Q side
-side_case = grind (arith, put_both)
+side_case = grind arith
 
 -- ---- the slots
 
@@ -181,36 +152,34 @@ slots_apart = grind arith
 pub line_other : (s : Slots) (a b : ℕ) (bytes : List ℕ) → a ≢ b → line (with_line s a bytes) b ≡ line s b
 line_other = search rules
 
-added_same : (xs : List (List ℕ)) (i : ℕ) → get_or (xs ++ [] ∷ []) i [] ≡ get_or xs i []
-added_same [] i = grind arith
-added_same (x ∷ xs) zero = refl
+added_same : (xs : Lines) (i : ℕ) → get_or (xs ++ [] ∷ []) i [] ≡ get_or xs i []
 added_same (x ∷ xs) (suc i) = added_same xs i
+added_same _ i = grind arith
 
 pub line_added : (s : Slots) (slot : ℕ) → line (with_new_slot s) slot ≡ line s slot
 line_added s slot = added_same s.lines slot
 
 -- Two lines of each input, of at most `m` bytes each, and `more` bytes in the other slots.
-abbrev pub HasLines : (Side → ℕ) → ℕ → List (List ℕ) → Type 0
+abbrev pub HasLines : (Side → ℕ) → ℕ → Lines → Type 0
 HasLines m more (a ∷ b ∷ c ∷ d ∷ rest) =
     (length a ≤ m First) × (length b ≤ m First) × (length c ≤ m Second) × (length d ≤ m Second)
     × (total_bytes rest ≡ more)
 HasLines m more few = ⊥
 
-four_total : (a b c d : List ℕ) (rest : List (List ℕ))
+four_total : (a b c d : List ℕ) (rest : Lines)
     → total_bytes (a ∷ b ∷ c ∷ d ∷ rest) ≡ ((length a + length b) + length c) + length d + total_bytes rest
 four_total = grind usual
 
-pub record LinesTotal (xs : List (List ℕ)) (m : Side → ℕ) (more : ℕ) : Type 0 where
+pub record LinesTotal (xs : Lines) (m : Side → ℕ) (more : ℕ) : Type 0 where
   pub four : 4 ≤ length xs
   pub most : total_bytes xs ≤ 2 * m First + 2 * m Second + more
   pub is : total_bytes xs ≡ ((length (get_or xs 0 []) + length (get_or xs 1 [])) + length (get_or xs 2 [])) + length
       (get_or xs 3 []) + more
 
-pub has_lines_total : (xs : List (List ℕ)) (m : Side → ℕ) (more : ℕ) → HasLines m more xs → LinesTotal xs m more
+pub has_lines_total : (xs : Lines) (m : Side → ℕ) (more : ℕ) → HasLines m more xs → LinesTotal xs m more
 has_lines_total = grind (arith, four_total)
 
--- the next line of an input replaces its previous line
-set_line : (s : Side) (cursor : Sorted) (xs : List (List ℕ)) (m k : Side → ℕ) (more : ℕ) (x : List ℕ)
+set_line : (s : Side) (cursor : Sorted) (xs : Lines) (m k : Side → ℕ) (more : ℕ) (x : List ℕ)
     → HasSlots s cursor → HasLines m more xs → ((side : Side) → m side ≤ k side) → length x ≤ k s
     → HasLines k more (set xs cursor.previous_slot x)
 set_line = search rules
@@ -234,9 +203,8 @@ pub longer : {was now : Lines} → Extends was now → max_length was ≤ max_le
 longer = grind (arith, max_length-append)
 
 pub side_extends : (s : Side) (ls : Side → Lines) {now : Lines} → Extends (ls s) now → AllExtend ls (with_side s now ls)
-side_extends = search (rules, put_each, extends_itself)
+side_extends = search (rules, put_each)
 
--- two lines of each input and the lines `g` are within the measure
 abbrev pub HasRoom : MergeTool → Lines → (Side → Lines) → Type 0
 HasRoom tool g ls = (2 * max_length (ls First) + 2 * max_length (ls Second) + total_bytes g ≤ tool.size ls)
     × (4 + length g ≤ tool.slots ls)
@@ -285,12 +253,12 @@ group_store_line {tool} {store = store} {ls = ls} {now} {g} s cursor slots x k u
       lines = inside;
       room = λ all more. k.room all (on all more);
       fits = λ all more. let most = total_within tool g _ inside more (k.room all (on all more)) in
-          omega (arith, k.fits all (on all more), most, size);
-      four = omega (arith, size);
+          omega (arith, k.fits all (on all more), size);
+      four = omega arith;
       denied = k.denied;
     })
 
-cleared : (lines : List (List ℕ)) (peak : ℕ) (denied : Bool) → 4 ≤ length lines
+cleared : (lines : Lines) (peak : ℕ) (denied : Bool) → 4 ≤ length lines
     → let s : Slots = record { lines = lines; peak = peak; denied = denied } in
     ClearFourSlotsPost s (with_line (with_line (with_line (with_line s 0 []) 1 []) 2 []) 3 [])
 cleared (a ∷ b ∷ c ∷ d ∷ rest) peak denied four = search (rules, four_total)

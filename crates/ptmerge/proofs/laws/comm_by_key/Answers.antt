@@ -1,4 +1,4 @@
--- The law that `comm_by_key` states, of lines distributed over parts by their keys, is proved in `Parts`.
+-- Lines distributed over parts by their keys.
 use Rattle.ptmerge.proofs
 use proofs.Parts.{comm_of_keys}
 use proofs.laws.comm_by_key.Goals as goal

@@ -1,4 +1,4 @@
--- The law that `comm_of_itself` states, of sorted lines and themselves, is proved in `OutputLaws.Columns`.
+-- Sorted lines and themselves.
 use Rattle.ptmerge.proofs
 use proofs.OutputLaws.Columns.{comm_of_itself}
 use proofs.laws.comm_of_itself.Goals as goal

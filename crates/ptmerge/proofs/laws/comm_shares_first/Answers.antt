@@ -1,5 +1,4 @@
--- The law that `comm_shares_first` states, of the lines of the first input in two columns, is proved in
--- `OutputLaws.Counts`.
+-- The lines of the first input in two columns.
 use Rattle.ptmerge.proofs
 use proofs.OutputLaws.Counts.{comm_shares_first}
 use proofs.laws.comm_shares_first.Goals as goal

@@ -1,4 +1,4 @@
--- The law that `comm_swapped` states, of the two inputs exchanged, is proved in `OutputLaws.Columns`.
+-- The two inputs exchanged.
 use Rattle.ptmerge.proofs
 use proofs.OutputLaws.Columns.{comm_swapped}
 use proofs.laws.comm_swapped.Goals as goal

@@ -1,4 +1,4 @@
--- The law that `join_counts` states, of the number of lines that `join` writes, is proved in `OutputLaws.Counts`.
+-- The number of lines that `join` writes.
 use Rattle.ptmerge.proofs
 use proofs.OutputLaws.Counts.{join_counts}
 use proofs.laws.join_counts.Goals as goal

@@ -1,5 +1,4 @@
--- The law that `join_of_sorted` states, of the output of `join` for two sorted texts, is proved in
--- `OutputLaws.Sorted`.
+-- The output of `join` for two sorted texts.
 use Rattle.ptmerge.proofs
 use proofs.OutputLaws.Sorted.{join_of_sorted}
 use proofs.laws.join_of_sorted.Goals as goal

@@ -1,5 +1,4 @@
--- `join` does nothing if the output has failed before. Otherwise its contract is that of `join_with_order`, in byte
--- order or its reverse, since setting the terminator does not change the inputs.
+-- The contract is that of `join_with_order`, since setting the terminator does not change the inputs.
 use Rattle.ptmerge.proofs
 use proofs.Common.{refl, sym, ◌∙◌}
 use proofs.MergeLemmas.Exits.{merge_halted, merge_set}

@@ -1,19 +1,18 @@
 -- The loops of `join`: one lemma of `JoinLemmas` for each iteration, and one of `JoinLemmas` or `MergeLemmas` for each
--- exit. Also the state after the lines of the blocks were merged (`on_by_blocks`), what the calls require, and the
--- reads that are left, which decrease in each loop.
+-- exit.
 use Rattle.ptmerge.proofs
 use Rattle.ptmerge.specs
-use proofs.Common.{refl, sym, ◌∙◌, arith, ℕ, ◌<◌, ◌≤◌, both, join_job, merge_state, Ok}
-use proofs.JoinLemmas.{BetweenGroups, LoopOfJoin, alone_continues, alone_fails, join_opens, write_pre}
-use proofs.JoinLemmas.{group_opens, read_group_less, write_pairs_less}
-use proofs.JoinLemmas.{read_group_in, read_group_pre, read_group_continues, read_group_fails, write_pairs_next}
-use proofs.JoinLemmas.{write_pairs_pre, write_pairs_group, write_pairs_continues, pair_fails, group_there, group_closed}
-use proofs.MergeLemmas.{fails_by, start_fault, start_ok, ends_well, ends_fallen, kept_order}
-use proofs.MergeLemmas.{fails, ends, reads_less}
+use proofs.Common.{refl, sym, ◌∙◌, arith, both, join_job, merge_state, Ok}
+use proofs.JoinLemmas.{BetweenGroups, LoopOfJoin, alone_continues, alone_fails, join_opens, write_pre, group_opens}
+use proofs.JoinLemmas.{read_group_less, write_pairs_less, read_group_continues, read_group_fails, write_pairs_next}
+use proofs.JoinLemmas.{write_pairs_group, write_pairs_continues, pair_fails, group_there, group_closed}
+use proofs.JoinLemmas.Group.{end_in}
+use proofs.MergeLemmas.{advance_pre, fails_by, start_fault, start_ok, ends_well, ends_fallen, kept_order, fails, ends}
+use proofs.MergeLemmas.{reads_less}
 use proofs.PassedLemmas.{blocks_fail, blocks_pre, blocks_read, reads_once}
 use proofs.PairLemmas.{blocks_joined, joined_by_blocks}
 use specs.declared.key_order.Side.TheVariants as sides
-use specs.Calls.Join.{join_tool, join_with}
+use specs.Calls.Join.{join_with}
 use specs.Private.Passed.{BlocksPost}
 use proofs.tools.join.join_with_order.Given as given
 use Rattle.ptmerge.proofs.tools.join.join_with_order.Goals.{After-step}
@@ -34,7 +33,7 @@ module _ (g : given.Over) (c : After-step g) where
       LoopOfJoin (join_job c.args.job.now) g.K.KeyOrder.order g.K.KeyOrder.key_of
       (merge_state c.args.first.now c.args.second.now c.args.out.now c.args.store.now) BetweenGroups
       (merge_state is.first is.second is.out is.store) is.merge.first is.merge.second is.merge.order c.args.order
-  on_by_blocks = joined_by_blocks g.K.KeyOrder.order g.K.KeyOrder.key_of c.steps.invariant by_blocks
+  on_by_blocks = joined_by_blocks _ _ c.steps.invariant by_blocks
       c.merge_in_blocks.ensures.order c.in_ok-merge_in_blocks.ensures.valid_cursors
 
 pub returns-in_err-merge : goal.returns-in_err-merge
@@ -62,7 +61,7 @@ steps-init g c =
 pub merge_in_blocks-requires : goal.merge_in_blocks-requires
 merge_in_blocks-requires g c =
     let t = c.steps.invariant.iteration in
-    blocks_pre t.here t.between (join_tool (join_job c.args.job.now)) refl t.w.alone t.keys
+    blocks_pre t.here t.between _ refl t.w.alone t.keys
 
 pub returns-in_err-merge_in_blocks : goal.returns-in_err-merge_in_blocks
 returns-in_err-merge_in_blocks g c =
@@ -82,7 +81,7 @@ pass_line-requires g c =
 pub pass_line-requires-in-Second : goal.pass_line-requires-in-Second
 pass_line-requires-in-Second g c =
     let i = on_by_blocks g (goal.at.pass_line-requires-in-Second g c).After-step in
-    write_pre i.iteration sides.Second c.in-Second.ensures.status_is
+    write_pre i.iteration _ c.in-Second.ensures.status_is
 
 pub steps-preserved-in-Continue-branch-3 : goal.steps-preserved-in-Continue-branch-3
 steps-preserved-in-Continue-branch-3 g c =
@@ -153,10 +152,11 @@ lines-init g c =
     }
 
 pub read_line-requires-clause-status_is : goal.read_line-requires-clause-status_is
-read_line-requires-clause-status_is g c = read_group_pre c.lines.invariant.kept.iteration
+read_line-requires-clause-status_is g c =
+    let t = c.lines.invariant.kept.iteration in advance_pre t.between _ (t.here.heads sides.Second).head
 
 pub read_line-requires-clause-group : goal.read_line-requires-clause-group
-read_line-requires-clause-group g c = read_group_in c.lines.invariant.kept.iteration
+read_line-requires-clause-group g c = end_in c.lines.invariant.kept.iteration.here.q
 
 pub returns-in_err-read_line-in-Both : goal.returns-in_err-read_line-in-Both
 returns-in_err-read_line-in-Both g c =
@@ -177,11 +177,7 @@ lines-preserved g c =
     record {
       kept = kept_order p.order k.order (read_group_continues k.iteration p.written_out ok.reads_line.1 ok.continues
           (sym ok.reads_line.0 ∙ c.if-branch.true));
-      fewer = omega (
-        arith,
-        c.lines.invariant.fewer,
-        read_group_less k.iteration ok.reads_line.1.came ok.continues,
-      );
+      fewer = omega (arith, read_group_less k.iteration ok.reads_line.1.came ok.continues);
     }
 
 pub pairs-init : goal.pairs-init
@@ -196,7 +192,8 @@ pairs-init g c =
     }
 
 pub write_pairs-requires-clause-writes : goal.write_pairs-requires-clause-writes
-write_pairs-requires-clause-writes g c = write_pairs_pre c.pairs.invariant.kept.iteration
+write_pairs-requires-clause-writes g c =
+    let t = c.pairs.invariant.kept.iteration in write_pre t _ t.here.head.head
 
 pub write_pairs-requires-clause-group : goal.write_pairs-requires-clause-group
 write_pairs-requires-clause-group g c = write_pairs_group c.pairs.invariant.kept.iteration
@@ -208,8 +205,7 @@ returns-in_err-write_pairs-in-Both g c =
     (pair_fails i.iteration c.write_pairs.ensures.wrote _ _ _ c.in_err-write_pairs-in-Both.ensures.fails)
 
 pub pairs-smaller : goal.pairs-smaller
-pairs-smaller g c =
-    write_pairs_less c.pairs.invariant.kept.iteration c.in_ok-write_pairs-in-Both.ensures.advances
+pairs-smaller g c = write_pairs_less c.pairs.invariant.kept.iteration c.in_ok-write_pairs-in-Both.ensures.advances
 
 pub pairs-preserved : goal.pairs-preserved
 pairs-preserved g c =
@@ -220,7 +216,7 @@ pairs-preserved g c =
     record {
       kept = kept_order p.order k.order (write_pairs_continues k.iteration p.wrote h
           (sym ok.has_more ∙ c.if-branch-2.true));
-      fewer = omega (arith, c.pairs.invariant.fewer, write_pairs_less k.iteration h);
+      fewer = omega (arith, write_pairs_less k.iteration h);
     }
 
 pub clear-requires : goal.clear-requires
@@ -235,16 +231,14 @@ steps-preserved g c =
     kept_order p.order i.order (group_closed i.iteration p.wrote ok.advances c.clear.ensures
     (sym ok.has_more ∙ c.if-branch-2.false))
 
--- each loop of a group reads at least one line
-fewer_after : {a b c d e : ℕ} → a < b → b ≤ c → c < d → d ≤ e → a < e
-fewer_after pair pairs line lines = omega (arith, pair, pairs, line, lines)
-
 pub steps-smaller : goal.steps-smaller
 steps-smaller g c =
     let line = c.in_ok-read_line-in-Both.ensures in
-    reads_once (fewer_after
-    (write_pairs_less c.pairs.invariant.kept.iteration c.in_ok-write_pairs-in-Both.ensures.advances)
-    c.pairs.invariant.fewer
-    (read_group_less c.lines.invariant.kept.iteration line.reads_line.1.came line.continues) c.lines.invariant.fewer)
+    -- each loop of a group reads at least one line
+    reads_once (omega (
+      arith,
+      write_pairs_less c.pairs.invariant.kept.iteration c.in_ok-write_pairs-in-Both.ensures.advances,
+      read_group_less c.lines.invariant.kept.iteration line.reads_line.1.came line.continues,
+    ))
     (blocks_read c.steps.invariant.iteration.here c.steps.invariant.iteration.between
     (by_blocks g (goal.at.steps-smaller g c).After-step))

@@ -1,9 +1,6 @@
--- `write_pair_entries`: each iteration writes the pair with the next line of the group, whose slot exists
--- (`ends_within`). A write that fails leaves a prefix of the pairs.
+-- Each iteration writes the pair with the next line of the group. A write that fails leaves a prefix of the pairs.
 use Rattle.ptmerge.proofs
-use Rattle.std.proofs.Common.{◌++◌, ◌+◌, ◌<◌, ◌≤◌, ◌≡◌, ◌==◌, Bool, true, false, [], ◌∷◌, List, ℕ, ap, arith, sym, map}
-use Rattle.std.proofs.Common.{⊎_elim, if◌then◌else◌}
-use Rattle.std.proofs.Common.{Ok, subst}
+use Rattle.std.proofs.Common.{◌++◌, ◌≤◌, ◌≡◌, [], ◌∷◌, List, ℕ, ap, arith, sym, map, Ok, subst}
 use proofs.Common.{lines_of_slots, join_job, pair_entries, unlines, usual}
 use Rattle.ptmerge.specs.Private.Write.{WriteBytesPost}
 use Rattle.ptlines.specs.declared.out.WriteFault.{WriteFault}
@@ -18,15 +15,7 @@ use proofs.tools.join.write_pair_entries.Goals as goal
 -- The slots of the group exist: those of the lines that were copied, or that of the second input's previous line.
 ends_within : {slot count : ℕ} (second : Sorted) (end : ℕ) → slot ≡ group_end_slot second end → HasSlots Second second
     → 4 ≤ count → end ≤ count → slot ≤ count
-ends_within {slot} {count} second end is slots four within =
-    by_copied (end == 4) is
-  where
-    low : second.previous_slot < 4
-    low = ⊎_elim (λ s. omega (arith, s.1)) (λ s. omega (arith, s.1)) slots
-
-    by_copied : (single : Bool) → slot ≡ (if single then second.previous_slot + 1 else end) → slot ≤ count
-    by_copied true is = omega (arith, is, low, four)
-    by_copied false is = omega (arith, is, within)
+ends_within = grind arith
 
 pub returns-in_err-write_pair : goal.returns-in_err-write_pair
 returns-in_err-write_pair g c =

@@ -1,5 +1,4 @@
--- `write_pairs` has pushed the pairs, since writing out the buffer pushes nothing more, whether the call then
--- succeeds or fails.
+-- Writing out the buffer pushes nothing more, whether it succeeds or fails.
 use Rattle.ptmerge.proofs
 use proofs.MergeLemmas.{wrote_and_sent}
 use proofs.tools.join.write_pairs.Goals as goal

@@ -1,5 +1,4 @@
--- `find_word_long`: the next word in the rest of the line is a word of the line, so the span returned is that of the
--- word with the number, and the words after it are those of the rest.
+-- The next word in the rest of the line is a word of the line, and the words after it are those of the rest.
 use Rattle.ptmerge.proofs
 use proofs.Common.{◌-◌, ◌≡◌, None, arith, option_copied, remaining_fields}
 use proofs.JoinLemmas.Fields.{after_piece}

@@ -1,5 +1,4 @@
--- `next_word`: the first piece that is not empty is a word of the line. An empty word between two blanks is skipped,
--- and does not change the remaining words.
+-- An empty word between two blanks is skipped, which does not change the remaining words.
 use Rattle.ptmerge.proofs
 use proofs.Common.{◌≡◌, ◌∷◌, [], None, Some, option_copied, sym, ◌∙◌, MatchOption, slice_split, is_blank}
 use proofs.Common.{refl, remaining_fields}

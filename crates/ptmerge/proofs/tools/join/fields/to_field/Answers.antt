@@ -2,18 +2,15 @@
 use Rattle.ptmerge.proofs
 use Rattle.ptlines.proofs.MatchWindows.{few_from_start, nth_from_start}
 use Rattle.std.proofs.Common.{arith}
-use Rattle.memchr.specs.Find.{is_byte}
 use proofs.JoinLemmas.FieldMasks.{fields_after_nth, no_field_after}
 use proofs.tools.join.fields.to_field.Goals as goal
 
 pub returns-clause-none : goal.returns-clause-none
 returns-clause-none c past =
-    let p = is_byte c.args.separator in
     no_field_after c.args.separator c.args.number c.args.line.now (omega arith)
-    (few_from_start p c.args.line.now (omega arith) c.requires.start c.after_nth.ensures past)
+    (few_from_start _ _ (omega arith) c.requires.start c.after_nth.ensures past)
 
 pub returns-clause-field : goal.returns-clause-field
 returns-clause-field c within =
-    let p = is_byte c.args.separator in
-    fields_after_nth c.args.separator c.args.number _ c.args.line.now (omega arith) c.after_nth.ensures.some
-    (nth_from_start p c.args.line.now (omega arith) c.requires.start c.after_nth.ensures within)
+    fields_after_nth _ _ _ _ (omega arith) c.after_nth.ensures.some
+    (nth_from_start _ _ (omega arith) c.requires.start c.after_nth.ensures within)

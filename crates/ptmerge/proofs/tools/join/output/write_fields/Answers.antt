@@ -1,5 +1,4 @@
--- `write_fields` without an output list: the key, the other fields of the first line and those of the second; a write
--- that fails leaves a prefix of these.
+-- The key, the other fields of the first line and those of the second; a write that fails leaves a prefix of these.
 use Rattle.ptmerge.proofs
 use proofs.Common.{option_copied, refl, join_job}
 use proofs.JoinLemmas.Fields.{partial_ends, partial_fails, partial_first, partial_more, first_fails, entry_plain}

@@ -1,7 +1,7 @@
--- `write_listed_fields`: the first item has no separator before it, so it is added before the loop, and each iteration
--- adds a separator and an item. If one cannot be added, a prefix of the line was written.
+-- The first item has no separator before it, so it is added before the loop. If an item cannot be added, a prefix was
+-- written.
 use Rattle.ptmerge.proofs
-use proofs.Common.{ap, append-nil, join_job, option_copied, output_separator, refl, sym, usual, with_prefix, ◌∙◌}
+use proofs.Common.{ap, join_job, option_copied, output_separator, refl, sym, usual, with_prefix, ◌∙◌}
 use proofs.JoinLemmas.Fields.{partial_starts, partial_ends, piece_added, piece_fails, push_is_write, between_is}
 use proofs.JoinLemmas.Fields.{entry_listed, first_piece_fails, first_then_rest}
 use proofs.tools.join.output.write_listed_fields.Goals as goal
@@ -26,7 +26,7 @@ pub returns-in_err-add-2 : goal.returns-in_err-add-2
 returns-in_err-add-2 g c =
     let e = c.args.entry.now in
     let add = c.add-in-len1-up-rest.ensures in
-    let more = first_then_rest _ c.items.rest.now _ c.in-len1-up-rest.len_at_least
+    let more = first_then_rest _ _ _ c.in-len1-up-rest.len_at_least
     c.item_or_filler-in-len1-up-rest.ensures in
     piece_fails _ _ _ _ c.items.invariant (ap (with_prefix (output_separator (join_job e.job.now).separator)) more)
     (rw (c.unwrap_or-separator.ensures ∙ sym (between_is (join_job e.job.now).separator)) at add.split)
@@ -36,11 +36,11 @@ pub items-preserved : goal.items-preserved
 items-preserved g c =
     let e = c.args.entry.now in
     let add = c.add-in-len1-up-rest.ensures in
-    let more = first_then_rest _ c.items.rest.now _ c.in-len1-up-rest.len_at_least
+    let more = first_then_rest _ _ _ c.in-len1-up-rest.len_at_least
     c.item_or_filler-in-len1-up-rest.ensures in
     piece_added _ _ _ _ c.items.invariant (ap (with_prefix (output_separator (join_job e.job.now).separator)) more)
     (rw (c.unwrap_or-separator.ensures ∙ sym (between_is (join_job e.job.now).separator)) at add.split)
     add.wrote.wrote (λ fine. c.in_ok-add-2.ensures.wrote.clean fine)
 
 pub returns : goal.returns
-returns g c = partial_ends (grind (usual, append-nil)) c.items.invariant (push_is_write c.push.ensures)
+returns g c = partial_ends (grind usual) c.items.invariant (push_is_write c.push.ensures)

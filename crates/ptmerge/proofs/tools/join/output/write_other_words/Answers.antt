@@ -1,5 +1,4 @@
--- `write_other_words`: each iteration writes a word before the join field, and `write_words` those after it. A write
--- that fails leaves a prefix of the words.
+-- `write_words` writes the words after the join field. A write that fails leaves a prefix of the words.
 use Rattle.ptmerge.proofs
 use proofs.Common.{◌∷◌, ℕ, List, ap, arith, with_prefix, usual}
 use proofs.JoinLemmas.Fields.{partial_ends, each_fails, each_more, others_more, others_rest}

@@ -1,6 +1,5 @@
--- Lines that are written as they are in them are the key and their other fields, so the first one is written unchanged.
+-- The first line is its key and its other fields, so it is written unchanged.
 use Rattle.ptmerge.proofs
-use proofs.Common.{join_job}
 use proofs.JoinLemmas.Fields.{pair_is}
 use proofs.tools.join.output.write_pair.Goals as goal
 
@@ -8,5 +7,4 @@ pub returns-then-is_unchanged-2 : goal.returns-then-is_unchanged-2
 returns-then-is_unchanged-2 g c =
     let begins = c.is_unchanged.ensures c.if-is_unchanged.true in
     let ends = c.is_unchanged-then-is_unchanged.ensures c.if-is_unchanged-2.true in
-    rw (pair_is (join_job c.args.job.now) c.args.key.now c.args.terminator begins ends c.requires.one c.requires.two)
-    at c.push_line.ensures.pushed
+    rw (pair_is _ _ _ begins ends c.requires.one c.requires.two) at c.push_line.ensures.pushed

@@ -1,4 +1,4 @@
--- `write_words`: each iteration writes the next word after a space; a write that fails leaves a prefix of the words.
+-- Each iteration writes the next word after a space; a write that fails leaves a prefix of the words.
 use Rattle.ptmerge.proofs
 use Rattle.std.proofs.Common.{◌∷◌, ℕ, List}
 use proofs.JoinLemmas.Fields.{each_fails, each_more}

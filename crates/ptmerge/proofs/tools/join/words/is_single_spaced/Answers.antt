@@ -1,5 +1,5 @@
--- If a blank among the next 64 bytes is misplaced, the line is not single-spaced. Otherwise the rest of the line
--- decides, with whether the last of these bytes is a space.
+-- If no blank among the next 64 bytes is misplaced, the rest of the line decides, with whether the last of these bytes
+-- is a space.
 use Rattle.ptmerge.proofs
 use proofs.Common.{◌==◌, ◌∙◌, ◌+◌, ◌^◌, ◌≤◌, ◌-◌, ◌<◌, length, ap, arith, drop, is_single_spaced, length-drop, sym}
 use Rattle.std.proofs.Common.{◌/◌, take}
@@ -30,11 +30,10 @@ loop-at-preserved c =
     let few : length v ≤ 64 = omega (arith, length-chunk at 64 bytes room) in
     let spaced = sym (c.are_single_spaces.ensures v few c.mask_at-spaces.ensures c.mask_at.ensures)
     ∙ c.if-not-are_single_spaces.false in
-    let before = ap (λ x. x / 2 ^ 63) c.mask_at-spaces.ensures
-    ∙ top_bit 63 blank v (length-chunk at 64 bytes room) in
+    let before = ap (λ x. x / 2 ^ 63) c.mask_at-spaces.ensures ∙ top_bit 63 blank v (length-chunk at 64 bytes room) in
     record {
       within = room;
-      bit = omega (arith, before);
+      bit = omega arith;
       same = c.loop-at.invariant.same
           ∙ rw (spaced, ← bit_is (last_blank blank v), ← before) at (chunk_spaced blank bytes at room);
     }
@@ -45,8 +44,8 @@ returns c =
     let at = c.loop-at.at in
     let left = length bytes - at in
     let long = length-drop at bytes in
-    let all = take_all left (drop at bytes) (omega (arith, long)) in
-    let short : length (take left (drop at bytes)) < 64 = omega (arith, c.loop-at-test.false, ap length all, long) in
-    spaced_rest (c.loop-at.before == 1) _ _ (take left (drop at bytes)) short c.masks_of-spaces.ensures.first
+    let all = take_all left (drop at bytes) (omega arith) in
+    let short : length (take left (drop at bytes)) < 64 = omega (arith, ap length all, long) in
+    spaced_rest _ _ _ _ short c.masks_of-spaces.ensures.first
     c.masks_of-spaces.ensures.second c.are_single_spaces-2.ensures
     ∙ ap (is_single_spaced (c.loop-at.before == 1)) all ∙ sym c.loop-at.invariant.same

@@ -1,11 +1,11 @@
--- The loop of `Group::clear`: before it nothing is emptied, and each iteration empties the next slot of the group.
+-- Each iteration empties the next slot of the group.
 use Rattle.ptmerge.proofs
 use Rattle.std.proofs.Common.{arith, rules}
-use proofs.JoinLemmas.Group.{clears_more, clears_none}
+use proofs.JoinLemmas.Group.{clears_more}
 use proofs.tools.join.key_group.Group.clear.Goals as goal
 
 pub loop-slot-init : goal.loop-slot-init
-loop-slot-init g c = search (rules, clears_none)
+loop-slot-init g c = search rules
 
 pub loop-slot-preserved : goal.loop-slot-preserved
 loop-slot-preserved g c =

@@ -1,4 +1,4 @@
--- `Row::add` when the bytes fit: they are copied after those of the row, and nothing is pushed.
+-- Bytes that fit are copied after those of the row, and nothing is pushed.
 use Rattle.ptmerge.proofs
 use proofs.Common.{◌++◌, [], ap, append_assoc, sym, ◌∙◌}
 use Rattle.std.proofs.Common.{take}
