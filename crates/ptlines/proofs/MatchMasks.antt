@@ -139,7 +139,7 @@ ends_mask test bytes n first all few =
 pub last_of_64 : (test : ℕ → Bool) (bytes : List ℕ) (at start m : ℕ) → start ≤ at → start + 64 ≡ length bytes
     → m ≡ mask_l (map test (chunk start 64 bytes)) → m / 2 ^ (at - start) ≡ mask_l (map test (drop at bytes))
 last_of_64 test bytes at start m order size is =
-    let all : take 64 (drop start bytes) ≡ drop start bytes = take_all 64 (drop start bytes) (omega (arith, length-drop start bytes)) in
+    let all = take_all 64 (drop start bytes) (omega (arith, length-drop start bytes)) in
     let same : start + (at - start) ≡ at = omega arith in
     rw (is, all, shifted, drop-map, drop-drop, same)
 
@@ -156,8 +156,7 @@ pub either_mask : (test : ℕ → Bool) (a b : ℕ) (v : List ℕ) (n : ℕ) →
     (zip2 (λ x y. cond (eqb x y) 255 0) v (replicate n b)))) % 2 ^ 64 ≡ mask_l (map test v)
 either_mask test a b v n is long few =
     let first = zip2_splat (λ x y. cond (eqb x y) 255 0) v n a long in
-    let second = zip2_splat (λ x y. cond (eqb x y) 255 0) v n b long in
-    ap (λ ms. mask_l ms % 2 ^ 64) (ap (map (top 7)) (zip2_of_maps bit_or _ _ v first second) ∙ map-map (top 7) _ v
+    ap (λ ms. mask_l ms % 2 ^ 64) (ap (map (top 7)) (zip2_of_maps bit_or _ _ v first (zip2_splat (λ x y. cond (eqb x y) 255 0) v n b long)) ∙ map-map (top 7) _ v
     ∙ (λ i. map (λ x. (either_top (eqb x a) (eqb x b) ∙ sym (is x)) i) v))
     ∙ mask_l-mod (map test v) 64 (omega (arith, length-map v test))
 

@@ -142,11 +142,10 @@ module _ (p : ℕ → Bool) (bytes : List ℕ) {from to : ℕ} (order : from ≤
   nth_from {before} {at} nth =
       let later = nth_later before nth in
       let is : from + (at - from) ≡ at = omega arith in
-      let parts = rw is at (count_parts p front from (at - from)) in
       let (within, passes, counted) = nth in (
         omega (arith, length-drop from front),
         rw (get_or-drop, is) passes,
-        omega (arith, parts, counted, ap (count_by p) same_start),
+        omega (arith, (rw is at (count_parts p front from (at - from))), counted, ap (count_by p) same_start),
       )
 
   pub few_from : {before : ℕ} → count_by p front ≤ before + count_by p (take from bytes)
@@ -154,7 +153,7 @@ module _ (p : ℕ → Bool) (bytes : List ℕ) {from to : ℕ} (order : from ≤
   few_from {before} few =
       let is : from + (to - from) ≡ to = omega arith in
       let long = length-take-le to bytes fits in
-      let whole : take to front ≡ front = take_all to front (omega arith) in
+      let whole = take_all to front (omega arith) in
       let rest : take (to - from) (drop from front) ≡ drop from front =
       take_all _ _ (omega (arith, length-drop from front)) in
       let parts = rw (is, whole, rest) at (count_parts p front from (to - from)) in

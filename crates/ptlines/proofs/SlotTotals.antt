@@ -45,8 +45,7 @@ module _ {X : Type 0} where
       → P (get_or (swap xs a b) k d)
   All-swap P [] a b a_in b_in all = all
   All-swap P (x ∷ more) a b a_in b_in all =
-      let xs = x ∷ more in
-      All-set P _ b _ (grind arith) (All-set P xs a _ (grind arith) all)
+      All-set P _ b _ (grind arith) (All-set P (x ∷ more) a _ (grind arith) all)
 
 abbrev pub line_of : SlotBuffer → List ℕ
 line_of slot = slot.line

@@ -84,7 +84,7 @@ unlines-lines end (b ∷ []) = grind (arith, byte_eq, not_ended)
   where
     not_ended : (b == end) ≡ false → EndsWithByte end (b ∷ []) → ⊥
     not_ended e ([], h) = eqb-false b end e (ap (λ xs. get_or xs 0 0) h)
-    not_ended e (f ∷ fs, h) = let bad = ap (drop 1) h in not_nil fs bad
+    not_ended e (f ∷ fs, h) = not_nil fs (ap (drop 1) h)
       where
         not_nil : (xs : List ℕ) → [] ≡ xs ++ end ∷ [] → ⊥
         not_nil [] z = cc

@@ -12,8 +12,7 @@ loop-left-preserved c = record {
   few = omega arith;
   cleared = λ bits is.
       let next : c.args.count - (c.loop-left.left - 1) ≡ suc (c.args.count - c.loop-left.left) = omega arith in
-      let rest = c.loop-left.invariant.cleared bits is in
-      rw (next, rest) (and_less (without (c.args.count - c.loop-left.left) bits));
+      rw (next, (c.loop-left.invariant.cleared bits is)) (and_less (without (c.args.count - c.loop-left.left) bits));
 }
 
 pub returns : goal.returns
@@ -23,8 +22,7 @@ returns c = λ test bytes few is some.
     let nth = after_set test bytes (c.args.count - c.loop-left.left) few (omega arith) rest in
     elim c.loop-left-test.branch [
       | then-loop-left-test+else-rest-ne0 w ↦ (
-          let none : count_trailing_zeros 64 0 ≡ 64 = refl in
-          absurd (omega (arith, few, none, rw w.if-rest-ne0.false at nth))
+          absurd (omega (arith, few, rw w.if-rest-ne0.false at nth))
           )
       | else-loop-left-test w ↦ (
           let all : c.args.count - c.loop-left.left ≡ c.args.count = omega arith in

@@ -30,8 +30,7 @@ loop-at-preserved g c =
 pub after-requires : goal.after-requires
 after-requires g c =
     let window = c.of_64-window.ensures.window in
-    let nth = nth_in_window _ _ window (omega arith) c.nth_bit.ensures in
-    omega (arith, window_inside _ _ window nth, window.few)
+    omega (arith, window_inside _ _ window (nth_in_window _ _ window (omega arith) c.nth_bit.ensures), window.few)
 
 pub returns-then-left-count : goal.returns-then-left-count
 returns-then-left-count g c =

@@ -14,9 +14,8 @@ overflow_add-self g c =
 
 pub invariant_of-self : goal.invariant_of-self
 invariant_of-self g c =
-    let low = slot_in_range _ _ c.self.view_is c.requires in
     record {
-      counted = counted_after_set _ _ _ low c.index_mut.ensures.value c.self.invariant.counted
+      counted = counted_after_set _ _ _ (slot_in_range _ _ c.self.view_is c.requires) c.index_mut.ensures.value c.self.invariant.counted
           _ c.append.ensures.short c.append.ensures.buffer (grind (arith, length-append)) (omega arith) (omega arith);
       room = c.self.invariant.room;
     }
@@ -29,8 +28,7 @@ index_mut-requires g c = grind usual
 
 pub returns-in-Ok-clause-ok : goal.returns-in-Ok-clause-ok
 returns-in-Ok-clause-ok g c =
-    let low = slot_in_range _ _ c.self.view_is c.requires in
-    let had = line_before _ _ c.self.view_is low c.index_mut.ensures.value in
+    let had = line_before _ _ c.self.view_is (slot_in_range _ _ c.self.view_is c.requires) c.index_mut.ensures.value in
     store_after_set _ _ c.self.view_is _ (c.in-Ok.ensures.ok ∙ ap (λ l. l ++ c.args.bytes.now) had)
     (invariant_of-self g c).counted.total c.max-self-inside.ensures
 

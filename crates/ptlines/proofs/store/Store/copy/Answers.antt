@@ -40,7 +40,6 @@ invariant_of-self g c =
     c.self.invariant.counted.total c.index.ensures c.size.ensures.size in
     let peak = c.max-self-inside.result in
     let below : total_bytes (slot_lines c.append_slot.new.slots) ≤ peak = grind (arith, slot_lines) in
-    let fit : AreBuffersBounded peak s.slots.items = grind arith in
     record {
       counted = record {
         total = total;

@@ -20,8 +20,7 @@ put_counted slots slot had low is counted was was_is bytes size near within new 
 
 pub overflow_sub-self : goal.overflow_sub-self
 overflow_sub-self g c =
-    let low = slot_in_range _ _ c.self.view_is c.requires.slot in
-    omega (arith, line_le_total _ _ _ low c.index.ensures c.self.invariant.counted)
+    omega (arith, line_le_total _ _ _ (slot_in_range _ _ c.self.view_is c.requires.slot) c.index.ensures c.self.invariant.counted)
 
 pub overflow_add-self : goal.overflow_add-self
 overflow_add-self g c =
