@@ -75,7 +75,7 @@ shifted zero bits = div-one (mask_l bits)
 shifted (suc n) [] = zero-div (2 ^ suc n)
 shifted (suc n) (b ∷ bits) =
     let half : (b : Bool) → (cond b 1 0 + 2 * mask_l bits) / 2 ≡ mask_l bits = grind arith in
-    grind (arith, half, pow-suc, div-div-eq-div-mul, shifted n bits)
+    grind (arith, half, div-div-eq-div-mul, shifted n bits)
 
 -- without the first items up to one at an index
 pub mask_after : (test : ℕ → Bool) (v : List ℕ) (n : ℕ) {mask : ℕ} → mask ≡ mask_l (map test v)
@@ -93,7 +93,7 @@ pub halves : (b : Bool) (x : ℕ) → ((bit b + 2 * x) / 2 ≡ x) × ((bit b + 2
 halves = grind arith
 
 pub or_bits : (b c : Bool) (x y : ℕ) → bit_or (bit b + 2 * x) (bit c + 2 * y) ≡ bit (b || c) + 2 * bit_or x y
-or_bits b c x y = grind (arith, or_step (bit b + 2 * x) (bit c + 2 * y), halves b x, halves c y)
+or_bits b c x y = grind (arith, or_step (bit b + 2 * x) (bit c + 2 * y), halves c y)
 
 -- ---- the mask of few bytes, from those of the first and of the last
 
@@ -125,7 +125,7 @@ ends_mask test bytes n first all few =
     let size : length (drop last bits) ≡ n = grind usual in
     let small = fits (mask_l (drop last bits)) n last (rw size at (mask_l-lt (drop last bits))) (omega arith) in
     let whole : mask_l (drop last bits) * 2 ^ last % 2 ^ 64 ≡ 2 ^ last * mask_l (drop last bits) = omega arith in
-    cc (take-map _ n _, tail, or_ends last n _ (omega arith))
+    cc (take-map _ n _, or_ends last n _ (omega arith))
   where
     fits : (m n last : ℕ) → m < 2 ^ n → n + last ≤ 64 → m * 2 ^ last < 2 ^ 64
     fits m n last low le = omega (

@@ -5,4 +5,4 @@ use proofs.KnownBytes.{append_known-append}
 use proofs.out.write_out.Goals as goal
 
 pub loop-rest-preserved : goal.loop-rest-preserved
-loop-rest-preserved g c = grind (usual, take_rest, take, append_known-append)
+loop-rest-preserved g c = grind (usual, take, append_known-append)

@@ -22,7 +22,7 @@ returns c = λ test bytes few is some.
     let nth = after_set test bytes (c.args.count - c.loop-left.left) few (omega arith) rest in
     elim c.loop-left-test.branch [
       | then-loop-left-test+else-rest-ne0 w ↦ (
-          absurd (omega (arith, few, rw w.if-rest-ne0.false at nth))
+          absurd (omega (arith, rw w.if-rest-ne0.false at nth))
           )
       | else-loop-left-test w ↦ (
           let all : c.args.count - c.loop-left.left ≡ c.args.count = omega arith in

@@ -25,7 +25,7 @@ pub returns-else-from-to-clause-ok : goal.returns-else-from-to-clause-ok
 returns-else-from-to-clause-ok g c = grind (arith, append_to_front)
 
 pub returns-else-from-to-clause-err : goal.returns-else-from-to-clause-err
-returns-else-from-to-clause-err g c = grind (usual, on_err)
+returns-else-from-to-clause-err g c = grind usual
 
 pub returns-else-from-to-clause-short : goal.returns-else-from-to-clause-short
 returns-else-from-to-clause-short g c = grind (arith, bounded_front)
@@ -38,7 +38,7 @@ returns-else-from-to-clause-buffers g c =
     c.append-else-from-to.ensures.buffer
 
 pub returns-then-from-to-clause-err : goal.returns-then-from-to-clause-err
-returns-then-from-to-clause-err g c = grind (usual, on_err)
+returns-then-from-to-clause-err g c = grind usual
 
 pub offset_bounds-front-from : goal.offset_bounds-front-from
 offset_bounds-front-from g c = search scaled_Fits

@@ -9,7 +9,7 @@ use proofs.scan.MatchWindow.after_last_nth.Goals as goal
 pub after-requires : goal.after-requires
 after-requires g c =
     let window = c.new-window.ensures.window in
-    omega (arith, window_inside _ _ window (nth_in_window _ _ window (omega arith) c.nth_bit.ensures), window.few)
+    omega (arith, window_inside _ _ window (nth_in_window _ _ window (omega arith) c.nth_bit.ensures))
 
 pub returns-then-before-from : goal.returns-then-before-from
 returns-then-before-from g c =
@@ -27,6 +27,6 @@ returns g c =
     rw c.past.ensures (after_all p bytes c.requires.within.1 (omega (
       arith,
       window_counted p bytes c.new-window.ensures.window,
-      count_up_to p bytes c.args.to c.new-window.result.end (omega (arith, c.new-window.ensures.end)),
+      count_up_to p bytes c.args.to c.new-window.result.end (omega arith),
       ap (λ i. count_by p (take i bytes)) c.new-window.ensures.at,
     )))

@@ -21,7 +21,7 @@ invariant_of-self g c =
     }
 
 pub invariant_of-self-in-Err : goal.invariant_of-self-in-Err
-invariant_of-self-in-Err g c = grind (usual, slot_in_range)
+invariant_of-self-in-Err g c = grind usual
 
 pub index_mut-requires : goal.index_mut-requires
 index_mut-requires g c = grind usual

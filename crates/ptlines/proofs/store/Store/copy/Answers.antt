@@ -16,7 +16,7 @@ copied : (lines cleared : List (List ℕ)) (after : List SlotBuffer) (from to by
     → (byte_count + size ≡ total_bytes (slot_lines after)) × (byte_count ≡ total_bytes (set lines to []))
     × (byte_count + size ≡ total_bytes (set lines to (get_or lines from [])))
 copied lines cleared after from to byte_count size v differ from_in to_in cleared_is after_is counts there =
-    let within : from < length after = grind (arith, length-map, length-set, get_or) in
+    let within : from < length after = grind (arith, length-map, length-set) in
     let line : v.line ≡ get_or (slot_lines after) from [] = grind (arith, get_or-map) in
     grind (usual, total_bytes_set)
 
@@ -39,7 +39,7 @@ invariant_of-self g c =
     c.requires.from_in c.requires.to_in cleared (ap slot_lines whole ∙ lines)
     c.self.invariant.counted.total c.index.ensures c.size.ensures.size in
     let peak = c.max-self-inside.result in
-    let below : total_bytes (slot_lines c.append_slot.new.slots) ≤ peak = grind (arith, slot_lines) in
+    let below : total_bytes (slot_lines c.append_slot.new.slots) ≤ peak = grind arith in
     record {
       counted = record {
         total = total;
@@ -52,7 +52,7 @@ invariant_of-self g c =
     }
 
 pub returns-in-Ok-clause-ok : goal.returns-in-Ok-clause-ok
-returns-in-Ok-clause-ok g c = grind (arith, with_items_is, copy_lines, slot_lines, with_items, copied, set, get_or)
+returns-in-Ok-clause-ok g c = grind (arith, with_items_is, copy_lines, with_items, copied, set, get_or)
 
 pub append_slot-requires : goal.append_slot-requires
 append_slot-requires g c = grind usual

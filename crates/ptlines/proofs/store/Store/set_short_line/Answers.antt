@@ -15,7 +15,7 @@ put_counted : (slots : List SlotBuffer) (slot : ℕ) {byte_count before : ℕ} (
     → AreCounted (byte_count - was + size) peak (set slots slot new)
 put_counted slots slot had low is counted was was_is bytes size near within new new_is peak less more =
     let long : length new.line ≡ size = grind (arith, length-take-le) in
-    counted_after_set slots slot had low is counted new (omega (arith, near))
+    counted_after_set slots slot had low is counted new (omega arith)
     (grind arith) (omega (arith, (line_le_total slots slot had low is counted))) less more
 
 pub overflow_sub-self : goal.overflow_sub-self
