@@ -89,9 +89,13 @@ module _ (p : ℕ → Bool) (bytes : List ℕ) where
   pub count_up_to : (i j : ℕ) → i ≤ j → count_by p (take i bytes) ≤ count_by p (take j bytes)
   count_up_to i j le = grind (arith, sum_by-take-le (λ b. cond (p b) 1 0) (take j bytes) i, take-take)
 
+  count_parts : (at n : ℕ)
+      → count_by p (take (at + n) bytes) ≡ count_by p (take at bytes) + count_by p (take n (drop at bytes))
+  count_parts at n = simp (take-add, sum_by-append)
+
   pub count_chunk : (at : ℕ)
       → count_by p (take (at + 64) bytes) ≡ count_by p (take at bytes) + count_by p (chunk at 64 bytes)
-  count_chunk at = simp (take-add, sum_by-append)
+  count_chunk at = count_parts at 64
 
   module _ (size at m k : ℕ) (room : at + size ≤ length bytes) (h : IsNth p 0 m (chunk at size bytes) k) where
     pub near : k < size
@@ -112,11 +116,6 @@ module _ (p : ℕ → Bool) (bytes : List ℕ) where
   first_is at (within, passes, none) = (grind (arith, get_or-take, get_or-le-sum_by, length-take-le), passes)
 
 -- ---- a window of a list
-
-module _ (p : ℕ → Bool) (bytes : List ℕ) where
-  count_parts : (at n : ℕ)
-      → count_by p (take (at + n) bytes) ≡ count_by p (take at bytes) + count_by p (take n (drop at bytes))
-  count_parts at n = simp (take-add, sum_by-append)
 
 module _ (p : ℕ → Bool) (bytes : List ℕ) {from to : ℕ} (order : from ≤ to) (fits : to ≤ length bytes) where
   abbrev front : List ℕ

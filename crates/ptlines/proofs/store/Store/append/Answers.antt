@@ -8,9 +8,7 @@ use proofs.store.Store.append.Goals as goal
 
 pub overflow_add-self : goal.overflow_add-self
 overflow_add-self g c =
-    let s = c.self.inside.slots in
-    let few : length (slot_lines s.items) < 2 ^ 63 = omega (arith, length-map s.items line_of) in
-    omega (arith, total_fits (slot_lines s.items) (length c.args.bytes.now) c.self.invariant.counted.lines few (omega arith))
+    omega (arith, total_fits c.self.inside.slots.items (length c.args.bytes.now) c.self.invariant.counted (omega arith) (omega arith))
 
 pub invariant_of-self : goal.invariant_of-self
 invariant_of-self g c =

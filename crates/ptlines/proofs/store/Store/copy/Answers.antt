@@ -22,10 +22,7 @@ copied lines cleared after from to byte_count size v differ from_in to_in cleare
 
 pub overflow_add-self : goal.overflow_add-self
 overflow_add-self g c =
-    let s = c.self.inside.slots in
-    let few : length (slot_lines s.items) < 2 ^ 63 = omega (arith, length-map s.items line_of) in
-    let fits = total_fits (slot_lines s.items) c.size.result c.self.invariant.counted.lines few (omega arith) in
-    omega arith
+    omega (arith, total_fits c.self.inside.slots.items c.size.result c.self.invariant.counted (omega arith) (omega arith))
 
 pub invariant_of-self : goal.invariant_of-self
 invariant_of-self g c =
