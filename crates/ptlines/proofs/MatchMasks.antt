@@ -7,7 +7,7 @@ use proofs.Common.{◌≡◌, ℕ, ◌+◌, ◌*◌, ◌^◌, ◌%◌, ◌<◌, 
 use proofs.Common.{map, refl, sym, ◌∙◌, ap, arith, bit_or, drop-drop, length-map, length-chunk}
 use proofs.Common.{None, drop, ◌-◌, prefix_len, mask_l, chunk, Nowhere, Passes, IsFirst, IsFirstByte, usual}
 use Rattle.std.specs.Option.{option_map}
-use Rattle.std.proofs.Common.{pow-suc, div-one, zero, suc, ◌/◌, cond, ◌||◌, take, replicate, eqb, true, false}
+use Rattle.std.proofs.Common.{div-one, zero, suc, ◌/◌, cond, ◌||◌, take, replicate, eqb, true, false}
 use Rattle.std.proofs.Math.Nat.{pow-succ', div-div-eq-div-mul, zero-div, mul-lt-mul_of_pos_right, mul_assoc, one-le-pow}
 use Rattle.std.proofs.Math.Pow.{pow-add, pow_mono}
 use Rattle.memchr.specs.Find.{is_byte, is_byte2}

@@ -18,7 +18,7 @@ use Rattle.memchr.specs.Find.{NoneBefore}
 use lemmas.Bool.{cases_lt}
 use lemmas.List.{map-id, take-map, get_or-map}
 use lemmas.List.Sums.{count_by_more_yes, get_or-le-sum_by, sum_by-append, sum_by-take-le}
-use lemmas.Simd.{first_set_mask_l, get_or-chunk, ones-mask_l}
+use lemmas.Simd.{first_set_mask_l, ones-mask_l}
 use lib.Bits.{bit_and, and_step, and_self, and_zero_l}
 use lib.Count.{count_trailing_zeros}
 

@@ -3,7 +3,7 @@
 -- lengths, and always fits 128 bits. `store_of` is the model of a store with these slots.
 use Rattle.ptlines.proofs
 use Rattle.std.proofs.lemmas
-use proofs.Common.{◌≡◌, ◌≢◌, ℕ, zero, suc, ◌+◌, ◌*◌, ◌^◌, ◌<◌, ◌≤◌, List, [], ◌∷◌, ◌++◌, length, take, drop, get_or}
+use proofs.Common.{◌≡◌, ◌≢◌, ℕ, ◌+◌, ◌*◌, ◌^◌, ◌<◌, ◌≤◌, List, [], ◌∷◌, ◌++◌, length, take, drop, get_or}
 use proofs.Common.{sym, ◌∙◌, ap, arith, set, Bool, subst, refl, max, set-set, swap, length-map, Slots}
 use proofs.Common.{line, total_bytes, with_line, rules, usual}
 use Rattle.ptlines.specs.Private.Slots.{SlotBuffer, slot_lines, AreBuffersBounded, AreCounted, LengthsAreBounded}

@@ -1,7 +1,6 @@
 -- A match in a chunk is the first one, as the chunks before it have none.
 use Rattle.ptlines.proofs
 use proofs.Common.{arith}
-use proofs.MatchMasks.{nowhere_trans}
 use proofs.scan.find_byte.Goals as goal
 
 pub returns-in-Some : goal.returns-in-Some

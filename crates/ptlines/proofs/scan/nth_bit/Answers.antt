@@ -1,7 +1,7 @@
 -- Each iteration clears one more bit. After `count` of them the lowest bit that is left is the match after `count`
 -- others. A mask of more than `count` set bits is not zero before that.
 use Rattle.ptlines.proofs
-use Rattle.std.proofs.Common.{◌≡◌, ◌-◌, suc, map, arith, refl}
+use Rattle.std.proofs.Common.{◌≡◌, ◌-◌, suc, map, arith}
 use proofs.MatchWindows.{and_less, after_set, without}
 use lib.Count.{count_trailing_zeros}
 use proofs.scan.nth_bit.Goals as goal

@@ -1,7 +1,6 @@
 -- `push_slow`: the block, filled with the first of the bytes, is written, and the rest is pushed; or that write failed.
 use Rattle.ptlines.proofs
 use Rattle.std.proofs.Common.{rules, arith}
-use Rattle.std.proofs.lemmas.List.{take-append-drop}
 use proofs.Push.{push_broken, push_rest}
 use proofs.out.Out.push_slow.Goals as goal
 

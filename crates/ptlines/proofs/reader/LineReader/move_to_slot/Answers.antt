@@ -1,7 +1,7 @@
 -- `move_to_slot`: the first buffered bytes are appended to the slot, the others stay buffered, and the
 -- reader stays sound.
 use Rattle.ptlines.proofs
-use proofs.Common.{line, with_line, usual}
+use proofs.Common.{line, usual}
 use proofs.Consume.{rest_of_range}
 use proofs.reader.LineReader.move_to_slot.Goals as goal
 

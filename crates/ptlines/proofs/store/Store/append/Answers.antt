@@ -1,9 +1,8 @@
 -- `append`: the line and the total grow by the appended bytes, unless memory could not be allocated. The total fits
 -- 128 bits, and the invariant of the store holds in both cases.
 use Rattle.ptlines.proofs
-use proofs.Common.{◌<◌, ◌^◌, length, ◌++◌, ◌∙◌, ap, arith, length-append, length-map, usual}
-use Rattle.ptlines.specs.Private.Slots.{slot_lines}
-use proofs.SlotTotals.{counted_after_set, total_fits, slot_in_range, line_before, store_after_set, line_of}
+use proofs.Common.{length, ◌++◌, ◌∙◌, ap, arith, length-append, usual}
+use proofs.SlotTotals.{counted_after_set, total_fits, slot_in_range, line_before, store_after_set}
 use proofs.store.Store.append.Goals as goal
 
 pub overflow_add-self : goal.overflow_add-self

@@ -1,12 +1,12 @@
 -- `copy`: the target is emptied and the line of the source appended. If memory ran out, the target stays empty. The
 -- total (`copied`) fits 128 bits, and the invariant of the store holds in both cases.
 use Rattle.ptlines.proofs
-use proofs.Common.{◌≡◌, ◌≢◌, ◌<◌, ◌≤◌, ◌+◌, ◌^◌, ℕ, List, [], get_or, length, set, sym, ◌∙◌, ap, subst, arith}
+use proofs.Common.{◌≡◌, ◌≢◌, ◌<◌, ◌≤◌, ◌+◌, ℕ, List, [], get_or, length, set, sym, ◌∙◌, ap, subst, arith}
 use proofs.Common.{length-map, with_items_is, total_bytes, usual}
 use Rattle.std.specs.Vec.{with_items}
 use Rattle.std.proofs.lemmas.List.{get_or-map, length-set}
 use Rattle.ptlines.specs.Private.Slots.{SlotBuffer, slot_lines, AreBuffersBounded}
-use proofs.SlotTotals.{total_fits, copy_lines, total_bytes_set, line_of}
+use proofs.SlotTotals.{total_fits, copy_lines, total_bytes_set}
 use proofs.store.Store.copy.Goals as goal
 
 copied : (lines cleared : List (List ℕ)) (after : List SlotBuffer) (from to byte_count size : ℕ) (v : SlotBuffer)
