@@ -172,9 +172,6 @@ number_step = search (rules, digit_from_value, digits_value_more)
 pub not_empty : {X : Type 0} (xs : List X) {b : Bool} → b ≡ eqb (length xs) 0 → b ≡ false → is_empty xs ≡ false
 not_empty = grind arith
 
-pub digits_of_number : (bs : List ℕ) → true ≡ is_number bs → All (λ d. digit_value d < 10) bs
-digits_of_number = grind usual
-
 -- ---- the elements, split at dashes
 
 -- the interval from `n` to `m`, in the steps of the code

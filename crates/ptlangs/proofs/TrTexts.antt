@@ -360,9 +360,6 @@ or_else_or : (a b : Option (SetElement × List SetChar)) (r : Result (SetElement
 or_else_or None b r = refl
 or_else_or (Some found) b r = refl
 
-abbrev or_alone : SetRole → List SetChar → Result Segment SetFaultKind × ℕ
-or_alone role us = if has_range us then the_range us else the_single us
-
 -- the first segment, if `form`, `class` and `equivalence` are what the steps find after a bracket
 first_agrees : (role : SetRole) (u : SetChar) (us : List SetChar)
     (form class equivalence : Option (SetElement × List SetChar))

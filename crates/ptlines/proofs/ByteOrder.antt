@@ -33,7 +33,7 @@ digits_cmp : (p : ℕ) (xs ys : List ℕ) → length xs ≡ length ys → Each1 
     → nat_cmp (number p xs) (number p ys) ≡ byte_cmp xs ys
 digits_cmp p [] [] long fx fy = nat_cmp_equal p
 digits_cmp p (x ∷ xs) (y ∷ ys) long (x_fits, xs_fit) (y_fits, ys_fit) =
-    grind (arith, nat_cmp_less, number_lt, digits_cmp (p * 256 + x) xs ys (omega arith) xs_fit ys_fit)
+    grind (arith, number_lt, digits_cmp (p * 256 + x) xs ys (omega arith) xs_fit ys_fit)
 digits_cmp p _ _ long fx fy = absurd (omega arith)
 
 pub word_1 : (xs : List ℕ) → length xs ≡ 1 → get_or xs 0 0 ≡ number 0 xs
@@ -90,7 +90,7 @@ module _ {n : ℕ} {read : List ℕ → ℕ} (is_number : (xs : List ℕ) → le
       (ap (byte_cmp (take at a)) (sym same) ∙ tied_itself nat_list_cmp_total (take at a)))
 
   pub words_same : x ≡ y → take (at + n) a ≡ take (at + n) b
-  words_same is = grind (arith, nat_cmp, take-add, xs, take, byte_cmp_equal, ys, words_cmp)
+  words_same is = grind (arith, take-add, xs, take, byte_cmp_equal, ys, words_cmp)
 
 pub shorter_prefix_same : (m n : ℕ) (a b : List ℕ) → m ≤ n → take n a ≡ take n b → take m a ≡ take m b
 shorter_prefix_same m n a b less same = sym (take-take m n a less) ∙ ap (take m) same ∙ take-take m n b less

@@ -28,7 +28,7 @@ module _ {I : Type 0} (names : InputNames I) (engine : EngineSpec I) where
       → CallPost names engine old old WriteFault
   call_on_failed_output {old} fault not_denied = record {
     given = λ i. received_with [] (old.reader i);
-    came = grind (arith, has_received);
+    came = grind arith;
     untouched = λ i unread. refl;
     pushed = [];
     wrote = push_nothing _;

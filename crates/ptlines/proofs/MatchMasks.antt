@@ -7,7 +7,7 @@ use proofs.Common.{◌≡◌, ℕ, ◌+◌, ◌*◌, ◌^◌, ◌%◌, ◌<◌, 
 use proofs.Common.{map, refl, sym, ◌∙◌, ap, arith, bit_or, drop-drop, length-map, length-chunk}
 use proofs.Common.{None, drop, ◌-◌, prefix_len, mask_l, chunk, Nowhere, Passes, IsFirst, IsFirstByte, usual}
 use Rattle.std.specs.Option.{option_map}
-use Rattle.std.proofs.Common.{pow-suc, div-one, zero, suc, ◌/◌, cond, ◌||◌, take, replicate, eqb, true, false}
+use Rattle.std.proofs.Common.{div-one, zero, suc, ◌/◌, cond, ◌||◌, take, replicate, eqb, true, false}
 use Rattle.std.proofs.Math.Nat.{pow-succ', div-div-eq-div-mul, zero-div, mul-lt-mul_of_pos_right, mul_assoc, one-le-pow}
 use Rattle.std.proofs.Math.Pow.{pow-add, pow_mono}
 use Rattle.memchr.specs.Find.{is_byte, is_byte2}
@@ -75,7 +75,7 @@ shifted zero bits = div-one (mask_l bits)
 shifted (suc n) [] = zero-div (2 ^ suc n)
 shifted (suc n) (b ∷ bits) =
     let half : (b : Bool) → (cond b 1 0 + 2 * mask_l bits) / 2 ≡ mask_l bits = grind arith in
-    grind (arith, half, pow-suc, div-div-eq-div-mul, shifted n bits)
+    grind (arith, half, div-div-eq-div-mul, shifted n bits)
 
 -- without the first items up to one at an index
 pub mask_after : (test : ℕ → Bool) (v : List ℕ) (n : ℕ) {mask : ℕ} → mask ≡ mask_l (map test v)
@@ -93,7 +93,7 @@ pub halves : (b : Bool) (x : ℕ) → ((bit b + 2 * x) / 2 ≡ x) × ((bit b + 2
 halves = grind arith
 
 pub or_bits : (b c : Bool) (x y : ℕ) → bit_or (bit b + 2 * x) (bit c + 2 * y) ≡ bit (b || c) + 2 * bit_or x y
-or_bits b c x y = grind (arith, or_step (bit b + 2 * x) (bit c + 2 * y), halves b x, halves c y)
+or_bits b c x y = grind (arith, or_step (bit b + 2 * x) (bit c + 2 * y), halves c y)
 
 -- ---- the mask of few bytes, from those of the first and of the last
 
@@ -125,7 +125,7 @@ ends_mask test bytes n first all few =
     let size : length (drop last bits) ≡ n = grind usual in
     let small = fits (mask_l (drop last bits)) n last (rw size at (mask_l-lt (drop last bits))) (omega arith) in
     let whole : mask_l (drop last bits) * 2 ^ last % 2 ^ 64 ≡ 2 ^ last * mask_l (drop last bits) = omega arith in
-    cc (take-map _ n _, tail, or_ends last n _ (omega arith))
+    cc (take-map _ n _, or_ends last n _ (omega arith))
   where
     fits : (m n last : ℕ) → m < 2 ^ n → n + last ≤ 64 → m * 2 ^ last < 2 ^ 64
     fits m n last low le = omega (
@@ -139,7 +139,7 @@ ends_mask test bytes n first all few =
 pub last_of_64 : (test : ℕ → Bool) (bytes : List ℕ) (at start m : ℕ) → start ≤ at → start + 64 ≡ length bytes
     → m ≡ mask_l (map test (chunk start 64 bytes)) → m / 2 ^ (at - start) ≡ mask_l (map test (drop at bytes))
 last_of_64 test bytes at start m order size is =
-    let all : take 64 (drop start bytes) ≡ drop start bytes = take_all 64 (drop start bytes) (omega (arith, length-drop start bytes)) in
+    let all = take_all 64 (drop start bytes) (omega (arith, length-drop start bytes)) in
     let same : start + (at - start) ≡ at = omega arith in
     rw (is, all, shifted, drop-map, drop-drop, same)
 
@@ -156,8 +156,7 @@ pub either_mask : (test : ℕ → Bool) (a b : ℕ) (v : List ℕ) (n : ℕ) →
     (zip2 (λ x y. cond (eqb x y) 255 0) v (replicate n b)))) % 2 ^ 64 ≡ mask_l (map test v)
 either_mask test a b v n is long few =
     let first = zip2_splat (λ x y. cond (eqb x y) 255 0) v n a long in
-    let second = zip2_splat (λ x y. cond (eqb x y) 255 0) v n b long in
-    ap (λ ms. mask_l ms % 2 ^ 64) (ap (map (top 7)) (zip2_of_maps bit_or _ _ v first second) ∙ map-map (top 7) _ v
+    ap (λ ms. mask_l ms % 2 ^ 64) (ap (map (top 7)) (zip2_of_maps bit_or _ _ v first (zip2_splat (λ x y. cond (eqb x y) 255 0) v n b long)) ∙ map-map (top 7) _ v
     ∙ (λ i. map (λ x. (either_top (eqb x a) (eqb x b) ∙ sym (is x)) i) v))
     ∙ mask_l-mod (map test v) 64 (omega (arith, length-map v test))
 

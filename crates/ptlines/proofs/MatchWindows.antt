@@ -18,7 +18,7 @@ use Rattle.memchr.specs.Find.{NoneBefore}
 use lemmas.Bool.{cases_lt}
 use lemmas.List.{map-id, take-map, get_or-map}
 use lemmas.List.Sums.{count_by_more_yes, get_or-le-sum_by, sum_by-append, sum_by-take-le}
-use lemmas.Simd.{first_set_mask_l, get_or-chunk, ones-mask_l}
+use lemmas.Simd.{first_set_mask_l, ones-mask_l}
 use lib.Bits.{bit_and, and_step, and_self, and_zero_l}
 use lib.Count.{count_trailing_zeros}
 
@@ -81,7 +81,7 @@ pub after_set : (p : ℕ → Bool) (xs : List ℕ) (n : ℕ) {rest : ℕ} → le
     → rest ≡ mask_l (without n (map p xs)) → IsNth p 0 n xs (count_trailing_zeros 64 rest)
 after_set p xs n few lt is =
     let (within, passes, before) = behind (map p xs) n (rw count_bits lt) in
-    grind (usual, length-without, lowest_set, count_bits, take-map, get_or-map, length-map)
+    grind (usual, length-without, lowest_set, take-map, get_or-map, length-map)
 
 -- ---- in a chunk of some bytes
 
@@ -89,9 +89,13 @@ module _ (p : ℕ → Bool) (bytes : List ℕ) where
   pub count_up_to : (i j : ℕ) → i ≤ j → count_by p (take i bytes) ≤ count_by p (take j bytes)
   count_up_to i j le = grind (arith, sum_by-take-le (λ b. cond (p b) 1 0) (take j bytes) i, take-take)
 
+  count_parts : (at n : ℕ)
+      → count_by p (take (at + n) bytes) ≡ count_by p (take at bytes) + count_by p (take n (drop at bytes))
+  count_parts at n = simp (take-add, sum_by-append)
+
   pub count_chunk : (at : ℕ)
       → count_by p (take (at + 64) bytes) ≡ count_by p (take at bytes) + count_by p (chunk at 64 bytes)
-  count_chunk at = simp (take-add, sum_by-append)
+  count_chunk at = count_parts at 64
 
   module _ (size at m k : ℕ) (room : at + size ≤ length bytes) (h : IsNth p 0 m (chunk at size bytes) k) where
     pub near : k < size
@@ -103,7 +107,7 @@ module _ (p : ℕ → Bool) (bytes : List ℕ) where
     -- among the first `to` bytes
     module _ {to before index : ℕ} (is : index ≡ at + k) (counted : count_by p (take at bytes) + m ≡ before) where
       pub nth_in_prefix : index < to → to ≤ length bytes → IsNth p 0 before (take to bytes) index
-      nth_in_prefix lt le = grind (usual, get_or-take, get_or-chunk, near, take-take, count_in_prefix)
+      nth_in_prefix lt le = grind (usual, get_or-take, near, take-take, count_in_prefix)
 
       pub none_in_prefix : to ≤ index → count_by p (take to bytes) ≤ before
       none_in_prefix ge = grind (arith, count_up_to, count_in_prefix)
@@ -112,11 +116,6 @@ module _ (p : ℕ → Bool) (bytes : List ℕ) where
   first_is at (within, passes, none) = (grind (arith, get_or-take, get_or-le-sum_by, length-take-le), passes)
 
 -- ---- a window of a list
-
-module _ (p : ℕ → Bool) (bytes : List ℕ) where
-  count_parts : (at n : ℕ)
-      → count_by p (take (at + n) bytes) ≡ count_by p (take at bytes) + count_by p (take n (drop at bytes))
-  count_parts at n = simp (take-add, sum_by-append)
 
 module _ (p : ℕ → Bool) (bytes : List ℕ) {from to : ℕ} (order : from ≤ to) (fits : to ≤ length bytes) where
   abbrev front : List ℕ
@@ -142,11 +141,10 @@ module _ (p : ℕ → Bool) (bytes : List ℕ) {from to : ℕ} (order : from ≤
   nth_from {before} {at} nth =
       let later = nth_later before nth in
       let is : from + (at - from) ≡ at = omega arith in
-      let parts = rw is at (count_parts p front from (at - from)) in
       let (within, passes, counted) = nth in (
         omega (arith, length-drop from front),
         rw (get_or-drop, is) passes,
-        omega (arith, parts, counted, ap (count_by p) same_start),
+        omega (arith, (rw is at (count_parts p front from (at - from))), ap (count_by p) same_start),
       )
 
   pub few_from : {before : ℕ} → count_by p front ≤ before + count_by p (take from bytes)
@@ -154,11 +152,11 @@ module _ (p : ℕ → Bool) (bytes : List ℕ) {from to : ℕ} (order : from ≤
   few_from {before} few =
       let is : from + (to - from) ≡ to = omega arith in
       let long = length-take-le to bytes fits in
-      let whole : take to front ≡ front = take_all to front (omega arith) in
+      let whole = take_all to front (omega arith) in
       let rest : take (to - from) (drop from front) ≡ drop from front =
       take_all _ _ (omega (arith, length-drop from front)) in
       let parts = rw (is, whole, rest) at (count_parts p front from (to - from)) in
-      omega (arith, parts, ap (count_by p) same_start)
+      omega (arith, ap (count_by p) same_start)
 
 module _ (p : ℕ → Bool) (bytes : List ℕ) where
   -- the window of the next n items at an index, and that of the last ones
@@ -186,17 +184,17 @@ module _ (p : ℕ → Bool) (bytes : List ℕ) where
     part = take (w.end - w.at) (drop w.at bytes)
 
     size : w.at + (w.end - w.at) ≤ length bytes
-    size = omega (arith, is.order, is.within)
+    size = omega (arith, is.order)
 
     window_few : length part ≤ 64
-    window_few = omega (arith, length-chunk w.at (w.end - w.at) bytes size, is.few)
+    window_few = omega (arith, length-chunk w.at (w.end - w.at) bytes size)
 
     window_ones : count_ones w.mask ≡ count_by p part
     window_ones = ap count_ones is.is ∙ ones-mask_l p part
 
     pub window_counted : count_by p (take w.end bytes) ≡ count_by p (take w.at bytes) + count_ones w.mask
     window_counted =
-        let whole : w.at + (w.end - w.at) ≡ w.end = omega (arith, is.order) in
+        let whole : w.at + (w.end - w.at) ≡ w.end = omega arith in
         rw (whole, ← window_ones) at (count_parts p bytes w.at (w.end - w.at))
 
     pub nth_in_window : {left index : ℕ} → left < count_ones w.mask
@@ -207,7 +205,7 @@ module _ (p : ℕ → Bool) (bytes : List ℕ) where
 
     pub nowhere_in_window : w.mask ≡ 0 → Nowhere (Passes p bytes) w.at w.end
     nowhere_in_window none =
-        let all : w.at + (w.end - w.at) ≡ w.end = omega (arith, is.order) in
+        let all : w.at + (w.end - w.at) ≡ w.end = omega arith in
         rw all at (none_if_zero_mask p bytes w.at (w.end - w.at) w.mask size is.is none)
 
     pub first_past : w.mask ≡ 0 → (r : Option ℕ) → IsFirstByte p (take (length bytes - w.end) (drop w.end bytes)) r
@@ -218,9 +216,9 @@ module _ (p : ℕ → Bool) (bytes : List ℕ) where
     pub first_in_window : (w.mask ≡ 0 → ⊥)
         → IsFirst (Passes p bytes) w.at (length bytes) (Some (w.at + count_trailing_zeros 64 w.mask))
     first_in_window some =
-        let few : w.end - w.at ≤ 64 = omega (arith, is.few) in
+        let few : w.end - w.at ≤ 64 = omega arith in
         let (first, found) = first_at_lowest_bit p bytes w.at (w.end - w.at) w.mask few size is.is some in
-        (record { low = first.low; high = omega (arith, size, first.high); before = first.before }, found)
+        (record { low = first.low; high = omega (arith, size); before = first.before }, found)
 
     module _ {index left : ℕ} (nth : IsNth p 0 left part index) where
       pub window_inside : index < w.end - w.at
@@ -244,7 +242,7 @@ module _ (p : ℕ → Bool) (bytes : List ℕ) where
       next_window = record {
         order = omega (arith, window_inside);
         within = is.within;
-        few = omega (arith, is.few);
+        few = omega arith;
         is = shorter;
       }
 
@@ -276,7 +274,7 @@ module _ (p : ℕ → Bool) (bytes : List ℕ) where
         → IsAfterNth p bytes to before old w
     from_before next counted = record {
       found = λ near_to. rw counted at (next.found near_to);
-      none = λ past. omega (arith, next.none past, counted);
+      none = λ past. omega (arith, counted);
       some = next.some;
       moved = next.moved;
     }

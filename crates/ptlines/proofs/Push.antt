@@ -27,7 +27,7 @@ push_trans = grind (arith, append_known-append)
 -- the block is filled with these bytes, and written
 pub push_filled : (old new : Output) (bytes : List ℕ) → old.write_failed ≡ false
     → new ≡ with_written_out (with_buffered old bytes) → PushEffect old new bytes
-push_filled = grind (usual, known_prefix_refl, append_known-append)
+push_filled = grind (usual, known_prefix_refl)
 
 pub push_post_trans : {E : Type 0} (a b c : Output) (xs ys : List ℕ) (r : Result (Unit {0}) E) → b.write_failed ≡ false
     → PushEffect a b xs → PushPost b c ys r → PushPost a c (xs ++ ys) r
@@ -38,7 +38,7 @@ pub push_broken : (old mid new : Output) (first rest bytes : List ℕ) → old.w
     → bytes ≡ first ++ rest → mid ≡ with_buffered old first → OutputErr mid new mid.buffered → PushEffect old new bytes
 push_broken old mid new first rest bytes clean is filled broken =
     let all : append_known (output_bytes old) bytes ≡ append_known (output_bytes new) (broken.rest ++ rest) =
-    grind (usual, is, filled, append_known-append, broken.split, broken.accepted, broken.buffered) in
+    grind (usual, is, filled, broken.split, broken.accepted, broken.buffered) in
     grind arith
 
 -- the block was filled with the first of the bytes and written, and the rest was pushed

@@ -67,7 +67,7 @@ pub fill_line : (old now new : Reader) (before so_far after : Slots) (slot : ℕ
     → old.pulled < 2 ^ 63 → LineSoFar old now before so_far slot → PieceLine now new so_far after slot
     → FillLine old new before after slot
 fill_line old now new _ _ _ _ within short begun last =
-    grind (arith, all, length-append, IsLine-append, same, appended_twice)
+    grind (arith, all, length-append, IsLine-append, appended_twice)
   where
     same : now.terminator ≡ old.terminator
     same = begun.advance_ok.reads.terminator

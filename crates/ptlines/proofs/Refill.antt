@@ -32,11 +32,11 @@ module _ {old : Reader} {was : SourceState} (is : SourceState) (block : List ℕ
 
   pub refill_end : n ≡ 0 → PullOk was is (take BLOCK block) n
       → RefillPost old (reader_of is (slice_range block 0 0) p fault q' end) (Ok false)
-  refill_end none gives = grind (arith, filled)
+  refill_end none gives = grind arith
 
   pub refill_more : PullOk was is (take BLOCK block) n → n ≤ BLOCK → 0 < n → p + n < 2 ^ 63
       → RefillPost old (reader_of is (slice_range block 0 n) (p + n) fault q' end) (Ok true)
-  refill_more = grind (arith, filled, front, length-take-le)
+  refill_more = grind (arith, front, length-take-le)
 
   pub refill_long : PullOk was is (take BLOCK block) n → n ≤ BLOCK → 2 ^ 63 ≤ p + n
       → RefillPost old (reader_of is (slice_range block 0 n) (p + n) (Some Read) q' end) (Err Read)

@@ -3,11 +3,12 @@
 -- lengths, and always fits 128 bits. `store_of` is the model of a store with these slots.
 use Rattle.ptlines.proofs
 use Rattle.std.proofs.lemmas
-use proofs.Common.{◌≡◌, ◌≢◌, ℕ, zero, suc, ◌+◌, ◌*◌, ◌^◌, ◌<◌, ◌≤◌, List, [], ◌∷◌, ◌++◌, length, take, drop, get_or}
+use proofs.Common.{◌≡◌, ◌≢◌, ℕ, ◌+◌, ◌*◌, ◌^◌, ◌<◌, ◌≤◌, List, [], ◌∷◌, ◌++◌, length, take, drop, get_or}
 use proofs.Common.{sym, ◌∙◌, ap, arith, set, Bool, subst, refl, max, set-set, swap, length-map, Slots}
 use proofs.Common.{line, total_bytes, with_line, rules, usual}
 use Rattle.ptlines.specs.Private.Slots.{SlotBuffer, slot_lines, AreBuffersBounded, AreCounted, LengthsAreBounded}
-use lemmas.List.{map-set, get_or-map, set-get_or}
+use lemmas.List.{map-set, get_or-map, set-get_or, take-set, drop-set-add, drop-set-lt, take-append-drop}
+use Rattle.std.proofs.Math.Seq.{take-set-lt}
 use lemmas.List.Elements.{All-set}
 use lemmas.List.Sums.{sum_by-le}
 use lemmas.List.Sorted.{sum_by-IsPermutation, IsPermutation-swap}
@@ -16,9 +17,10 @@ pub total_bytes_set : (lines : List (List ℕ)) (slot : ℕ) (bytes : List ℕ) 
     → total_bytes (set lines slot bytes) + length (get_or lines slot []) ≡ total_bytes lines + length bytes
 total_bytes_set = grind usual
 
-pub total_fits : (lines : List (List ℕ)) (more : ℕ) → LengthsAreBounded lines → length lines < 2 ^ 63 → more < 2 ^ 64
-    → total_bytes lines + more < 2 ^ 128
-total_fits _ _ short few small = omega (arith, sum_by-le length _ _ short)
+pub total_fits : {byte_count peak : ℕ} (slots : List SlotBuffer) (more : ℕ) → AreCounted byte_count peak slots
+    → length slots < 2 ^ 63 → more < 2 ^ 64 → byte_count + more < 2 ^ 128
+total_fits slots _ counted few small =
+    omega (arith, sum_by-le length _ _ counted.lines, counted.total, length-map slots (λ s. s.line))
 
 abbrev pub IsBounded : List ℕ → Type 0
 IsBounded bytes = length bytes ≤ 2 ^ 63
@@ -27,26 +29,20 @@ abbrev pub HasBoundedBuffer : ℕ → SlotBuffer → Type 0
 HasBoundedBuffer peak slot = slot.buffer_size ≤ 2 * peak + 128
 
 module _ {X : Type 0} where
-  pub set_after_split : (xs : List X) (at : ℕ) (w : X) → at < length xs
-      → take at xs ++ set (drop at xs) 0 w ≡ set xs at w
-  set_after_split [] at w within = absurd (omega arith)
-  set_after_split (x ∷ xs) zero w within = refl
-  set_after_split (x ∷ xs) (suc at) w within = cc (set_after_split xs at w (omega arith))
+  pub set_after_split : (xs : List X) (at : ℕ) (w : X) → take at xs ++ set (drop at xs) 0 w ≡ set xs at w
+  set_after_split xs at w = grind (arith, take-set, drop-set-add at xs 0 w, take-append-drop at (set xs at w))
 
   pub set_before_split : (xs : List X) (at cut : ℕ) (w : X) → at < cut
       → set (take cut xs) at w ++ drop cut xs ≡ set xs at w
-  set_before_split xs at zero w near = grind arith
-  set_before_split [] at (suc cut) w near = refl
-  set_before_split (x ∷ xs) zero (suc cut) w near = grind usual
-  set_before_split (x ∷ xs) (suc at) (suc cut) w near = cc (set_before_split xs at cut w (omega arith))
+  set_before_split xs at cut w near =
+      cc (take-set-lt cut xs at w near, drop-set-lt cut xs at w near, take-append-drop cut (set xs at w))
 
   All-swap : (P : X → Type 0) (xs : List X) (a b : ℕ) → a < length xs → b < length xs
       → ((k : ℕ) (d : X) → k < length xs → P (get_or xs k d)) → (k : ℕ) (d : X) → k < length (swap xs a b)
       → P (get_or (swap xs a b) k d)
   All-swap P [] a b a_in b_in all = all
   All-swap P (x ∷ more) a b a_in b_in all =
-      let xs = x ∷ more in
-      All-set P _ b _ (grind arith) (All-set P xs a _ (grind arith) all)
+      All-set P _ b _ (grind arith) (All-set P (x ∷ more) a _ (grind arith) all)
 
 abbrev pub line_of : SlotBuffer → List ℕ
 line_of slot = slot.line
@@ -75,8 +71,8 @@ counted_after_swap slots a b {byte_count} {peak} a_in b_in counted =
     }
 
 -- one slot is set, from `had` to `new`
-module _ (slots after : List SlotBuffer) (slot : ℕ) (had new : SlotBuffer) (d : SlotBuffer)
-    (within : slot < length slots) (is : after ≡ set slots slot new) (was : had ≡ get_or slots slot d) where
+module _ (slots after : List SlotBuffer) (slot : ℕ) (had new : SlotBuffer) (within : slot < length slots)
+    (is : after ≡ set slots slot new) (was : had ≡ get_or slots slot had) where
   low : slot < length (slot_lines slots)
   low = grind (arith, length-map)
 
@@ -86,14 +82,20 @@ module _ (slots after : List SlotBuffer) (slot : ℕ) (had new : SlotBuffer) (d 
   lines_are : slot_lines after ≡ set (slot_lines slots) slot new.line
   lines_are = grind (arith, map-set)
 
-  lengths_after_set : length new.line ≤ 2 ^ 63 → LengthsAreBounded (slot_lines slots)
+  pub lengths_after_set : length new.line ≤ 2 ^ 63 → LengthsAreBounded (slot_lines slots)
       → LengthsAreBounded (slot_lines after)
   lengths_after_set = search (rules, lines_are)
 
   -- the new line is a part of the new total, so a buffer that grows to twice its length stays below the bound
-  buffers_after_set : new.buffer_size ≤ max had.buffer_size (2 * length new.line + 64) → (peak : ℕ)
+  pub buffers_after_set : new.buffer_size ≤ max had.buffer_size (2 * length new.line + 64) → (peak : ℕ)
       → total_bytes (slot_lines after) ≤ peak → AreBuffersBounded peak slots → AreBuffersBounded peak after
   buffers_after_set = grind (usual, lines_are, total_bytes_set)
+
+  -- the line of another slot was appended
+  pub lines_appended : (from : ℕ) (e : SlotBuffer) → from < length slots
+      → new.line ≡ had.line ++ (get_or slots from e).line → slot_lines after
+      ≡ set (slot_lines slots) slot (get_or (slot_lines slots) slot [] ++ get_or (slot_lines slots) from [])
+  lines_appended from e from_in new_is = lines_are ∙ ap (set (slot_lines slots) slot) (grind usual)
 
 -- A slot that was `had` is set to another one: the old line was part of the total.
 module _ (slots : List SlotBuffer) (slot : ℕ) {byte_count before : ℕ} (had : SlotBuffer) (within : slot < length slots)
@@ -104,7 +106,7 @@ module _ (slots : List SlotBuffer) (slot : ℕ) {byte_count before : ℕ} (had :
       omega (
         arith,
         total_bytes_set (slot_lines slots) slot [] (grind (arith, low)),
-        ap length (line_was slots slots slot had had had within same was),
+        ap length (line_was slots slots slot had had within same was),
       )
 
   pub counted_after_set : (new : SlotBuffer) {now peak : ℕ} → length new.line ≤ 2 ^ 63
@@ -116,16 +118,15 @@ module _ (slots : List SlotBuffer) (slot : ℕ) {byte_count before : ℕ} (had :
       let total : now ≡ total_bytes (slot_lines after) =
       omega (
         arith,
-        ap total_bytes (lines_are slots after slot had new had within refl was),
+        ap total_bytes (lines_are slots after slot had new within refl was),
         total_bytes_set (slot_lines slots) slot new.line (grind usual),
-        ap length (line_was slots after slot had new had within refl was),
+        ap length (line_was slots after slot had new within refl was),
       ) in
       record {
         total = total;
         below_peak = less;
         lines = search (rules, lengths_after_set);
-        buffers = buffers_after_set slots after slot had new had within refl was room _ (grind arith)
-            (grind arith);
+        buffers = buffers_after_set slots after slot had new within refl was room _ (grind arith) (grind arith);
       }
 
 pub same_slot : (slots : List SlotBuffer) (slot : ℕ) {a b : SlotBuffer} → slot < length slots → a ≡ get_or slots slot a
@@ -148,58 +149,6 @@ module _ (slots : List SlotBuffer) {peak : ℕ} {denied : Bool} {now : Slots} (s
       → byte_count ≡ total_bytes (slot_lines (set slots slot new)) → peak_now ≡ max peak byte_count
       → store_of (set slots slot new) peak_now denied ≡ with_line now slot bytes
   store_after_set new {bytes} new_is counts peak_is = grind (arith, map-set)
-
--- Split at `to`: the target is the first slot of the back part.
-module _ (slots front back : List SlotBuffer) (from to : ℕ) (d e new : SlotBuffer) (more : List ℕ) (near : from < to)
-    (within : to < length slots) (front_is : front ≡ take to slots) (back_is : back ≡ drop to slots) where
-  back_set : front ++ set back 0 new ≡ set slots to new
-  back_set = grind (arith, set_after_split)
-
-  back_slot : get_or back 0 d ≡ get_or slots to d
-  back_slot = grind usual
-
-  pub append_to_back : more ≡ (get_or front from e).line → new.line ≡ (get_or back 0 d).line ++ more
-      → slot_lines (front ++ set back 0 new)
-      ≡ set (slot_lines slots) to (get_or (slot_lines slots) to [] ++ get_or (slot_lines slots) from [])
-  append_to_back = λ more_is new_is.
-      lines_are slots (front ++ set back 0 new) to (get_or back 0 d) new d within back_set back_slot
-      ∙ ap (set (slot_lines slots) to) (grind usual)
-
-  pub bounded_back : length new.line ≤ 2 ^ 63 → LengthsAreBounded (slot_lines slots)
-      → LengthsAreBounded (slot_lines (front ++ set back 0 new))
-  bounded_back = search (rules, lengths_after_set, back_set, back_slot)
-
-  pub buffers_back : new.buffer_size ≤ max (get_or back 0 d).buffer_size (2 * length new.line + 64) → (peak : ℕ)
-      → total_bytes (slot_lines (front ++ set back 0 new)) ≤ peak → AreBuffersBounded peak slots
-      → AreBuffersBounded peak (front ++ set back 0 new)
-  buffers_back = search (rules, buffers_after_set, back_set, back_slot)
-
--- Split at `from`: the target lies in the front part.
-module _ (slots front back : List SlotBuffer) (from to : ℕ) (d e new : SlotBuffer) (more : List ℕ) (near : to < from)
-    (within : from < length slots) (front_is : front ≡ take from slots) (back_is : back ≡ drop from slots) where
-  front_set : set front to new ++ back ≡ set slots to new
-  front_set = grind (arith, set_before_split)
-
-  target_slot : get_or front to d ≡ get_or slots to d
-  target_slot = grind usual
-
-  pub append_to_front : more ≡ (get_or back 0 e).line → new.line ≡ (get_or front to d).line ++ more
-      → slot_lines (set front to new ++ back)
-      ≡ set (slot_lines slots) to (get_or (slot_lines slots) to [] ++ get_or (slot_lines slots) from [])
-  append_to_front = λ more_is new_is.
-      lines_are slots (set front to new ++ back) to (get_or front to d) new d (grind arith) front_set target_slot
-      ∙ ap (set (slot_lines slots) to) (grind usual)
-
-  pub bounded_front : length new.line ≤ 2 ^ 63 → LengthsAreBounded (slot_lines slots)
-      → LengthsAreBounded (slot_lines (set front to new ++ back))
-  bounded_front = lengths_after_set slots (set front to new ++ back) to (get_or front to d) new d
-      (grind arith) front_set target_slot
-
-  pub buffers_front : new.buffer_size ≤ max (get_or front to d).buffer_size (2 * length new.line + 64) → (peak : ℕ)
-      → total_bytes (slot_lines (set front to new ++ back)) ≤ peak → AreBuffersBounded peak slots
-      → AreBuffersBounded peak (set front to new ++ back)
-  buffers_front = buffers_after_set slots (set front to new ++ back) to (get_or front to d) new d
-      (grind arith) front_set target_slot
 
 -- the slot `to` was emptied, and the line of `from` appended
 pub copy_lines : (lines cleared after : List (List ℕ)) (from to : ℕ) → from ≢ to → to < length lines

@@ -63,7 +63,7 @@ complete_lines_of_unlines end (line ∷ ls) piece (first, others) p =
 lines_extra_terminator : (end : ℕ) (bytes : List ℕ) → bytes ≢ [] → ¬ EndsWithByte end bytes
     → lines end (bytes ++ end ∷ []) ≡ lines end bytes
 lines_extra_terminator end [] some not_eof = absurd (some refl)
-lines_extra_terminator end (b ∷ []) some not_eof = grind (arith, byte_eq)
+lines_extra_terminator end (b ∷ []) some not_eof = grind arith
 lines_extra_terminator end (b ∷ c ∷ bytes) some not_eof = cc (lines_extra_terminator end (c ∷ bytes) (λ e. cc) (λ
     (front, e). not_eof (b ∷ front, ap (λ xs. b ∷ xs) e)))
 
@@ -80,11 +80,11 @@ pub unlines-lines : (end : ℕ) (bytes : List ℕ)
     → (unlines end (lines end bytes) ≡ bytes)
     ⊎ ((bytes ≢ []) × ¬ EndsWithByte end bytes × (unlines end (lines end bytes) ≡ bytes ++ end ∷ []))
 unlines-lines end [] = inl refl
-unlines-lines end (b ∷ []) = grind (arith, byte_eq, not_ended)
+unlines-lines end (b ∷ []) = grind (arith, not_ended)
   where
     not_ended : (b == end) ≡ false → EndsWithByte end (b ∷ []) → ⊥
     not_ended e ([], h) = eqb-false b end e (ap (λ xs. get_or xs 0 0) h)
-    not_ended e (f ∷ fs, h) = let bad = ap (drop 1) h in not_nil fs bad
+    not_ended e (f ∷ fs, h) = not_nil fs (ap (drop 1) h)
       where
         not_nil : (xs : List ℕ) → [] ≡ xs ++ end ∷ [] → ⊥
         not_nil [] z = cc

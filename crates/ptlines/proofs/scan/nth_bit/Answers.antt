@@ -1,7 +1,7 @@
 -- Each iteration clears one more bit. After `count` of them the lowest bit that is left is the match after `count`
 -- others. A mask of more than `count` set bits is not zero before that.
 use Rattle.ptlines.proofs
-use Rattle.std.proofs.Common.{◌≡◌, ◌-◌, suc, map, arith, refl}
+use Rattle.std.proofs.Common.{◌≡◌, ◌-◌, suc, map, arith}
 use proofs.MatchWindows.{and_less, after_set, without}
 use lib.Count.{count_trailing_zeros}
 use proofs.scan.nth_bit.Goals as goal
@@ -12,8 +12,7 @@ loop-left-preserved c = record {
   few = omega arith;
   cleared = λ bits is.
       let next : c.args.count - (c.loop-left.left - 1) ≡ suc (c.args.count - c.loop-left.left) = omega arith in
-      let rest = c.loop-left.invariant.cleared bits is in
-      rw (next, rest) (and_less (without (c.args.count - c.loop-left.left) bits));
+      rw (next, (c.loop-left.invariant.cleared bits is)) (and_less (without (c.args.count - c.loop-left.left) bits));
 }
 
 pub returns : goal.returns
@@ -23,8 +22,7 @@ returns c = λ test bytes few is some.
     let nth = after_set test bytes (c.args.count - c.loop-left.left) few (omega arith) rest in
     elim c.loop-left-test.branch [
       | then-loop-left-test+else-rest-ne0 w ↦ (
-          let none : count_trailing_zeros 64 0 ≡ 64 = refl in
-          absurd (omega (arith, few, none, rw w.if-rest-ne0.false at nth))
+          absurd (omega (arith, rw w.if-rest-ne0.false at nth))
           )
       | else-loop-left-test w ↦ (
           let all : c.args.count - c.loop-left.left ≡ c.args.count = omega arith in

@@ -10,7 +10,6 @@ use Rattle.ptlines.specs.declared.sizes.TheConstants.{PADDED}
 pub returns-clause-line : goal.returns-clause-line
 returns-clause-line g c given =
     let r = c.self.inside in
-    let buffered = ap (λ r. r.buffered) c.self.view_is in
     let fits : r.end ≤ length r.block = omega arith in
     let high : r.start + c.in-Some.size < r.end = omega arith in
     let short : c.args.self.now.pulled < 2 ^ 63 = grind arith in
@@ -19,7 +18,7 @@ returns-clause-line g c given =
     let first = subst (λ b. IsFirst (Passes (is_byte b) front) 0 64 (Some c.in-Some.size))
     (grind arith) c.in-Some.ensures in
     fill_short_line 64 c.args.self.now _ r.block front r.start r.end _ _ _ _ c.requires.clean short high fits
-    buffered is_front first (grind arith)
+    (ap (λ r. r.buffered) c.self.view_is) is_front first (grind arith)
     c.set_short_line.ensures
 
 pub returns-clause-sound : goal.returns-clause-sound

@@ -12,7 +12,7 @@ pub pieces-preserved : goal.pieces-preserved
 pieces-preserved g c =
     let piece : PiecePartial c.pieces.self c.move_to_slot-in-None.new.self c.pieces.store
     c.move_to_slot-in-None.new.store c.args.slot =
-    grind (usual, advance_ok_take, line_if_not_found, drop_all) in record {
+    grind (usual, line_if_not_found, drop_all) in record {
       so_far = line_so_far_partial _ _ _ _ _ _ _ c.requires.in_store c.pieces.invariant.so_far piece;
       fill_pre = record {
         clean = grind arith;

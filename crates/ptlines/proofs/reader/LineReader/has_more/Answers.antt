@@ -22,14 +22,13 @@ returns-then-count-eq0-clause-refills g c =
 pub returns-then-self-clause-refills : goal.returns-then-self-clause-refills
 returns-then-self-clause-refills g c =
     let due = due g (goal.at.returns-then-self-clause-refills g c).After-read_block in
-    search (rules, c.in-Ok.ensures.few, refill_long, c.self.view_is, due, c.in-Ok.ensures.pulled)
+    search (rules, c.in-Ok.ensures.few, refill_long, due, c.in-Ok.ensures.pulled)
 
 pub returns-else-self-clause-refills : goal.returns-else-self-clause-refills
 returns-else-self-clause-refills g c =
     let due = due g (goal.at.returns-else-self-clause-refills g c).After-read_block in
-    let small = c.in-Ok.ensures.few in
     refill_more _ _ _ _ c.self.view_is due c.in-Ok.ensures.refused
-    c.in-Ok.ensures.pulled small (omega arith) (omega arith)
+    c.in-Ok.ensures.pulled c.in-Ok.ensures.few (omega arith) (omega arith)
 
 pub returns-in-Err-clause-refills : goal.returns-in-Err-clause-refills
 returns-in-Err-clause-refills g c = grind arith

@@ -30,8 +30,7 @@ loop-at-preserved g c =
 pub after-requires : goal.after-requires
 after-requires g c =
     let window = c.of_64-window.ensures.window in
-    let nth = nth_in_window _ _ window (omega arith) c.nth_bit.ensures in
-    omega (arith, window_inside _ _ window nth, window.few)
+    omega (arith, window_inside _ _ window (nth_in_window _ _ window (omega arith) c.nth_bit.ensures))
 
 pub returns-then-left-count : goal.returns-then-left-count
 returns-then-left-count g c =
@@ -39,21 +38,13 @@ returns-then-left-count g c =
     let bytes = c.args.bytes.now in
     let window = c.of_64-window.ensures.window in
     let nth = nth_in_window p bytes window (omega arith) c.nth_bit.ensures in
-    rw c.after.ensures (after_in_window p bytes window nth c.requires.within.1 (omega (
-      arith,
-      c.loop-at.invariant.counted,
-      ap (λ i. count_by p (take i bytes)) c.of_64-window.ensures.at,
-    )))
+    rw c.after.ensures (after_in_window p bytes window nth c.requires.within.1 (omega (arith, ap (λ i. count_by p (take i bytes)) c.of_64-window.ensures.at)))
 
 pub returns-then-at-to : goal.returns-then-at-to
 returns-then-at-to g c =
     let p = g.M.Needle.test c.args.needle in
     let bytes = c.args.bytes.now in
-    rw c.past.ensures (after_all p bytes c.requires.within.1 (omega (
-      arith,
-      count_up_to p bytes c.args.to c.loop-at.at (omega arith),
-      c.loop-at.invariant.counted,
-    )))
+    rw c.past.ensures (after_all p bytes c.requires.within.1 (omega (arith, count_up_to p bytes c.args.to c.loop-at.at (omega arith))))
 
 pub returns : goal.returns
 returns g c =

@@ -9,8 +9,7 @@ use proofs.scan.MatchWindow.after_last_nth.Goals as goal
 pub after-requires : goal.after-requires
 after-requires g c =
     let window = c.new-window.ensures.window in
-    let nth = nth_in_window _ _ window (omega arith) c.nth_bit.ensures in
-    omega (arith, window_inside _ _ window nth, window.few)
+    omega (arith, window_inside _ _ window (nth_in_window _ _ window (omega arith) c.nth_bit.ensures))
 
 pub returns-then-before-from : goal.returns-then-before-from
 returns-then-before-from g c =
@@ -25,10 +24,9 @@ pub returns : goal.returns
 returns g c =
     let p = g.M.Needle.test c.args.needle in
     let bytes = c.args.bytes.now in
-    let window = c.new-window.ensures.window in
     rw c.past.ensures (after_all p bytes c.requires.within.1 (omega (
       arith,
-      window_counted p bytes window,
-      count_up_to p bytes c.args.to c.new-window.result.end (omega (arith, c.new-window.ensures.end)),
+      window_counted p bytes c.new-window.ensures.window,
+      count_up_to p bytes c.args.to c.new-window.result.end (omega arith),
       ap (λ i. count_by p (take i bytes)) c.new-window.ensures.at,
     )))

@@ -1,12 +1,12 @@
 -- `copy`: the target is emptied and the line of the source appended. If memory ran out, the target stays empty. The
 -- total (`copied`) fits 128 bits, and the invariant of the store holds in both cases.
 use Rattle.ptlines.proofs
-use proofs.Common.{◌≡◌, ◌≢◌, ◌<◌, ◌≤◌, ◌+◌, ◌^◌, ℕ, List, [], get_or, length, set, sym, ◌∙◌, ap, subst, arith}
+use proofs.Common.{◌≡◌, ◌≢◌, ◌<◌, ◌≤◌, ◌+◌, ℕ, List, [], get_or, length, set, sym, ◌∙◌, ap, subst, arith}
 use proofs.Common.{length-map, with_items_is, total_bytes, usual}
 use Rattle.std.specs.Vec.{with_items}
 use Rattle.std.proofs.lemmas.List.{get_or-map, length-set}
 use Rattle.ptlines.specs.Private.Slots.{SlotBuffer, slot_lines, AreBuffersBounded}
-use proofs.SlotTotals.{total_fits, copy_lines, total_bytes_set, line_of}
+use proofs.SlotTotals.{total_fits, copy_lines, total_bytes_set}
 use proofs.store.Store.copy.Goals as goal
 
 copied : (lines cleared : List (List ℕ)) (after : List SlotBuffer) (from to byte_count size : ℕ) (v : SlotBuffer)
@@ -16,16 +16,13 @@ copied : (lines cleared : List (List ℕ)) (after : List SlotBuffer) (from to by
     → (byte_count + size ≡ total_bytes (slot_lines after)) × (byte_count ≡ total_bytes (set lines to []))
     × (byte_count + size ≡ total_bytes (set lines to (get_or lines from [])))
 copied lines cleared after from to byte_count size v differ from_in to_in cleared_is after_is counts there =
-    let within : from < length after = grind (arith, length-map, length-set, get_or) in
+    let within : from < length after = grind (arith, length-map, length-set) in
     let line : v.line ≡ get_or (slot_lines after) from [] = grind (arith, get_or-map) in
     grind (usual, total_bytes_set)
 
 pub overflow_add-self : goal.overflow_add-self
 overflow_add-self g c =
-    let s = c.self.inside.slots in
-    let few : length (slot_lines s.items) < 2 ^ 63 = omega (arith, length-map s.items line_of) in
-    let fits = total_fits (slot_lines s.items) c.size.result c.self.invariant.counted.lines few (omega arith) in
-    omega arith
+    omega (arith, total_fits c.self.inside.slots.items c.size.result c.self.invariant.counted (omega arith) (omega arith))
 
 pub invariant_of-self : goal.invariant_of-self
 invariant_of-self g c =
@@ -39,8 +36,7 @@ invariant_of-self g c =
     c.requires.from_in c.requires.to_in cleared (ap slot_lines whole ∙ lines)
     c.self.invariant.counted.total c.index.ensures c.size.ensures.size in
     let peak = c.max-self-inside.result in
-    let below : total_bytes (slot_lines c.append_slot.new.slots) ≤ peak = grind (arith, slot_lines) in
-    let fit : AreBuffersBounded peak s.slots.items = grind arith in
+    let below : total_bytes (slot_lines c.append_slot.new.slots) ≤ peak = grind arith in
     record {
       counted = record {
         total = total;
@@ -53,7 +49,7 @@ invariant_of-self g c =
     }
 
 pub returns-in-Ok-clause-ok : goal.returns-in-Ok-clause-ok
-returns-in-Ok-clause-ok g c = grind (arith, with_items_is, copy_lines, slot_lines, with_items, copied, set, get_or)
+returns-in-Ok-clause-ok g c = grind (arith, with_items_is, copy_lines, with_items, copied, set, get_or)
 
 pub append_slot-requires : goal.append_slot-requires
 append_slot-requires g c = grind usual
