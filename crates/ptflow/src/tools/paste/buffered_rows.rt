@@ -1,7 +1,7 @@
 //! Rows of `paste` from the buffers of the readers: each line that is complete there is copied to a buffer for
 //! output, without the store, and after it the byte that follows its column. A row is copied column by column, or by
-//! its segments; rows of two columns have a loop of their own. A row that is only begun is moved to the front, and lines
-//! from slots are added to it. Used by `paste`.
+//! its segments; rows of two columns have a loop of their own. A row that is only begun is moved to the front, and
+//! lines from slots are added to it. Used by `paste`.
 
 ghost use Rattle.std.specs.Prelude.{◌≡◌, ◌<◌, ◌≤◌, ◌+◌, ◌%◌, ◌++◌, false, length, take, drop, List, IfNone};
 ghost use Rattle.std.specs.Prelude.{IfSome, ◌≢◌, slice_index_or};

@@ -26,5 +26,6 @@ returns c =
     let first = words_same word_4 0 a b (omega arith)
     c.type_inv.a c.type_inv.b refl c.read_u32-x.ensures c.read_u32-y.ensures c.if-x-y.false in
     let all = words_same word_4 _ a b (omega arith)
-    c.type_inv.a c.type_inv.b (shorter_prefix_same _ 4 a b (omega arith) first) c.read_u32-x-2.ensures c.read_u32-y-2.ensures c.if-x-y-2.false in
+    c.type_inv.a c.type_inv.b (shorter_prefix_same _ 4 a b (omega arith) first) c.read_u32-x-2.ensures
+    c.read_u32-y-2.ensures c.if-x-y-2.false in
     c.cmp-2.ensures ∙ cmp_by_length _ a b c.min-least.ensures (grind arith)

@@ -20,5 +20,6 @@ returns-in_err-at g c =
 
 pub returns : goal.returns
 returns g c =
-    let past = first_past _ _ c.new-window.ensures.window c.if-window-ne0.false (Some c.in_ok-at.at) c.in_ok-at.ensures in
+    let past = first_past _ _ c.new-window.ensures.window c.if-window-ne0.false (Some c.in_ok-at.at)
+    c.in_ok-at.ensures in
     rw c.new-window.ensures.at at past

@@ -2,7 +2,8 @@
 -- In both orders the target is set (`Target`). So the line is appended or nothing changes, and lines and buffers stay
 -- bounded.
 use Rattle.ptlines.proofs
-use proofs.Common.{◌≡◌, ◌<◌, ◌++◌, ◌∙◌, ℕ, List, [], ap, Result, Ok, Err, OnErr, arith, usual, take, drop, set, get_or, length}
+use proofs.Common.{◌≡◌, ◌<◌, ◌++◌, ◌∙◌, ℕ, List, [], ap, Result, Ok, Err, OnErr, arith, usual, take, drop, set, get_or}
+use proofs.Common.{length}
 use Rattle.ptlines.specs.Private.Slots.{SlotBuffer, slot_lines}
 use proofs.SlotTotals.{set_after_split, set_before_split, lines_appended, lengths_after_set, buffers_after_set}
 use borrow.Author.Rules.{scaled_Fits}
@@ -44,8 +45,8 @@ module _ (slots front back : List SlotBuffer) (from to : ℕ) (d e new : SlotBuf
   }
 
 behind : (g : given.Over) (c : goal.After-slots-then-from-to-1 g) → Target c.args.slots.now
-    (c.split_at_mut-front.result.0.now ++ set c.split_at_mut-front.result.1.now 0 c.append.new.self) c.args.from c.args.to
-    (get_or c.split_at_mut-front.result.1.now 0 c.index-back-0.result)
+    (c.split_at_mut-front.result.0.now ++ set c.split_at_mut-front.result.1.now 0 c.append.new.self) c.args.from
+    c.args.to (get_or c.split_at_mut-front.result.1.now 0 c.index-back-0.result)
     (get_or c.split_at_mut-front.result.0.now c.args.from c.index-front-from.result) c.append.new.self
 behind g c = in_back _ _ _ _ _ _ _ _ c.if-from-to.true c.requires.to_in c.split_at_mut-front.ensures.front
     c.split_at_mut-front.ensures.back

@@ -38,13 +38,15 @@ returns-then-left-count g c =
     let bytes = c.args.bytes.now in
     let window = c.of_64-window.ensures.window in
     let nth = nth_in_window p bytes window (omega arith) c.nth_bit.ensures in
-    rw c.after.ensures (after_in_window p bytes window nth c.requires.within.1 (omega (arith, ap (λ i. count_by p (take i bytes)) c.of_64-window.ensures.at)))
+    rw c.after.ensures (after_in_window p bytes window nth c.requires.within.1
+    (omega (arith, ap (λ i. count_by p (take i bytes)) c.of_64-window.ensures.at)))
 
 pub returns-then-at-to : goal.returns-then-at-to
 returns-then-at-to g c =
     let p = g.M.Needle.test c.args.needle in
     let bytes = c.args.bytes.now in
-    rw c.past.ensures (after_all p bytes c.requires.within.1 (omega (arith, count_up_to p bytes c.args.to c.loop-at.at (omega arith))))
+    rw c.past.ensures (after_all p bytes c.requires.within.1
+    (omega (arith, count_up_to p bytes c.args.to c.loop-at.at (omega arith))))
 
 pub returns : goal.returns
 returns g c =

@@ -1,5 +1,4 @@
--- Answers for `MatchWindow::after_last_nth`: the window has all the bytes that are left, so that a bit of its mask is the
--- match, or there is none.
+-- The window has all the bytes that are left, so that a bit of its mask is the match, or there is none.
 use Rattle.ptlines.proofs
 use proofs.Common.{ap, arith, take}
 use Rattle.std.specs.List.{count_by}

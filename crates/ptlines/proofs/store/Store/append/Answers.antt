@@ -7,13 +7,15 @@ use proofs.store.Store.append.Goals as goal
 
 pub overflow_add-self : goal.overflow_add-self
 overflow_add-self g c =
-    omega (arith, total_fits c.self.inside.slots.items (length c.args.bytes.now) c.self.invariant.counted (omega arith) (omega arith))
+    let counted = c.self.invariant.counted in
+    omega (arith, total_fits c.self.inside.slots.items (length c.args.bytes.now) counted (omega arith) (omega arith))
 
 pub invariant_of-self : goal.invariant_of-self
 invariant_of-self g c =
     record {
-      counted = counted_after_set _ _ _ (slot_in_range _ _ c.self.view_is c.requires) c.index_mut.ensures.value c.self.invariant.counted
-          _ c.append.ensures.short c.append.ensures.buffer (grind (arith, length-append)) (omega arith) (omega arith);
+      counted = counted_after_set _ _ _ (slot_in_range _ _ c.self.view_is c.requires) c.index_mut.ensures.value
+          c.self.invariant.counted _ c.append.ensures.short c.append.ensures.buffer (grind (arith, length-append))
+          (omega arith) (omega arith);
       room = c.self.invariant.room;
     }
 

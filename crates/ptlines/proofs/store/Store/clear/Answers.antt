@@ -7,7 +7,8 @@ use proofs.store.Store.clear.Goals as goal
 
 pub overflow_sub-self : goal.overflow_sub-self
 overflow_sub-self g c =
-    omega (arith, line_le_total _ _ _ (slot_in_range _ _ c.self.view_is c.requires) c.index.ensures c.self.invariant.counted)
+    let low = slot_in_range _ _ c.self.view_is c.requires in
+    omega (arith, line_le_total _ _ _ low c.index.ensures c.self.invariant.counted)
 
 pub invariant_of-self : goal.invariant_of-self
 invariant_of-self g c =

@@ -22,7 +22,8 @@ copied lines cleared after from to byte_count size v differ from_in to_in cleare
 
 pub overflow_add-self : goal.overflow_add-self
 overflow_add-self g c =
-    omega (arith, total_fits c.self.inside.slots.items c.size.result c.self.invariant.counted (omega arith) (omega arith))
+    let counted = c.self.invariant.counted in
+    omega (arith, total_fits c.self.inside.slots.items c.size.result counted (omega arith) (omega arith))
 
 pub invariant_of-self : goal.invariant_of-self
 invariant_of-self g c =

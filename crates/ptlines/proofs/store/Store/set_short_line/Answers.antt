@@ -20,7 +20,8 @@ overflow_add-self g c =
 sound : (g : given.Over) (c : After-set_short_line g) {peak : ℕ}
     → c.self.inside.byte_count - c.size-was.result + c.args.size ≤ peak → c.self.inside.peak ≤ peak
     → IsSoundStore (c.self.inside.byte_count - c.size-was.result + c.args.size) peak
-    (set c.self.inside.slots.items c.args.slot c.set_short_line.new.self) c.self.inside.slots.cap c.self.inside.slots.len
+    (set c.self.inside.slots.items c.args.slot c.set_short_line.new.self) c.self.inside.slots.cap
+    c.self.inside.slots.len
 sound g c less more =
     let low = slot_in_range _ _ c.self.view_is c.requires.slot in
     let there = c.index_mut.ensures.value in
