@@ -1,32 +1,27 @@
--- The output of `cut` by bytes. First what intervals select: slices, one after another, with the invariant of the loop
--- that copies them. Then the output for the rest of a text, which depends only on the line offset: for a line, a piece
--- of one, or 64 empty lines, and what of it is decided. Last byte shuffles: how the row and the counts of a piece are
--- made, and that they copy the selected bytes of a line piece by piece.
+-- The output of `cut` by bytes. First what intervals select: slices, one after another. Then the output for the rest of
+-- a text, which depends only on the line offset: for a line, a piece of one, or 64 empty lines. Last byte shuffles, which
+-- copy the selected bytes of a line piece by piece.
 use Rattle.ptflow.proofs
 use Rattle.ptflow.specs
 use proofs.Common.{◌≡◌, ℕ, ◌+◌, ◌-◌, ◌≤◌, ◌^◌, Bool, false, List, [], ◌∷◌, ◌++◌, map, length, take, drop, Some, refl}
-use proofs.Common.{ap, arith, append_assoc, usual, flat_map, mask_l, chunk, length-chunk, chunk-drop}
-use proofs.Common.{IsFirstByte, is_byte, unlines, lines, IsLine, complete_lines, lines_cons, byte_ne, lines_of_unlines}
-use proofs.Common.{line_before_terminator, select_from, cut_line, cut, cut_decided}
-use proofs.Common.{cut_list_from, IsPrefix, Cut, Interval, CutPost, selected_bytes, is_selected, zero, suc}
-use proofs.Common.{◌<◌, set, ◌&&◌, get_or, length-append, sym, ◌∙◌, w8, All, nat_le, range_with_len, take-add}
-use proofs.Common.{swz_l, pick_l-range_with_len, take-map, take-take, take-append-le, take_all, length-take-le}
-use proofs.Common.{append-nil, length-range_with_len, cases_eq, put_chunk, length-drop, length-swz_l, slice_get, min}
-use proofs.Common.{drop_more, AreSeparated, ⊎_elim, cases_lt, length-set}
+use proofs.Common.{ap, arith, append_assoc, usual, flat_map, mask_l, chunk, length-chunk, chunk-drop, IsFirstByte}
+use proofs.Common.{is_byte, unlines, lines, IsLine, complete_lines, lines_cons, byte_ne, lines_of_unlines}
+use proofs.Common.{line_before_terminator, select_from, cut_line, cut, cut_decided, cut_list_from, IsPrefix, Cut}
+use proofs.Common.{Interval, CutPost, selected_bytes, is_selected, zero, suc, ◌<◌, set, ◌&&◌, get_or, length-append}
+use proofs.Common.{sym, ◌∙◌, w8, All, nat_le, range_with_len, take-add, swz_l, pick_l-range_with_len, take-map}
+use proofs.Common.{take-take, take-append-le, take_all, length-take-le, append-nil, length-range_with_len, cases_eq}
+use proofs.Common.{put_chunk, length-drop, length-swz_l, slice_get, min, drop_more, AreSeparated, ⊎_elim, cases_lt}
+use proofs.Common.{length-set, selected_indices, selected_after, IsPieceShuffle, length-take}
 use specs.declared.tools.cut.bytes.Line.{Line}
 use proofs.Passes.Exits.{split_of, LineSplit, line_split}
 use proofs.Vectors.Lanes.{stored_more}
 use mir.Val.{bool_byte}
-use specs.Private.Cut.ShortLines.{selected_indices, selected_after, IsPieceShuffle}
 use specs.declared.tools.cut.shuffle.PieceShuffle.{PieceShuffle}
 use proofs.Vectors.Compress.{row_lanes, selected_stored, shuffle_result}
 use lib.Seq.{take-nil}
-use Rattle.std.proofs.lemmas.List.{length-take}
 use specs.Private.Cut.CutFrom.{ExtendsCut, cut_bytes_from, cut_lines_from}
 
--- ---- what intervals select
-
--- Disjoint ascending intervals select one after another, and each a slice; so the selected items are these slices.
+-- ---- what intervals select: each a slice, and one after another, since they are disjoint and ascend
 
 abbrev pub is_within : Interval → ℕ → Bool
 is_within r n = nat_le r.first n && nat_le n r.last
@@ -231,10 +226,7 @@ module _ (job : Cut) (by_bytes : job.fields ≡ false) where
         is = grind (usual, rest_of_all, made_is);
       }
 
--- ---- shuffles
-
--- A row has the selected indices in order, so a shuffle moves the selected bytes of 16 to the front. The counts tell
--- how many bytes of a piece of each length are selected.
+-- ---- shuffles: a row has the selected indices in order, and the counts tell how many a piece of each length has
 
 module _ (selected : ℕ → Bool) where
   pub select_append : {X : Type 0} (n : ℕ) (xs ys : List X)
@@ -292,14 +284,17 @@ module _ (selected : ℕ → Bool) where
         → take (length (selected_indices selected count)) piece.row ≡ selected_indices selected count
     prefix_indices {count} short =
         let all : count + (16 - count) ≡ 16 = omega arith in
-        let parts = ap (selected_indices selected) (sym all) ∙ picked_parts _ _ in
         let some = selected_indices selected count in
         let later = select_from selected (1 + count) (range_with_len count (16 - count)) in
-        let few : length some ≤ length (selected_indices selected 16) = omega
-        (arith, ap length parts, length-append some later) in
-        sym (take-take (length some) (length (selected_indices selected 16)) _ few)
-        ∙ ap (take (length some)) (is.indices ∙ parts)
-        ∙ take-append-le (length some) some later (omega arith) ∙ take_all (length some) some (omega arith)
+        let parts : selected_indices selected 16 ≡ some ++ later = cc (picked_parts count (16 - count)) in
+        let few : length some ≤ length (selected_indices selected 16) =
+        omega (arith, ap length parts, length-append some later) in
+        cc (
+          take-take (length some) (length (selected_indices selected 16)) piece.row few,
+          is.indices,
+          take-append-le (length some) some later (omega arith),
+          take_all (length some) some (omega arith),
+        )
 
     pub shuffle_few : (count : ℕ) → count ≤ 16 → get_or piece.counts count 0 ≤ count
     shuffle_few count short = grind (arith, few_selected, length-range_with_len)

@@ -1,8 +1,8 @@
--- The output of `cut` by fields. The fields after the first n start after the n-th delimiter. The fields of an
--- interval are one slice of the line, so the output of a line is slices, one for each step of the cursor. It is not
--- longer than the line. Lines without the delimiter are kept or dropped, at the front of a block all at once. Last,
--- the law of `cut` of a text in parts (`CutOfParts`).
+-- The output of `cut` by fields. The fields after the first n start after the n-th delimiter. The fields of an interval
+-- are one slice of the line, so the output of a line is slices, one for each step of the cursor. Lines without the
+-- delimiter are kept or dropped, at the front of a block all at once.
 use Rattle.ptflow.proofs
+use Rattle.ptflow.specs
 use proofs.Common.{usual, ◌≡◌, ℕ, zero, suc, ◌+◌, ◌<◌, ◌==◌, ◌-◌, ◌≤◌, Bool, true, false, List, [], ◌∷◌, ◌++◌, length}
 use proofs.Common.{take, drop, refl, sym, ap, arith, join_with_byte, append-nil, take-take, take-add, take_all}
 use proofs.Common.{drop_all, drop-drop, length-drop, length-take-le, take-append-drop, flat_map-append}
@@ -11,15 +11,13 @@ use proofs.Common.{cut_fields, is_selected, AreSeparated, Interval, select_from,
 use proofs.Common.{output_from_cursor, min, Option, None, Some, is_some, flat_map, list_any, list_any_at, IsFirstByte}
 use proofs.Common.{line_if_not_found, unlines, IsLine, is_field_delimiter, cut_line, cut_lines, IsPrefix, ◌⊎◌, inl, inr}
 use proofs.Common.{unwrap_or, complete_lines, AreLines, line_before_terminator, complete_lines_cons, the_lines}
-use proofs.Common.{the_complete_lines, CopyLinesPost, the_lines_of_parts, CutOfParts}
+use proofs.Common.{the_complete_lines, CopyLinesPost, the_lines_of_parts, CutOfParts, cases_lt, append_assoc, ◌∙◌}
+use proofs.Common.{nth_later, nth_from, few_from, IsAfterNth}
 use proofs.CutLemmas.CutBytes.{rest_of, not_selected, select_first, select_slice, select_skip}
-use proofs.Common.{cases_lt, append_assoc, ◌∙◌}
 use proofs.Passes.Exits.{line_split}
-use Rattle.ptlines.proofs.MatchWindows.{nth_later, nth_from, few_from}
-use Rattle.ptlines.specs.Calls.Scan.{IsAfterNth}
 use Rattle.ptlines.specs.declared.scan.MatchWindow.{MatchWindow}
-use Rattle.ptflow.specs.declared.tools.cut.fields.FieldCursor.{FieldCursor}
-use Rattle.ptflow.specs.Private.Cut.FieldOffsets.{IsFieldOffset, fields, prefixed_fields}
+use specs.declared.tools.cut.fields.FieldCursor.{FieldCursor}
+use specs.Private.Cut.FieldOffsets.{IsFieldOffset, fields, prefixed_fields}
 
 module _ (d : ℕ) where
   pub fields-append : (xs ys : List ℕ) → fields d (xs ++ d ∷ ys) ≡ fields d xs ++ fields d ys

@@ -1,8 +1,6 @@
--- The loop invariant of `FilterSet::of` (`IsCounted`), and its two steps, for a flag that is set or clear: at most
--- `count` of the first flags are set. If `count` is 0, none is, and if it is 1, only the flag at index `last` is.
+-- The loop of `FilterSet::of`, whose count only has to tell no flag, one and more apart.
 use Rattle.ptflow.proofs
-use proofs.Common.{◌≡◌, ◌≤◌, ◌<◌, ◌+◌, ℕ, Bool, true, false, List, get_or, eqb, arith, ⊎_elim}
-use proofs.Common.{cases_eq, eq-eqb, ne_eqb}
+use proofs.Common.{◌≡◌, ◌≤◌, ◌<◌, ◌+◌, ℕ, Bool, true, false, List, get_or, eqb, arith, ⊎_elim, cases_eq, eq-eqb, ne_eqb}
 
 -- `count` of the first `n` flags are set, and `last` is the index of the last of them
 pub record IsCounted (count last n : ℕ) (flags : List Bool) : Type 0 where

@@ -1,12 +1,10 @@
--- The output of `tr` for the rest of a text, block by block, and what of it is decided. The last output byte is the
--- only state, since squeezing looks back no further. If nothing is deleted or squeezed, all bytes stay. Then the laws
--- of a text that is cut in two (`TrOfParts`, `TrOfAnyParts`, `TrAfterByte`, `TrMeetsTwice`), and tests that agree on
--- all bytes.
+-- The output of `tr` for the rest of a text, block by block. The last output byte is the only state, since squeezing
+-- looks back no further. Then the laws of a text that is cut in two.
 use Rattle.ptflow.proofs
-use proofs.Common.{usual, ◌≡◌, ℕ, ◌-◌, not, Bool, false, List, [], ◌∷◌, ◌++◌, Option, None, Some, length, refl}
-use proofs.Common.{ap, arith, filter, slice_get, last_or, option_or, append-nil, map-append, filter-append, IsPrefix}
-use proofs.Common.{is_not_repeat, squeeze_after, tr, tr_decided, squeeze_from}
-use proofs.Common.{tr_from, eq-eqb, squeeze, BeginsWith, Each1, Fits, w8, suc, ◌<◌, get_or, EndsWith}
+use proofs.Common.{usual, ◌≡◌, ℕ, ◌-◌, not, Bool, false, List, [], ◌∷◌, ◌++◌, Option, None, Some, length, refl, ap}
+use proofs.Common.{arith, filter, slice_get, last_or, option_or, append-nil, map-append, filter-append, IsPrefix}
+use proofs.Common.{is_not_repeat, squeeze_after, tr, tr_decided, squeeze_from, tr_from, eq-eqb, squeeze, BeginsWith}
+use proofs.Common.{Each1, Fits, w8, suc, ◌<◌, get_or, EndsWith}
 use proofs.Vectors.Lanes.{bytes_fit}
 use Rattle.ptlangs.specs.TrPlan.{ByteMap}
 use Rattle.ptflow.specs.Laws.Parts.{TrAfterByte, TrMeetsTwice, TrOfAnyParts, TrOfParts}

@@ -1,12 +1,12 @@
--- The key of a line, in one pass: skipping n fields, each of them blanks and then other bytes, leads to the byte after
--- the n-th field end. In a window of bytes these ends are the bits of one mask: a byte that is not a blank, before one
--- that is. If the n-th one is the last byte of the line or after it, the key is empty.
+-- The key of a line: skipping n fields leads to the byte after the n-th field end. In a window of bytes these ends are
+-- the bits of one mask: a byte that is not a blank, before one that is. If the n-th one is the last byte of the line or
+-- after it, the key is empty.
 use Rattle.ptflow.proofs
 use proofs.Common.{◌≡◌, ℕ, zero, suc, ◌+◌, ◌-◌, ◌/◌, ◌^◌, ◌<◌, ◌≤◌, Bool, true, false, cond, min, not, List, [], ◌∷◌}
 use proofs.Common.{length, map, take, drop, refl, sym, ◌∙◌, ap, arith, usual, slice_get, option_map_or, drop-drop}
-use proofs.Common.{is_blank, ends_word, word_ends, after_fields, ◌==◌, IsNth, count_by, from_bool, mask_l, chunk, get_or, count_ones, ones-mask_l, sum_by-cons}
-use proofs.Common.{bit_and, mask_l-lt, length-map, length-chunk}
-use proofs.Common.{rules, cases_lt, ⊎_elim, drop_all}
+use proofs.Common.{is_blank, ends_word, word_ends, after_fields, ◌==◌, IsNth, count_by, from_bool, mask_l, chunk}
+use proofs.Common.{get_or, count_ones, ones-mask_l, sum_by-cons, bit_and, mask_l-lt, length-map, length-chunk, rules}
+use proofs.Common.{cases_lt, ⊎_elim, drop_all}
 use proofs.CutLemmas.CutBytes.{rest_of}
 use Rattle.ptflow.specs.Private.Uniq.FieldEnds.{field_ends}
 use lib.Bits.{and_step, and_zero_r}
@@ -84,8 +84,8 @@ length-ends_in (suc n) [] = omega arith
 length-ends_in (suc n) (b ∷ bytes) = grind (arith, length-ends_in n bytes)
 
 counted_one : (t : Bool) (xs : List ℕ) → count_by is_set (from_bool t ∷ xs) ≡ cond t 1 0 + count_by is_set xs
-counted_one true xs = sum_by-cons (λ b. cond (is_set b) 1 0) 1 xs
-counted_one false xs = sum_by-cons (λ b. cond (is_set b) 1 0) 0 xs
+counted_one true xs = sum_by-cons _ 1 xs
+counted_one false xs = sum_by-cons _ 0 xs
 
 -- one byte of a line before another one
 step : (n m : ℕ) (rest : List ℕ) (t : Bool) → n ≡ cond t 1 0 + m
@@ -115,32 +115,23 @@ skip_ends : (j m n : ℕ) (bytes : List ℕ) → count_by is_set (ends_in j byte
 skip_ends zero m n bytes few = grind arith
 skip_ends (suc j) zero n bytes few = refl
 skip_ends (suc j) (suc m) n [] few = refl
-skip_ends (suc j) (suc zero) n (b ∷ bytes) few = none_after (ends_word b []) n
-    ∙ sym (ap (suffix_at (suc (n - count_by is_set (ends_in (suc j) (b ∷ bytes))))) (drop_all j [] (omega arith)))
-skip_ends (suc j) (suc (suc m)) n (b ∷ []) few = none_after (ends_word b []) n
-    ∙ sym (ap (suffix_at (suc (n - count_by is_set (ends_in (suc j) (b ∷ []))))) (drop_all j [] (omega arith)))
+skip_ends (suc j) (suc zero) n (b ∷ bytes) few = cc (none_after (ends_word b []) n, drop_all {X = ℕ} j [] (omega arith))
+skip_ends (suc j) (suc (suc m)) n (b ∷ []) few = cc (none_after (ends_word b []) n, drop_all {X = ℕ} j [] (omega arith))
 skip_ends (suc j) (suc (suc m)) n (b ∷ c ∷ bytes) few =
     let t = ends_word b (c ∷ bytes) in
     let rest = count_by is_set (ends_in j (c ∷ bytes)) in
-    let counted : count_by is_set (ends_in (suc j) (b ∷ c ∷ bytes)) ≡ cond t 1 0 + rest =
-    counted_one t (ends_in j (c ∷ bytes)) in
+    let counted = counted_one t (ends_in j (c ∷ bytes)) in
     let enough : cond t 1 0 + rest ≤ n = omega (arith, counted) in
     let same : n - cond t 1 0 - rest ≡ n - count_by is_set (ends_in (suc j) (b ∷ c ∷ bytes)) = omega arith in
-    step n (n - cond t 1 0) (c ∷ take m bytes) t (omega arith)
-    ∙ skip_ends j (suc m) (n - cond t 1 0) (c ∷ bytes) (omega arith)
-    ∙ ap (λ i. suffix_at (suc i) (drop j (c ∷ take m bytes))) same
+    cc (
+      step n (n - cond t 1 0) (c ∷ take m bytes) t (omega arith),
+      skip_ends j (suc m) (n - cond t 1 0) (c ∷ bytes) (omega arith),
+    )
 
 -- the range from an index that may be after its end
 range_from : (bytes : List ℕ) (at to : ℕ) → take (to - min at to) (drop (min at to) bytes)
     ≡ take (to - at) (drop at bytes)
-range_from bytes at to = ⊎_elim
-    (λ less. let same : min at to ≡ at = omega arith in ap (λ i. take (to - i) (drop i bytes)) same)
-    (λ more.
-    let same : min at to ≡ to = omega arith in
-    let none : to - to ≡ 0 = omega arith in
-    let none_left : to - at ≡ 0 = omega arith in
-    ap (λ i. take (to - i) (drop i bytes)) same ∙ ap (λ i. take i (drop to bytes)) none
-    ∙ sym (ap (λ i. take i (drop at bytes)) none_left)) (cases_lt at to)
+range_from bytes at to = grind (arith, cases_lt at to)
 
 -- ---- by the mask of a window
 
@@ -170,13 +161,12 @@ module _ (bytes : List ℕ) (at to : ℕ) {left : ℕ} (some : 0 < left) where
       let n : left ≡ suc (left - 1) = omega arith in
       let size : to - at - suc k ≡ to - (at + suc k) = omega arith in
       let start : min (at + suc k) to ≡ from = omega arith in
-      ap (λ i. suffix_at i (take (to - at) (drop at bytes))) n
-      ∙ nth_end 31 (to - at) (left - 1) k (drop at bytes) h
-      ∙ rest_of (suc k) (to - at) (drop at bytes)
-      ∙ ap (take (to - at - suc k)) (drop-drop (suc k) at bytes)
-      ∙ ap (λ i. take i (drop (at + suc k) bytes)) size
-      ∙ sym (range_from bytes (at + suc k) to)
-      ∙ ap (λ i. take (to - i) (drop i bytes)) start
+      cc (
+        nth_end 31 (to - at) (left - 1) k (drop at bytes) h,
+        rest_of (suc k) (to - at) (drop at bytes),
+        drop-drop (suc k) at bytes,
+        range_from bytes (at + suc k) to,
+      )
 
   pub key_after_window : count_by is_set (ends_in 31 (drop at bytes)) < left
       → suffix_at (left - count_by is_set (ends_in 31 (drop at bytes))) (take (to - (at + 31)) (drop (at + 31) bytes))
@@ -186,12 +176,11 @@ module _ (bytes : List ℕ) (at to : ℕ) {left : ℕ} (some : 0 < left) where
       let n : left ≡ suc (left - 1) = omega arith in
       let next : suc (left - 1 - count) ≡ left - count = omega arith in
       let size : to - at - 31 ≡ to - (at + 31) = omega arith in
-      let rest = rest_of 31 (to - at) (drop at bytes) ∙ ap (take (to - at - 31)) (drop-drop 31 at bytes)
-      ∙ ap (λ i. take i (drop (at + 31) bytes)) size in
-      sym (ap (λ i. suffix_at i (take (to - at) (drop at bytes))) n
-      ∙ skip_ends 31 (to - at) (left - 1) (drop at bytes) (omega arith)
-      ∙ ap (λ i. suffix_at i (drop 31 (take (to - at) (drop at bytes)))) next
-      ∙ ap (suffix_at (left - count)) rest)
+      cc (
+        skip_ends 31 (to - at) (left - 1) (drop at bytes) (omega arith),
+        rest_of 31 (to - at) (drop at bytes),
+        drop-drop 31 at bytes,
+      )
 
 -- ---- the mask of a window
 
@@ -215,9 +204,9 @@ module _ (bytes : List ℕ) (at : ℕ) (room : at + 32 ≤ length bytes) {blanks
   where
     pub blanks_fit : blanks ≤ 4294967295
     blanks_fit =
-        let long = length-map (chunk at 32 bytes) is_blank ∙ length-chunk at 32 bytes room in
-        let low : mask_l (map is_blank (chunk at 32 bytes)) < 2 ^ 32 = rw long at (mask_l-lt (map is_blank (chunk at 32 bytes))) in
-        omega arith
+        let v = chunk at 32 bytes in
+        let long = length-map v is_blank ∙ length-chunk at 32 bytes room in
+        omega (arith, rw long at (mask_l-lt (map is_blank v)))
 
     pub ends_mask : bit_and (4294967295 - blanks) (blanks / 2) ≡ mask_l (field_ends 31 (drop at bytes))
     ends_mask =

@@ -1,21 +1,19 @@
--- The runs of lines, from the first line on, and in a block line by line, with the invariant of the loop over its
--- lines. A line, or many copies of it at once, adds to the count of the current run, or ends it. Output that is
--- contiguous in the block is deferred, so the output so far is the pushed bytes and then the deferred ones. Last, that
--- `uniq` works line by line, and the laws of inputs in parts (`UniqOfParts`, `UniqByKey`).
+-- The runs of lines, and the loop over the lines of a block. A line, or many copies of it at once, adds to the count of
+-- the current run, or ends it. Output that is contiguous in the block is deferred, so the output so far is the pushed
+-- bytes and then the deferred ones. Last, the laws of inputs in parts.
 use Rattle.ptflow.proofs
 use Rattle.ptflow.specs
-use proofs.Common.{◌≡◌, ℕ, ◌+◌, ◌&&◌, Bool, true, false, cond, List, [], ◌∷◌, ◌++◌, refl, ap, arith, usual, nat_lt}
-use proofs.Common.{append-nil, bytes_eq-Decides, IsPrefix, Uniq, is_same, run_of, ◌-◌, ◌<◌, ◌≤◌, Some, None, Option}
-use proofs.Common.{length, take, drop, subst, append_assoc, length-append, bytes_eq, slice_range, drop_split}
-use proofs.Common.{length-drop, drop_at, IsFirstByte, is_byte, Output, PushEffect, unlines, complete_lines, IsLine}
-use proofs.Common.{unlines_push, complete_lines_none, RunsWritten, bytes_in_range, sym, ◌∙◌, known_lines, line}
+use proofs.Common.{take-append-drop, ◌≡◌, ℕ, ◌+◌, ◌&&◌, Bool, true, false, cond, List, [], ◌∷◌, ◌++◌, refl, ap, arith}
+use proofs.Common.{usual, nat_lt, append-nil, bytes_eq-Decides, IsPrefix, Uniq, is_same, run_of, ◌-◌, ◌<◌, ◌≤◌, Some}
+use proofs.Common.{None, Option, length, take, drop, subst, append_assoc, length-append, bytes_eq, slice_range}
+use proofs.Common.{drop_split, length-drop, drop_at, IsFirstByte, is_byte, Output, PushEffect, unlines, complete_lines}
+use proofs.Common.{IsLine, unlines_push, complete_lines_none, RunsWritten, bytes_in_range, sym, ◌∙◌, known_lines, line}
 use proofs.Common.{first_line, current_run_of, rules, ◌⊎◌, inl, inr, ⊎_elim, filter, AllByRecursion, cases_Bool}
 use proofs.Common.{the_lines_of_parts, lines-unlines, lines_are, BeginsWith, EndsWith, line_before_terminator}
-use proofs.Common.{take_with_terminator, ◌≢◌, zero, suc, IsLineFilter}
+use proofs.Common.{take_with_terminator, ◌≢◌, zero, suc, IsLineFilter, EndRunPre, first_of, repeated, IsRangeOf}
+use proofs.Common.{RunsFailed, IsPending, count_prefix, run_text, count_of, has_output, current_run, run_output}
+use proofs.Common.{runs_after, runs_from}
 use proofs.Passes.Exits.{wrote_then, split_of, ended_next}
-use specs.Private.Uniq.BlockRuns.{EndRunPre, first_of, repeated, IsRangeOf, RunsFailed, IsPending}
-use specs.Private.Uniq.RunsFrom.{count_prefix, run_text, count_of, has_output, current_run, run_output, runs_after}
-use specs.Private.Uniq.RunsFrom.{runs_from}
 use specs.declared.tools.uniq.block_runs.BlockRange.{BlockRange}
 use specs.declared.tools.uniq.CurrentRun.{CurrentRun}
 use specs.Uniqs.{Run, init, output_of, key, cons_run, runs, uniq_tool}
@@ -88,14 +86,10 @@ pub init_current : (job : Uniq) (passed : List Run) (run : Run)
 init_current job passed run = by_test (nat_lt 0 run.count)
   where
     by_test : (t : Bool) → IsPrefix (output_of job (init (passed ++ cond t (run ∷ []) []))) (output_of job passed)
-    by_test false = let (last, split) = init_prefix passed in record {
-      rest = output_of job last;
-      is = cc (entries-append job (init passed) last, append-nil passed);
-    }
-    by_test true = record {
-      rest = [];
-      is = cc (append-nil (output_of job passed), init_push passed run);
-    }
+    by_test false =
+        let (last, split) = init_prefix passed in
+        record { rest = output_of job last; is = cc (entries-append job (init passed) last, append-nil passed) }
+    by_test true = record { rest = []; is = cc (append-nil (output_of job passed), init_push passed run) }
 
 -- ---- lines before the rest of a block
 
@@ -342,39 +336,33 @@ line_ends : (end : ℕ) (l more : List ℕ) → IsLine end l
     → IsFirstByte (is_byte end) ((l ++ end ∷ []) ++ more) (Some (length l))
 line_ends end l more whole = grind usual
 
-module _ {job : Uniq} {first block : List ℕ} {start : ℕ} {line : Option BlockRange} {pending : BlockRange} {run_key : List ℕ}
-    {was is : Output} (l : List ℕ) (whole : IsLine job.terminator l) (key_is : run_key ≡ key job l) where
-  counted_once : (more : List ℕ) {count : ℕ}
-      → RunsInvariant job first block ((l ++ job.terminator ∷ []) ++ more) start count line pending run_key was is
-      → RunsInvariant job first block more start (count + 1) line pending run_key was is
-  counted_once more so_far = grind (usual, bytes_eq-Decides, runs_loop_more, line_ends)
-
-  pub runs_loop_again : (n : ℕ) (rest : List ℕ) {count : ℕ}
+module _ {job : Uniq} {first block : List ℕ} {start : ℕ} {line : Option BlockRange} {pending : BlockRange}
+    {run_key : List ℕ} {was is : Output} where
+  runs_loop_again : (l : List ℕ) → IsLine job.terminator l → run_key ≡ key job l → (n : ℕ) (rest : List ℕ) {count : ℕ}
       → RunsInvariant job first block (repeated n (l ++ job.terminator ∷ []) ++ rest) start count line pending run_key
       was is → RunsInvariant job first block rest start (count + n) line pending run_key was is
-  runs_loop_again zero rest so_far = grind arith
-  runs_loop_again (suc n) rest {count} so_far =
+  runs_loop_again l whole own zero rest so_far = grind arith
+  runs_loop_again l whole own (suc n) rest {count} so_far =
       let bytes = l ++ job.terminator ∷ [] in
-      let once = counted_once _ (rw (append_assoc bytes (repeated n bytes) rest) at so_far) in
-      grind (arith, runs_loop_again n _ once)
+      let split = rw (append_assoc bytes (repeated n bytes) rest) at so_far in
+      let once : RunsInvariant job first block (repeated n bytes ++ rest) start (count + 1) line pending run_key was is =
+      grind (usual, bytes_eq-Decides, runs_loop_more, line_ends) in
+      grind (arith, runs_loop_again l whole own n rest once)
 
-pub runs_loop_repeats : {job : Uniq} {first block rest : List ℕ} {start count : ℕ} {line : Option BlockRange} {pending : BlockRange}
-    {run_key : List ℕ} {was is : Output}
-    → RunsInvariant job first block rest start count line pending run_key was is → {at : ℕ}
-    → IsFirstByte (is_byte job.terminator) rest (Some at) → {next : List ℕ} {same : Bool}
-    → next ≡ key job (take at rest) → same ≡ bytes_eq run_key next → same ≡ true → (n : ℕ) {left : List ℕ}
-    → drop (at + 1) rest ≡ repeated n (take (at + 1) rest) ++ left
-    → RunsInvariant job first block left start (count + (1 + n)) line pending run_key was is
-runs_loop_repeats {job} {rest = rest} {run_key = run_key} so_far {at} found key_is tested is_true n {left} copies =
-    let own : run_key ≡ key job (take at rest) = grind (arith, bytes_eq-Decides) in
-    let split : drop (at + 1) rest ≡ repeated n (take at rest ++ job.terminator ∷ []) ++ left =
-    grind (arith, take_with_terminator) in
-    let again = runs_loop_again (take at rest) (line_before_terminator job.terminator rest at found) own n left in
-    grind (arith, again (rw split at (runs_loop_more so_far found key_is tested is_true)))
+  pub runs_loop_repeats : {rest : List ℕ} {count : ℕ}
+      → RunsInvariant job first block rest start count line pending run_key was is → {at : ℕ}
+      → IsFirstByte (is_byte job.terminator) rest (Some at) → {next : List ℕ} {same : Bool}
+      → next ≡ key job (take at rest) → same ≡ bytes_eq run_key next → same ≡ true → (n : ℕ) {left : List ℕ}
+      → drop (at + 1) rest ≡ repeated n (take (at + 1) rest) ++ left
+      → RunsInvariant job first block left start (count + (1 + n)) line pending run_key was is
+  runs_loop_repeats {rest} so_far {at} found key_is tested is_true n {left} copies =
+      let own : run_key ≡ key job (take at rest) = grind (arith, bytes_eq-Decides) in
+      let split : rest ≡ repeated (1 + n) (take at rest ++ job.terminator ∷ []) ++ left =
+      grind (arith, take_with_terminator, take-append-drop (at + 1) rest, append_assoc) in
+      runs_loop_again (take at rest) (line_before_terminator job.terminator rest at found) own (1 + n) left
+      (rw split at so_far)
 
--- ---- inputs in parts
-
--- Lines with different keys are in different runs, so no run is cut or merged.
+-- ---- inputs in parts: lines with different keys are in different runs, so no run is cut or merged
 
 module _ (job : Uniq) where
   other_key : (a b : List ℕ) → key job a ≢ key job b → is_same job a b ≡ false
@@ -405,8 +393,6 @@ module _ (job : Uniq) where
 
 pub uniq_of_parts : UniqOfParts
 uniq_of_parts job a b whole change = simp (the_lines_of_parts, runs-append, entries-append)
-
--- ---- lines that are distributed by their keys
 
 all_filter : {X : Type 0} (P : X → Type 0) (test : X → Bool) (xs : List X) → AllByRecursion P xs
     → AllByRecursion P (filter test xs)

@@ -1,21 +1,17 @@
 -- Compression: a row has the indices of the set flags of a mask, in order, so a shuffle by it moves the selected lanes
--- to the front. A row is made index by index, and a mask of 16 flags is two halves. Then filters: a byte is kept or
--- removed by itself and the byte that it is compared with, so a text can be processed in pieces (`FilterInvariant`).
+-- to the front. A mask of 16 flags is two halves. Then filters: a byte is kept or removed by itself and the byte that it
+-- is compared with, so a text can be processed in pieces.
 use Rattle.ptflow.proofs
-use proofs.Common.{usual, ◌≡◌, ℕ, zero, suc, ◌+◌, ◌*◌, ◌^◌, ◌/◌, ◌%◌, ◌<◌, ◌≤◌, Bool, true, false, cond, List, []}
-use proofs.Common.{◌∷◌, ◌++◌, map, length, take, drop, set, get_or, length-drop, drop-cons, append_assoc, add-one}
+use proofs.Common.{usual, ◌≡◌, ℕ, zero, suc, ◌+◌, ◌*◌, ◌^◌, ◌/◌, ◌%◌, ◌<◌, ◌≤◌, Bool, true, false, cond, List, [], ◌∷◌}
+use proofs.Common.{◌++◌, map, length, take, drop, set, get_or, length-drop, drop-cons, append_assoc, add-one}
 use proofs.Common.{length-append, refl, ap, arith, w8, All, nat_eq, range_with_len, mask_l, put_chunk, chunk, pick_l}
-use proofs.Common.{Each1, take_more_put_chunk, bit_mask_l, mask_l-lt, Each1-from_get_or, swz_l}
-use proofs.Common.{pick_l-range_with_len, take-map, take-append-le, drop-append-le, length-take-le, take-append-add}
-use proofs.Common.{length-range_with_len, get_or-range_with_len, and_numeral, not, eqb, filter, append-nil}
-use proofs.Common.{take-append-drop, take-add, zip2, drop-drop, drop_all, length-chunk, length-zip2, bit_and}
-use proofs.Common.{keep_flags, kept_bytes, FilterPre, bit_or, rules}
-use proofs.Common.{slice_index_or, sym, ◌∙◌, ◌-◌, take_all, take-take, drop-take}
+use proofs.Common.{Each1, take_more_put_chunk, bit_mask_l, mask_l-lt, Each1-from_get_or, swz_l, pick_l-range_with_len}
+use proofs.Common.{take-map, take-append-le, drop-append-le, length-take-le, take-append-add, length-range_with_len}
+use proofs.Common.{get_or-range_with_len, and_numeral, not, eqb, filter, append-nil, take-append-drop, take-add, zip2}
+use proofs.Common.{drop-drop, drop_all, length-chunk, length-zip2, bit_and, keep_flags, kept_bytes, FilterPre, bit_or}
+use proofs.Common.{rules, slice_index_or, sym, ◌∙◌, ◌-◌, take_all, take-take, drop-take, copied_prefix, mask_append}
+use proofs.Common.{le_or_l, le_or_r, IsCompressTable, IsCompressRow, select_by, true_indices}
 pub use proofs.Vectors.Lanes.{shuffle_result}
-use Rattle.ptlines.proofs.CopyFacts.{copied_prefix}
-use Rattle.ptlines.proofs.MatchMasks.{mask_append}
-use Rattle.std.proofs.lemmas.Nat.{le_or_l, le_or_r}
-use Rattle.ptflow.specs.Private.Vectors.Compress.{IsCompressTable, IsCompressRow, select_by, true_indices}
 
 -- ---- items that are selected by flags
 
@@ -229,9 +225,15 @@ module _ (flags : List Bool) (long : length flags ≡ 16) where
 pub chunk_parts : (at n m : ℕ) (from : List ℕ) → chunk at (n + m) from ≡ chunk at n from ++ chunk (at + n) m from
 chunk_parts at n m from = simp (take-add, drop-drop)
 
+-- what is made of two parts is made of four
+pub in_four : {X : Type 0} (f : ℕ → ℕ → List X) (most : ℕ)
+    → ((at n m : ℕ) → at + n + m ≤ most → f at (n + m) ≡ f at n ++ f (at + n) m) → (at : ℕ) → at + 64 ≤ most
+    → f at 64 ≡ ((f at 16 ++ f (at + 16) 16) ++ f (at + 32) 16) ++ f (at + 48) 16
+in_four f most two at room = cc (two at 48 16 (omega arith), two at 32 16 (omega arith), two at 16 16 (omega arith))
+
 module _ (f : ℕ → ℕ → Bool) (before bytes : List ℕ) (paired : length bytes ≤ length before) where
-  pub pairs_long : (at : ℕ) → at + 16 ≤ length bytes → length (zip2 f (chunk at 16 before) (chunk at 16 bytes)) ≡ 16
-  pairs_long at room = search (rules, length-zip2, length-chunk)
+  pub pairs_long : (at n : ℕ) → at + n ≤ length bytes → length (zip2 f (chunk at n before) (chunk at n bytes)) ≡ n
+  pairs_long at n room = search (rules, length-zip2, length-chunk)
 
 none_set : {a b c d : ℕ} → bit_or (bit_or (bit_or a b) c) d ≡ 0 → (a ≡ 0) × (b ≡ 0) × (c ≡ 0) × (d ≡ 0)
 none_set {a} {b} {c} {d} none = omega (arith, le_or_l, le_or_r)
@@ -275,45 +277,39 @@ module _ (test : ℕ → Bool) where
       pub is : take count into ++ kept_bytes test (drop at before) (drop at bytes) ≡ whole
       pub pre : FilterPre bytes at count
 
-    -- which bytes of a vector are kept
-    abbrev pub flags_at : ℕ → List Bool
-    flags_at k = keep_flags test (chunk k 16 before) (chunk k 16 bytes)
-
-    -- which bytes of a vector are equal to what they are compared with
-    abbrev pub equal_at : ℕ → List Bool
-    equal_at k = zip2 eqb (chunk k 16 before) (chunk k 16 bytes)
-
     module _ (paired : length bytes ≤ length before) where
       same_length : (at n : ℕ) → at + n ≤ length bytes → length (chunk at n before) ≡ length (chunk at n bytes)
       same_length at n room = omega (arith, length-chunk)
 
-      -- a vector is kept whole if no byte equals the one it is compared with
-      kept_none : (k : ℕ) → k + 16 ≤ length bytes → mask_l (equal_at k) ≡ 0 → kept_at k 16 ≡ chunk k 16 bytes
-      kept_none k room = all_kept _ _ (same_length k 16 room)
-
       kept_two : (at n m : ℕ) → at + n + m ≤ length bytes → kept_at at (n + m) ≡ kept_at at n ++ kept_at (at + n) m
       kept_two at n m room = grind (arith, chunk_parts, kept_append, same_length)
 
+      -- which bytes of a vector are equal to what they are compared with
+      abbrev pub equal_at : ℕ → List Bool
+      equal_at k = zip2 eqb (chunk k 16 before) (chunk k 16 bytes)
+
+      -- a vector is kept whole if none is
+      kept_none : (k : ℕ) → k + 16 ≤ length bytes → mask_l (equal_at k) ≡ 0 → kept_at k 16 ≡ chunk k 16 bytes
+      kept_none k room = all_kept _ _ (same_length k 16 room)
+
       module _ (at : ℕ) (room : at + 64 ≤ length bytes) where
-        four : kept_at at 64 ≡ ((kept_at at 16 ++ kept_at (at + 16) 16) ++ kept_at (at + 32) 16) ++ kept_at (at + 48) 16
-        four = cc (kept_two at 48 16 (omega arith), kept_two at 32 16 (omega arith), kept_two at 16 16 (omega arith))
-
         -- what is kept of each vector in turn is what is kept of all
-        pub kept_in_four : (t : List ℕ) {a b c d : List ℕ} → a ≡ t ++ select_by (flags_at at) (chunk at 16 bytes)
-            → b ≡ a ++ select_by (flags_at (at + 16)) (chunk (at + 16) 16 bytes)
-            → c ≡ b ++ select_by (flags_at (at + 32)) (chunk (at + 32) 16 bytes)
-            → d ≡ c ++ select_by (flags_at (at + 48)) (chunk (at + 48) 16 bytes) → d ≡ t ++ kept_at at 64
-        kept_in_four t ea eb ec ed = grind (arith, append_assoc, four, select_kept)
-
-        whole : kept_at at 16 ≡ chunk at 16 bytes → kept_at (at + 16) 16 ≡ chunk (at + 16) 16 bytes
-            → kept_at (at + 32) 16 ≡ chunk (at + 32) 16 bytes → kept_at (at + 48) 16 ≡ chunk (at + 48) 16 bytes
-            → kept_at at 64 ≡ chunk at 64 bytes
-        whole first second third last =
-            cc (four, chunk_parts at 48 16 bytes, chunk_parts at 32 16 bytes, chunk_parts at 16 16 bytes)
+        pub kept_in_four : (t : List ℕ) {a b c d : List ℕ} → a ≡ t ++ kept_at at 16 → b ≡ a ++ kept_at (at + 16) 16
+            → c ≡ b ++ kept_at (at + 32) 16 → d ≡ c ++ kept_at (at + 48) 16 → d ≡ t ++ kept_at at 64
+        kept_in_four t ea eb ec ed = grind (arith, append_assoc, (in_four kept_at (length bytes) kept_two at room))
 
         pub none_equal_in_four : bit_or (bit_or (bit_or (mask_l (equal_at at)) (mask_l (equal_at (at + 16))))
             (mask_l (equal_at (at + 32)))) (mask_l (equal_at (at + 48))) ≡ 0 → kept_at at 64 ≡ chunk at 64 bytes
-        none_equal_in_four none = grind (arith, none_set, whole, kept_none)
+        none_equal_in_four none =
+            let (a, b, c, d) = none_set none in
+            cc (
+              kept_none at (omega arith) a,
+              kept_none (at + 16) (omega arith) b,
+              kept_none (at + 32) (omega arith) c,
+              kept_none (at + 48) (omega arith) d,
+              in_four kept_at (length bytes) kept_two at room,
+              in_four (λ k n. chunk k n bytes) (length bytes) (λ k n m low. chunk_parts k n m bytes) at room,
+            )
 
 module _ {test : ℕ → Bool} {before bytes into : List ℕ} {at count : ℕ} {whole : List ℕ}
     (k : FilterInvariant test before bytes into at count whole) where

@@ -1,8 +1,7 @@
 -- Two slices of one length are equal if their first bytes are, up to an index, and their last ones, which may overlap.
 use Rattle.ptflow.proofs
 use proofs.Common.{◌≡◌, ◌≢◌, ℕ, ◌+◌, ◌≤◌, Bool, true, false, List, length, take, drop, sym, arith, bytes_eq}
-use proofs.Common.{bytes_eq-Decides, chunk, take-append-drop, take-take, take-add, take_all, length-drop}
-use Rattle.std.specs.Prelude.{MatchBool}
+use proofs.Common.{bytes_eq-Decides, chunk, take-append-drop, take-take, take-add, take_all, length-drop, MatchBool}
 
 pub equal_further : (n at : ℕ) (a b : List ℕ) → take at a ≡ take at b → chunk at n a ≡ chunk at n b
     → take (at + n) a ≡ take (at + n) b

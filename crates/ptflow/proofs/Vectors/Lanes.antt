@@ -1,21 +1,19 @@
--- Vector operations. Each is a `map` over the lanes, so facts about one byte carry over: for bytes that are mapped,
--- ranges that are shifted, sets of bytes, and tables of images. A flag of a byte set is one bit of one entry: the low
--- nibble of a byte gives the entry, the high one the table and the bit. Images are looked up in every row of a table;
--- then each step halves the rows, and the lowest bit of a lane's row picks one of two vectors.
+-- Vector operations. Each is a `map` over the lanes, so facts about one byte carry over. A flag of a byte set is one bit
+-- of one entry: the low nibble of a byte gives the entry, the high one the table and the bit. Images are looked up in
+-- every row of a table; then each step halves the rows, and the lowest bit of a lane's row picks one of two vectors.
 use Rattle.ptflow.proofs
 use Rattle.ptflow.specs
 use Rattle.std.proofs.lemmas
-use proofs.Common.{is_byte}
-use proofs.Common.{usual, ◌≡◌, ℕ, ◌+◌, ◌<◌, ◌≤◌, ◌%◌, Bool, false, List, [], ◌∷◌, ◌++◌, Option, map, take, drop}
-use proofs.Common.{length, get_or, replicate, cond, refl, sym, ◌∙◌, ap, arith, w8, Fits, sum_by, zero, suc, slice_get}
-use proofs.Common.{option_map, sel_l, zip2, top, Each1, take-add, false≢true, map-append, tops_compared, zip2_splat}
-use proofs.Common.{zip2_of_maps, splat_is_map, Each1-from_get_or, stretch_delta, pos, negsuc, filter, mask_of}
-use proofs.Common.{cast_unsigned, true, set, take_more_set, take-set, append-nil, add-one, sum_by-append, sum_by-cons}
-use proofs.Common.{range_delta, shift_by_ranges, ◌*◌, ◌/◌, ◌^◌, ◌&&◌, ◌||◌, ltb, eqb, ◌≢◌, ⊎_elim, bit_or, bit_and}
-use proofs.Common.{cast_signed, bit_at, from_bool, swz_l, SwzOk, SwzOk-from_below, pick_l, get_or-drop, ◌-◌, map-map}
-use proofs.Common.{and_mask, lt-ltb, le-ltb, cases_eq, cases_lt, pow_pos, length-map, set-get_or, get_or-set_same}
-use proofs.Common.{table_has, set_has, IsSetOf, All, not, length-set, get_or-chunk, get_or-map, chunk, ext_get_or}
-use proofs.Common.{get_or_default, get_or_past, min, rules, is_some}
+use proofs.Common.{is_byte, usual, ◌≡◌, ℕ, ◌+◌, ◌<◌, ◌≤◌, ◌%◌, Bool, false, List, [], ◌∷◌, ◌++◌, Option, map, take}
+use proofs.Common.{drop, length, get_or, replicate, cond, refl, sym, ◌∙◌, ap, arith, w8, Fits, sum_by, zero, suc}
+use proofs.Common.{slice_get, option_map, sel_l, zip2, top, Each1, take-add, false≢true, map-append, tops_compared}
+use proofs.Common.{zip2_splat, zip2_of_maps, splat_is_map, Each1-from_get_or, stretch_delta, pos, negsuc, filter}
+use proofs.Common.{mask_of, cast_unsigned, true, set, take_more_set, take-set, append-nil, add-one, sum_by-append}
+use proofs.Common.{sum_by-cons, range_delta, shift_by_ranges, ◌*◌, ◌/◌, ◌^◌, ◌&&◌, ◌||◌, ltb, eqb, ◌≢◌, ⊎_elim, bit_or}
+use proofs.Common.{bit_and, cast_signed, bit_at, from_bool, swz_l, SwzOk, SwzOk-from_below, pick_l, get_or-drop, ◌-◌}
+use proofs.Common.{map-map, and_mask, lt-ltb, le-ltb, cases_eq, cases_lt, pow_pos, length-map, set-get_or}
+use proofs.Common.{get_or-set_same, table_has, set_has, IsSetOf, All, not, length-set, get_or-chunk, get_or-map, chunk}
+use proofs.Common.{ext_get_or, get_or_default, get_or_past, min, rules, is_some}
 use specs.declared.simd.shift.ShiftRange.{ShiftRange}
 use Rattle.ptlangs.specs.declared.tr.shifts.Stretch.{Stretch}
 use lemmas.Nat.Bits.{and_pow, bit_at_set_same, bit_at_set_other}

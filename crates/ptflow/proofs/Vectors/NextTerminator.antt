@@ -2,9 +2,8 @@
 use Rattle.ptflow.proofs
 use proofs.Common.{◌≡◌, ℕ, ◌+◌, ◌-◌, ◌<◌, ◌≤◌, Bool, true, Some, List, [], ◌∷◌, length, map, take, drop, get_or, refl}
 use proofs.Common.{sym, ◌∙◌, arith, usual, count_ones, count_by, count_by_more_yes, mask_l, chunk, take-add}
-use proofs.Common.{ones-mask_l, get_or-chunk, length-chunk, IsFirstByte, NoneBefore, Passes, is_byte}
-use proofs.Common.{IsLine, byte_ne, IsTerminatorMask}
-use Rattle.ptlines.proofs.MatchWindows.{after_set, count_in_prefix, first_is, near, without}
+use proofs.Common.{ones-mask_l, get_or-chunk, length-chunk, IsFirstByte, NoneBefore, Passes, is_byte, IsLine, byte_ne}
+use proofs.Common.{IsTerminatorMask, after_set, count_in_prefix, first_is, near, without}
 use lib.Count.{count_trailing_zeros}
 
 -- ---- lines without a byte

@@ -1,5 +1,4 @@
--- The shuffle of a table by the high nibbles, which are quotients by 16: each is below 16, so the shuffle gives the
--- entries that they index.
+-- The high nibbles are quotients by 16, so they are indices of the table.
 use Rattle.ptflow.proofs
 use proofs.Common.{◌/◌, ◌^◌, arith, zip2_splat}
 use proofs.Vectors.Lanes.{nibbles_ok, looked_up}

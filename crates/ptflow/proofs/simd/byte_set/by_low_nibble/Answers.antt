@@ -1,5 +1,4 @@
--- The shuffle of a table by the low nibbles, which are remainders by 16: the indices are in the table, and the lanes
--- are its entries there.
+-- The low nibbles are remainders by 16, so they are indices of the table.
 use Rattle.ptflow.proofs
 use proofs.Common.{◌%◌, arith}
 use proofs.Vectors.Lanes.{nibbles_ok, looked_up, low_nibbles}

@@ -3,8 +3,8 @@ use Rattle.ptflow.proofs
 use Rattle.std.proofs.lemmas
 use proofs.Common.{◌≡◌, ◌<◌, ◌≤◌, ℕ, ◌+◌, ◌^◌, Bool, true, false, cond, zero, suc, List, [], ◌∷◌, length, take, get_or}
 use proofs.Common.{refl, ◌∙◌, arith, eqb, eqb-true, nat_tests, mask_l, mask_l-mod, mask_l-lt, zip2, length-zip2}
-use proofs.Common.{bit_mask_l, tops_compared, w8, take-take, length-take-le, bytes_eq-Decides, usual}
-use Rattle.std.specs.Int.{w64, trailing_ones}
+use proofs.Common.{bit_mask_l, tops_compared, w8, take-take, length-take-le, bytes_eq-Decides, usual, w64}
+use proofs.Common.{trailing_ones}
 use lemmas.Nat.Bits.{bit_at-trailing_ones}
 use proofs.simd.compare.same_start.Goals as goal
 

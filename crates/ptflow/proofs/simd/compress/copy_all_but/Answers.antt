@@ -1,4 +1,4 @@
--- The bytes before the removed one are of the chunk as it was stored first, and those after it as they were stored again.
+-- The chunk is stored up to the removed byte, and from the next one on by the second copy.
 use Rattle.ptflow.proofs
 use proofs.Common.{arith}
 use proofs.Vectors.Compress.{stored_again}

@@ -1,4 +1,4 @@
--- The 64 bytes that were stored after the first `count` are the chunk, so they are appended to these.
+-- The 64 bytes are stored after the first `count`.
 use Rattle.ptflow.proofs
 use proofs.Common.{◌+◌, arith, chunk, take_more_put_chunk, length-chunk}
 use proofs.simd.compress.copy_chunk.Goals as goal

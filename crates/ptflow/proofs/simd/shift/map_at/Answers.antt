@@ -1,4 +1,4 @@
--- The 16 images that were stored at an index follow the bytes before it.
+-- The 16 images are stored after the bytes before the index.
 use Rattle.ptflow.proofs
 use proofs.Common.{◌+◌, arith, take_more_put_chunk}
 use proofs.simd.shift.map_at.Goals as goal

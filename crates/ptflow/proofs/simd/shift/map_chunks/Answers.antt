@@ -1,6 +1,6 @@
 -- Each iteration maps 32 bytes, by two vectors of 16.
 use Rattle.ptflow.proofs
-use Rattle.std.proofs.Common.{◌+◌, arith}
+use proofs.Common.{◌+◌, arith}
 use proofs.Vectors.Lanes.{mapped_more}
 use proofs.simd.shift.map_chunks.Goals as goal
 

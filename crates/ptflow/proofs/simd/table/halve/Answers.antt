@@ -1,5 +1,4 @@
--- Each iteration picks the lanes of one vector out of two, by the lowest bit of their rows. So a lane has in half its
--- row what it had in its row before.
+-- The lowest bit of a lane's row picks one of two vectors, so a lane has in half its row what it had in its row before.
 use Rattle.ptflow.proofs
 use proofs.Common.{◌/◌, arith, get_or}
 use proofs.Vectors.Lanes.{halved_next, halved_lane}

@@ -1,5 +1,4 @@
 -- Each step halves the vectors and shifts out the lowest bit of the rows, so a lane keeps what was found in its row.
--- The last vector has 16 lanes.
 use Rattle.ptflow.proofs
 use proofs.Common.{[], ◌∙◌, ◌/◌, ◌^◌, ap, arith, get_or, get_or-map, rules, zip2_splat, ℕ, List}
 use proofs.simd.table.select_rows.Goals as goal

@@ -1,5 +1,5 @@
 -- `cut` by fields is a line tool, and `cut` by bytes a block tool. Setting the terminator does not change the input,
--- so the contract of each loop carries over. If the output has failed before, nothing is done.
+-- so the contract of each loop carries over.
 use Rattle.ptflow.proofs
 use proofs.Common.{◌++◌, refl, sym, ◌∙◌, ap, cond, cut_job, cut_tool, cut_list_from, Reader, arith}
 use proofs.CutLemmas.CutBytes.{rest_is_decided, made_is, rest_of_all}
@@ -27,12 +27,9 @@ returns g c =
     let start = c.new-2.ensures.start in
     let pass = c.run_blocks.ensures (cut_tool job)
     (record {
-      text = λ bytes. (λ i. cut_list_from (end i) (list i) (start i) bytes) ∙
-          (simp (rest_of_all, (made_is job c.if-job.false)));
+      text = λ bytes. rw (end, list, start) (simp (rest_of_all, (made_is job c.if-job.false)));
       decided = λ given pushed now holds on.
-          rest_is_decided job c.if-job.false given pushed now.line_offset
-          (λ rest. (λ i. cut_list_from (sym end i) (sym list i) (sym start i) (given ++ rest)) ∙ on rest
-          ∙ (λ i. pushed ++ cut_list_from ((holds.1 ∙ end) i) ((holds.0 ∙ list) i) now.line_offset rest));
+          rest_is_decided job c.if-job.false given pushed now.line_offset (λ rest. cc (on rest, holds.0, holds.1));
       holds = (refl, refl);
       slots = ap (λ b. cond b 1 0) c.if-job.false;
     })

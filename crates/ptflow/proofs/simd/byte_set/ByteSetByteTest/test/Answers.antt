@@ -1,5 +1,4 @@
--- The lane mask of the bytes in a set of two tables: what was looked up by the nibbles of each byte is its test, by
--- the lemma `tested`.
+-- What was looked up by the nibbles of a byte is its test (`tested`).
 use Rattle.ptflow.proofs
 use proofs.Vectors.Lanes.{tested}
 use proofs.simd.byte_set.ByteSetByteTest.test.Goals as goal

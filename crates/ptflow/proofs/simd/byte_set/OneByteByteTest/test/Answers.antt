@@ -1,4 +1,4 @@
--- The lane mask of the bytes in a set of one byte: a comparison of all lanes with it.
+-- A set of one byte: a comparison of all lanes with it.
 use Rattle.ptflow.proofs
 use proofs.Vectors.Lanes.{compared_with}
 use proofs.simd.byte_set.OneByteByteTest.test.Goals as goal

@@ -1,10 +1,8 @@
--- The row of the mask has indices below 16, so the shuffle by it is defined. It moves the selected lanes to the front,
--- so these are the first of the bytes that are stored.
+-- A row has indices below 16, so the shuffle is defined. It moves the selected lanes to the front of what is stored.
 use Rattle.ptflow.proofs
 use proofs.Common.{◌∙◌, ◌++◌, [], ap, take, refl, slice_index_or, get_or, arith, w8, swz_l, length-swz_l}
-use proofs.Common.{SwzOk-from_below}
+use proofs.Common.{SwzOk-from_below, IsCompressRow}
 use proofs.Vectors.Compress.{few_in_row, length-flags_of, row_lanes, row_of_mask, row_selects, selected_stored}
-use Rattle.ptflow.specs.Private.Vectors.Compress.{IsCompressRow}
 use proofs.simd.compress.CompressTable.compress8.Goals as goal
 
 pub swizzle : goal.swizzle

@@ -1,4 +1,4 @@
--- Each row of the new table is what `compress_row` makes of its mask, so it is a table for all masks.
+-- Each row is what `compress_row` makes of its mask.
 use Rattle.ptflow.proofs
 use proofs.Common.{[], refl, mask_l}
 use proofs.Vectors.Compress.{mask_below}

@@ -1,5 +1,4 @@
--- The new cycle is unrolled: the entry at an index is the one at the index modulo the length. So it repeats the given
--- bytes.
+-- The entry at an index is the one at the index modulo the length, so the cycle repeats the given bytes.
 use Rattle.ptflow.proofs
 use proofs.Common.{◌%◌, [], ◌∷◌, length, ap, sym, ◌∙◌, arith, mod-lt, mod-eq_of_lt}
 use proofs.simd.replace.Cycle.new.Goals as goal

@@ -1,5 +1,4 @@
--- The loop over the terminators of a chunk: its invariant at the start and after an iteration, which replaces the
--- terminator of the lowest bit by the next byte of the cycle, and what follows from it at the end.
+-- Each iteration replaces the terminator of the lowest bit of the mask by the next byte of the cycle.
 use Rattle.ptflow.proofs
 use proofs.Common.{◌≡◌, ◌+◌, ◌<◌, arith, count_ones, chunk, count_by, count_by-le-length, length-chunk, ones-mask_l}
 use proofs.Common.{is_byte, refl}

@@ -1,5 +1,4 @@
--- The map that replaces the terminator, in 16 lanes: each has the new byte if it is equal to the terminator, and is
--- unchanged if not.
+-- A lane that is equal to the terminator gets the new byte, and the others are unchanged.
 use Rattle.ptflow.proofs
 use proofs.Common.{sym, eqb, splat_is_map}
 use proofs.Vectors.Lanes.{sel_maps, tests_are, map-id}

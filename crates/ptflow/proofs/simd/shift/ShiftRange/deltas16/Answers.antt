@@ -1,7 +1,6 @@
--- In each of 16 lanes, `deltas16` selects what a range adds to the byte there: its shift, or 0 if the byte is not in
--- the range.
+-- A lane gets the shift of the range if its byte is in it, and else 0.
 use Rattle.ptflow.proofs
-use Rattle.std.proofs.Common.{◌+◌, ◌-◌, ◌%◌, nat_le}
+use proofs.Common.{◌+◌, ◌-◌, ◌%◌, nat_le}
 use Rattle.std.proofs.lemmas.Simd.{splat_is_map, zip2_splat}
 use proofs.Vectors.Lanes.{sel_maps, tests_are}
 use proofs.simd.shift.ShiftRange.deltas16.Goals as goal

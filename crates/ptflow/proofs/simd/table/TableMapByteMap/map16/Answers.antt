@@ -1,5 +1,5 @@
--- The images of 16 bytes by a table: what was looked up in the row of each lane, and the byte itself if it is in no
--- row. The row is the distance from the first byte, divided by 16.
+-- What was looked up in the row of each lane, or the byte itself if it is in no row. The row is the distance from the
+-- first byte, divided by 16.
 use Rattle.ptflow.proofs
 use proofs.Common.{◌/◌, ◌^◌, ◌+◌, ◌-◌, ◌%◌, ltb, zip2_of_maps, zip2_splat, splat_is_map}
 use proofs.Vectors.Lanes.{tests_are, images_of}

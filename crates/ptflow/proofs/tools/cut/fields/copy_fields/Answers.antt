@@ -1,5 +1,4 @@
--- The loop over the slices of a line: its invariant at the start and after one more slice, and the result. The copied
--- bytes are not longer than the line, so there is room for the rest.
+-- The copied bytes are not longer than the line, so there is room for one more slice.
 use Rattle.ptflow.proofs
 use proofs.Common.{◌+◌, ◌-◌, ◌≤◌, ◌++◌, take, drop, refl, ◌∙◌, ap, arith, length-take-le, length-drop, is_selected}
 use proofs.Common.{cut_job, cut_fields, output_from_cursor, usual}

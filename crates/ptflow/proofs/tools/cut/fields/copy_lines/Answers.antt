@@ -1,5 +1,4 @@
--- The output of the first lines of a block: a line with the delimiter is copied by its fields, and adjacent lines
--- without it are copied at once, or skipped.
+-- A line with the delimiter is copied by its fields; adjacent lines without it are copied at once, or skipped.
 use Rattle.ptflow.proofs
 use proofs.Common.{◌≡◌, ◌-◌, arith, cut_job, usual}
 use proofs.CutLemmas.Fields.{puts_kept, puts_dropped, free_before}

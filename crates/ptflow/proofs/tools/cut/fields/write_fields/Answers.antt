@@ -1,5 +1,4 @@
--- The loop over the slices of a line: its invariant at the start and after the push of one more slice (`next`). If a
--- push fails, the pushed bytes are a prefix of the selected fields.
+-- Each iteration pushes one more slice (`next`). If a push fails, a prefix of the selected fields was pushed.
 use Rattle.ptflow.proofs
 use proofs.Common.{◌≡◌, ◌-◌, ◌++◌, take, drop, length, ◌∙◌, ap, arith, take_all, is_selected, cut_job}
 use proofs.Common.{output_from_cursor}

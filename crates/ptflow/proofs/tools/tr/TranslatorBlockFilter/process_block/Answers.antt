@@ -1,10 +1,9 @@
 -- The last output byte is the state for the next block. The output is pushed at once, so a failed push leaves a prefix.
 use Rattle.ptflow.proofs
-use Rattle.ptlangs.specs.TrTables.{byte_map_of}
+use proofs.Common.{byte_map_of, rules, arith}
 use proofs.Passes.Exits.{on_err}
 use proofs.TrLemmas.TrFrom.{block_on, front_on}
 use proofs.tools.tr.TranslatorBlockFilter.process_block.Goals as goal
-use proofs.Common.{rules, arith}
 
 pub returns-in_err-push_block-clause-halts : goal.returns-in_err-push_block-clause-halts
 returns-in_err-push_block-clause-halts g c =

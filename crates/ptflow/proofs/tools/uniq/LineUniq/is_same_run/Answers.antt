@@ -1,4 +1,4 @@
--- For `LineUniq::is_same_run`: the keys are compared of slices up to their lengths, which are the whole lines.
+-- The keys are compared of slices up to their lengths, which are the whole lines.
 use Rattle.ptflow.proofs
 use proofs.Common.{arith, length, take_all, usual}
 use proofs.tools.uniq.LineUniq.is_same_run.Goals as goal

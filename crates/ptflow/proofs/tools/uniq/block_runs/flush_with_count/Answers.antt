@@ -1,4 +1,4 @@
--- For `flush_with_count`: a count below 10 is written as one digit, with a space after it.
+-- A count below 10 is written as one digit, with a space after it.
 use Rattle.ptflow.proofs
 use proofs.Common.{◌+◌, [], ◌∷◌, append_assoc}
 use Rattle.std.proofs.lemmas.Fmt.{decimal_digit}

@@ -2,11 +2,10 @@
 -- the line up to it is cut. Each set bit has one iteration, so none is left at the end.
 use Rattle.ptflow.proofs
 use proofs.Common.{◌≡◌, ◌+◌, suc, map, refl, ◌∙◌, ap, arith, count_ones, chunk, length-chunk, take_more_put_chunk}
-use proofs.Common.{ones-mask_l, is_byte}
+use proofs.Common.{ones-mask_l, is_byte, cleared, count_chunk}
 use lib.Count.{count_trailing_zeros}
 use proofs.CutLemmas.CutBytes.{line_cut, terminators_next, cut_next}
 use proofs.Vectors.NextTerminator.{NextTerminator, next_terminator}
-use Rattle.ptlines.proofs.MatchWindows.{cleared, count_chunk}
 use proofs.tools.cut.bytes.Selection.cut_chunk.Goals as goal
 use Rattle.ptflow.proofs.tools.cut.bytes.Selection.cut_chunk.Goals.{In-loop-end}
 

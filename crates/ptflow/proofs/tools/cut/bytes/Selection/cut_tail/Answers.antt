@@ -1,5 +1,4 @@
--- The last bytes of a block: each iteration cuts a line. The bytes after the last terminator are a piece of an
--- unfinished line.
+-- Each iteration cuts a line. The bytes after the last terminator are a piece of an unfinished line.
 use Rattle.ptflow.proofs
 use proofs.Common.{◌+◌, ◌-◌, ◌<◌, [], length, take, drop, refl, arith, length-drop, take_all, take_rest, usual}
 use proofs.Common.{is_selected, line_if_not_found, select_from}

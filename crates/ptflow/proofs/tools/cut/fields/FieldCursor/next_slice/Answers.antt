@@ -1,11 +1,9 @@
 -- An interval takes two steps: to the start of its first field, and to the end of its last one. There is no slice if
--- no interval or no field is left. The indices do not overflow.
+-- no interval or no field is left.
 use Rattle.ptflow.proofs
 use proofs.Common.{◌≡◌, ◌+◌, min, ◌∙◌, refl, sym, arith, length, take, length-take-le, take_rest, usual, eqb-false}
 use proofs.CutLemmas.Fields.{ends_before, next_slice, none_left, none_selected}
 use proofs.tools.cut.fields.FieldCursor.next_slice.Goals as goal
-use proofs.tools.cut.fields.FieldCursor.next_slice.Goals.{then-is_empty-via-then-is_empty}
-use proofs.tools.cut.fields.FieldCursor.next_slice.Goals.{then-is_empty-via-else-is_empty+then-self-to}
 use proofs.CutLemmas.CutBytes.{select_none}
 
 pub returns-then-is_empty : goal.returns-then-is_empty
@@ -14,9 +12,9 @@ returns-then-is_empty c =
     let line = take c.args.to d.bytes.now in
     let long = length-take-le c.args.to d.bytes.now c.requires.within in
     elim c.then-is_empty.branch [
-      | then-is_empty-via-then-is_empty w ↦
+      | goal.then-is_empty-via-then-is_empty w ↦
           (grind (usual, select_none))
-      | then-is_empty-via-else-is_empty+then-self-to w ↦
+      | goal.then-is_empty-via-else-is_empty+then-self-to w ↦
           (grind (arith, (none_selected d.needle line c.args.self.now), none_left))
     ]
 

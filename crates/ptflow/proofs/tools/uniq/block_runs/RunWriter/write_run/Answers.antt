@@ -1,5 +1,4 @@
--- For `RunWriter::write_run`: a run without output pushes nothing. Any other run is pushed in two parts, and a failed
--- push leaves a prefix of the whole.
+-- A run without output pushes nothing. Any other one is pushed in two parts, and a failed push leaves a prefix.
 use Rattle.ptflow.proofs
 use proofs.Common.{◌∙◌, sym, push_past_failure, uniq_job, rules}
 use proofs.Passes.Exits.{push_failed, wrote_then}
