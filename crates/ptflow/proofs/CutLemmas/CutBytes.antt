@@ -38,7 +38,7 @@ not_selected (r ∷ rs) low n apart out = grind (arith, not_selected rs _ n apar
 
 pub select_none : {X : Type 0} (test : ℕ → Bool) (n : ℕ) (xs : List X)
     → ((k : ℕ) → n ≤ k → k < n + length xs → test k ≡ false) → select_from test n xs ≡ []
-select_none test n [] out = refl
+select_none _ n [] out = refl
 select_none test n (x ∷ xs) out = grind (arith, select_none test (n + 1) xs (grind arith))
 
 pub select_first : {X : Type 0} (r : Interval) (rs : List Interval) (n : ℕ) (xs : List X) → AreSeparated (r.last + 1) rs
@@ -55,7 +55,7 @@ pub select_skip : {X : Type 0} (test : ℕ → Bool) (n count : ℕ) (xs : List 
     → ((k : ℕ) → n ≤ k → k < n + count → test k ≡ false)
     → select_from test n xs ≡ select_from test (n + count) (drop count xs)
 select_skip test n zero xs out = grind arith
-select_skip test n (suc count) [] out = refl
+select_skip _ n _ [] out = refl
 select_skip test n (suc count) (x ∷ xs) out = grind (arith, select_skip test (n + 1) count xs (grind arith))
 
 pub select_slice : {X : Type 0} (r : Interval) (n : ℕ) (xs : List X) (i j : ℕ) → i ≡ r.first - n → j ≡ r.last + 1 - n
@@ -77,7 +77,7 @@ rest_of (suc n) (suc to) (b ∷ bytes) = grind (arith, rest_of n to bytes)
 rest_is : (r : Interval) (before count : ℕ) (bytes : List ℕ) → count ≤ length bytes → before + count ≤ r.last
     → let from = min (r.first - (before + 1)) count in
     take (count - from) (drop from bytes) ≡ select_from (is_within r) (before + 1) (take count bytes)
-rest_is r before count bytes within reaches = grind (usual, select_slice, rest_of)
+rest_is r _ _ _ within reaches = grind (usual, select_slice, rest_of)
 
 -- The invariant of `copy_selected`: the intervals from `i` on are left. What was copied is not longer than the part of
 -- the piece before them.
@@ -134,12 +134,12 @@ module _ (end : ℕ) (selected : ℕ → Bool) where
 
   pub rest_of_all : (ls : List (List ℕ)) → cut_lines_from end selected 0 ls ≡ cut_text ls
   rest_of_all [] = refl
-  rest_of_all (line ∷ ls) = simp append_assoc
+  rest_of_all _ = simp append_assoc
 
   pub rest_line : (line_offset : ℕ) (line rest : List ℕ) → IsLine end line
       → cut_bytes_from end selected line_offset (line ++ end ∷ rest)
       ≡ (select_from selected (line_offset + 1) line ++ end ∷ []) ++ cut_bytes_from end selected 0 rest
-  rest_line line_offset line rest whole = grind (arith, lines_cons, append_assoc)
+  rest_line _ _ _ whole = grind (arith, lines_cons, append_assoc)
 
   pub rest_piece : (line_offset : ℕ) (piece rest : List ℕ) → IsLine end piece
       → cut_bytes_from end selected line_offset (piece ++ rest) ≡ select_from selected (line_offset + 1) piece
@@ -189,7 +189,7 @@ pub cut_next : (end : ℕ) (list : List Interval) (line_offset now next : ℕ) (
     {is : List ℕ} (bytes : List ℕ) → ExtendsCut end list line_offset from old now rest was → is ≡ was ++ bytes
     → ((more : List ℕ) → cut_list_from end list now (rest ++ more) ≡ bytes
     ++ cut_list_from end list next (rest' ++ more)) → ExtendsCut end list line_offset from old next rest' is
-cut_next end list line_offset now next _ _ _ old was bytes cut copied on start block so_far more =
+cut_next end _ _ now _ _ _ _ old was _ cut copied on start block so_far more =
     grind usual
 
 pub line_cut : {end : ℕ} {list : List Interval} {block : List ℕ} {was now next : Line} {old new is : List ℕ} (count : ℕ)
@@ -286,7 +286,7 @@ module _ (selected : ℕ → Bool) where
         let all : count + (16 - count) ≡ 16 = omega arith in
         let some = selected_indices selected count in
         let later = select_from selected (1 + count) (range_with_len count (16 - count)) in
-        let parts : selected_indices selected 16 ≡ some ++ later = cc (picked_parts count (16 - count)) in
+        let parts : selected_indices selected 16 ≡ some ++ later = cc (picked_parts _ _) in
         let few : length some ≤ length (selected_indices selected 16) =
         omega (arith, ap length parts, length-append some later) in
         cc (
@@ -297,7 +297,7 @@ module _ (selected : ℕ → Bool) where
         )
 
     pub shuffle_few : (count : ℕ) → count ≤ 16 → get_or piece.counts count 0 ≤ count
-    shuffle_few count short = grind (arith, few_selected, length-range_with_len)
+    shuffle_few _ short = grind (arith, few_selected, length-range_with_len)
 
 pub none_after : (all : List Interval) (low n : ℕ) {last : Interval} {index : ℕ} → AreSeparated low all
     → length all ≤ n + 1 → slice_get all n ≡ Some last → last.last < index
@@ -325,7 +325,7 @@ rest_copied selected bytes was before size rest count same whole within first th
 -- positions that are counted from a later byte on
 select_later : (selected : ℕ → Bool) (start n : ℕ) (xs : List ℕ)
     → select_from (selected_after selected start) n xs ≡ select_from selected (start + n) xs
-select_later selected start n [] = refl
+select_later _ _ n [] = refl
 select_later selected start n (x ∷ xs) = grind (arith, select_later selected start (n + 1) xs)
 
 -- the selected bytes of the next piece are stored after those before

@@ -78,7 +78,7 @@ module _ (d : ℕ) (bytes : List ℕ) {to n : ℕ} {old new : MatchWindow} (with
   pub offset_later : old.at ≤ new.at
   offset_later = elim (cases_lt to new.at) [
     | inl past ↦ omega arith
-    | inr near ↦ omega (arith, nth_later (is_byte d) bytes within fits (n - 1) (next.found near))
+    | inr near ↦ omega (arith, nth_later (is_byte d) bytes within fits _ (next.found near))
   ]
 
   pub offset_of_window : IsFieldOffset d n (drop old.at (take to bytes)) (min new.at (to + 1) - old.at)
@@ -92,7 +92,7 @@ module _ (d : ℕ) (bytes : List ℕ) {to n : ℕ} {old new : MatchWindow} (with
             omega (arith, length-drop old.at (take to bytes)) in
             rw is (offset_end d line (omega (arith, few_from p bytes within fits {before = n - 1} (next.none past))))
         | inr near ↦
-            let later = nth_later p bytes within fits (n - 1) (next.found near) in
+            let later = nth_later p bytes within fits _ (next.found near) in
             let is : min new.at (to + 1) - old.at ≡ new.at - 1 - old.at + 1 = omega arith in
             rw is (offset_after_nth d line _ some (nth_from p bytes within fits (next.found near)))
       ]
@@ -200,13 +200,13 @@ module _ (d : ℕ) (line : List ℕ) (cursor : FieldCursor) where
           pub next_slice : (next : FieldCursor) → next.left.now ≡ rs → next.passed ≡ r.last
               → min next.window.at (length line + 1) ≡ at → (end : ℕ) → end ≡ at - 1
               → IsNextSlice d line cursor (record { start = from - min cursor.passed 1; end = end }) next
-          next_slice next left_is passed_is at_is end end_is = grind (arith, output, ends)
+          next_slice _ left_is passed_is at_is end end_is = grind (arith, output, ends)
 
 -- ---- the output of a line is not longer than the line
 
 few_prefixed : (d : ℕ) (test : ℕ → Bool) (n : ℕ) (fs : List (List ℕ))
     → length (prefixed_fields d (select_from test n fs)) ≤ length (prefixed_fields d fs)
-few_prefixed d test n [] = omega arith
+few_prefixed d _ n [] = omega arith
 few_prefixed d test n (f ∷ fs) = grind (usual, few_prefixed d test (n + 1) fs)
 
 pub output_is_short : (job : Cut) (line : List ℕ) → length (cut_fields job line) ≤ length line
@@ -243,7 +243,7 @@ pub slice_put : (before rest : List ℕ) (first last to : ℕ) (bytes : List ℕ
 slice_put before rest first last to bytes is output_is within copied =
     let part = take (last - first) (drop first bytes) in
     let same : take (last - first) (drop first (take to bytes)) ≡ part =
-    ap (take (last - first)) (rest_of first to bytes) ∙ take-take (last - first) (to - first) (drop first bytes)
+    ap (take (last - first)) (rest_of _ to _) ∙ take-take (last - first) (to - first) (drop first bytes)
     (omega arith) in
     rw (copied, append_assoc before part rest, ← same, ← output_is) is
 
@@ -256,7 +256,7 @@ none_of d (b ∷ line) free = grind (arith, none_of d line)
 pub found : (d : ℕ) (line : List ℕ) (r : Option ℕ) → IsFirstByte (is_byte d) line r
     → list_any (λ b. b == d) line ≡ is_some r
 found d line None first = none_of d _ (line_if_not_found d _ first)
-found d line (Some at) first = grind (arith, list_any_at)
+found d _ _ first = grind (arith, list_any_at)
 
 module _ (job : Cut) (by_fields : job.fields ≡ true) (line : List ℕ) where
   pub of_line : list_any (is_field_delimiter job) line ≡ false → job.only ≡ false → cut_line job line ≡ line ∷ []
@@ -268,7 +268,7 @@ module _ (job : Cut) (by_fields : job.fields ≡ true) (line : List ℕ) where
 module _ (job : Cut) (line : List ℕ) where
   pub line_written : (bytes : List ℕ) → cut_line job line ≡ bytes ∷ [] → cut_lines job (line ∷ []) ≡ bytes
       ++ job.terminator ∷ []
-  line_written bytes is = grind (arith, append-nil)
+  line_written _ is = grind (arith, append-nil)
 
   pub line_dropped : cut_line job line ≡ [] → cut_lines job (line ∷ []) ≡ []
   line_dropped is = cc
@@ -276,7 +276,7 @@ module _ (job : Cut) (line : List ℕ) where
 module _ (job : Cut) where
   pub cut_sure : (ls : List (List ℕ)) (pushed : List ℕ) → cut_lines job (ls ++ []) ≡ pushed ++ cut_lines job []
       → IsPrefix (cut_lines job ls) pushed
-  cut_sure ls pushed on = grind (arith, append-nil)
+  cut_sure ls _ on = grind (arith, append-nil)
 
 -- ---- lines before others
 

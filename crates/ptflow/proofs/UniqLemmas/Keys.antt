@@ -22,7 +22,7 @@ suffix_none = grind arith
 
 pub suffix_zero : (bytes : List ℕ) → suffix_at 0 bytes ≡ bytes
 suffix_zero [] = refl
-suffix_zero (b ∷ bytes) = refl
+suffix_zero _ = refl
 
 -- the rest of `line` after the n-th field end of `bytes`, which begin at index i
 from_end : List ℕ → List ℕ → ℕ → ℕ → List ℕ
@@ -30,7 +30,7 @@ from_end line bytes i n = option_map_or (λ end. drop (end + 1) line) (slice_get
 
 from_end_is : (line bytes : List ℕ) (i n : ℕ) → drop i line ≡ bytes → from_end line bytes i n ≡ suffix_at (suc n) bytes
 unfolding from_end
-from_end_is line [] i n is = refl
+from_end_is _ [] i n is = refl
 from_end_is line (b ∷ bytes) i n is = by_test (ends_word b bytes) n (λ m. from_end_is line _ (i + 1) m next)
   where
     next : drop (i + 1) line ≡ bytes
@@ -40,7 +40,7 @@ from_end_is line (b ∷ bytes) i n is = by_test (ends_word b bytes) n (λ m. fro
         → option_map_or (λ end. drop (end + 1) line)
         (slice_get (cond t (i ∷ word_ends (i + 1) bytes) (word_ends (i + 1) bytes)) n) []
         ≡ cond t (suffix_at n bytes) (suffix_at (suc n) bytes)
-    by_test true zero later = next ∙ sym (suffix_zero bytes)
+    by_test true zero later = next ∙ sym (suffix_zero _)
     by_test true (suc n) later = later n
     by_test false n later = later n
 
@@ -55,7 +55,7 @@ pub next_byte : (rest : List ℕ) (left : ℕ) → 0 < left → 0 < length rest
     (suffix_at left (drop 1 rest))
 next_byte [] left some more = absurd (omega arith)
 next_byte (b ∷ bytes) zero some more = absurd (omega arith)
-next_byte (b ∷ bytes) (suc n) some more = grind arith
+next_byte _ _ some more = grind arith
 
 -- ---- the ends of fields in a window of bytes
 
@@ -80,7 +80,7 @@ as_flags n bytes = decoded (field_ends n bytes)
 
 pub length-ends_in : (n : ℕ) (bytes : List ℕ) → length (ends_in n bytes) ≤ n
 length-ends_in zero bytes = omega arith
-length-ends_in (suc n) [] = omega arith
+length-ends_in _ [] = omega arith
 length-ends_in (suc n) (b ∷ bytes) = grind (arith, length-ends_in n bytes)
 
 counted_one : (t : Bool) (xs : List ℕ) → count_by is_set (from_bool t ∷ xs) ≡ cond t 1 0 + count_by is_set xs
@@ -114,7 +114,7 @@ skip_ends : (j m n : ℕ) (bytes : List ℕ) → count_by is_set (ends_in j byte
     → suffix_at (suc n) (take m bytes) ≡ suffix_at (suc (n - count_by is_set (ends_in j bytes))) (drop j (take m bytes))
 skip_ends zero m n bytes few = grind arith
 skip_ends (suc j) zero n bytes few = refl
-skip_ends (suc j) (suc m) n [] few = refl
+skip_ends _ _ n [] few = refl
 skip_ends (suc j) (suc zero) n (b ∷ bytes) few = cc (none_after (ends_word b []) n, drop_all {X = ℕ} j [] (omega arith))
 skip_ends (suc j) (suc (suc m)) n (b ∷ []) few = cc (none_after (ends_word b []) n, drop_all {X = ℕ} j [] (omega arith))
 skip_ends (suc j) (suc (suc m)) n (b ∷ c ∷ bytes) few =
@@ -131,16 +131,16 @@ skip_ends (suc j) (suc (suc m)) n (b ∷ c ∷ bytes) few =
 -- the range from an index that may be after its end
 range_from : (bytes : List ℕ) (at to : ℕ) → take (to - min at to) (drop (min at to) bytes)
     ≡ take (to - at) (drop at bytes)
-range_from bytes at to = grind (arith, cases_lt at to)
+range_from _ at to = grind (arith, cases_lt at to)
 
 -- ---- by the mask of a window
 
 module _ (bytes : List ℕ) {ends : ℕ} (is : ends ≡ mask_l (field_ends 31 bytes)) where
   as_numbers : ends ≡ mask_l (map is_set (ends_in 31 bytes))
-  as_numbers = is ∙ ap mask_l (sym (as_flags 31 bytes))
+  as_numbers = is ∙ ap mask_l (sym (as_flags 31 _))
 
   pub ends_counted : {count : ℕ} → count ≡ count_ones ends → count ≡ count_by is_set (ends_in 31 bytes)
-  ends_counted count_is = count_is ∙ ap count_ones as_numbers ∙ ones-mask_l is_set (ends_in 31 bytes)
+  ends_counted count_is = count_is ∙ ap count_ones as_numbers ∙ ones-mask_l is_set _
 
   pub nth_in_window : {count left k : ℕ} → count ≡ count_ones ends → 0 < left → left ≤ count
       → ((test : ℕ → Bool) (xs : List ℕ) → length xs ≤ 64 → ends ≡ mask_l (map test xs) → left - 1 < count_by test xs
@@ -178,7 +178,7 @@ module _ (bytes : List ℕ) (at to : ℕ) {left : ℕ} (some : 0 < left) where
       let size : to - at - 31 ≡ to - (at + 31) = omega arith in
       cc (
         skip_ends 31 (to - at) (left - 1) (drop at bytes) (omega arith),
-        rest_of 31 (to - at) (drop at bytes),
+        rest_of 31 _ _,
         drop-drop 31 at bytes,
       )
 
@@ -212,6 +212,6 @@ module _ (bytes : List ℕ) (at : ℕ) (room : at + 32 ≤ length bytes) {blanks
     ends_mask =
         let v = chunk at 32 bytes in
         let all : mask_l (map is_word v) + mask_l (map is_blank v) + 1 ≡ 2 ^ 32 =
-        rw (length-chunk at 32 bytes room) at (word_mask v) in
+        rw (length-chunk at 32 _ room) at (word_mask v) in
         let words : 4294967295 - blanks ≡ mask_l (map is_word v) = omega arith in
-        rw (words, is) (and_ends 31 (drop at bytes) (grind usual))
+        rw (words, is) (and_ends 31 _ (grind usual))

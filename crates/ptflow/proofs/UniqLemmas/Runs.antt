@@ -229,7 +229,7 @@ pub record RunsInvariant (job : Uniq) (first block rest : List ℕ) (start count
 pub runs_loop_starts : (job : Uniq) (first block : List ℕ) {start : ℕ} → 0 < start → {run_key : List ℕ}
     → run_key ≡ key job first → (was : Output)
     → RunsInvariant job first block block start start None (record { from = 0; to = 0 }) run_key was was
-runs_loop_starts job first _ {start} some run_key_is was = record {
+runs_loop_starts job _ _ {start} some run_key_is was = record {
   front = [];
   lies = record { lines = refl; bytes = refl };
   passed = [];
@@ -297,7 +297,7 @@ module _ {job : Uniq} {first block rest : List ℕ} {start count : ℕ} {line : 
           → is'.write_failed ≡ true
           → RunsFailed job (run_of first start) (complete_lines job.terminator block) was is'
       runs_loop_failed wrote fault = steps_failed steps (search (entries, pending_pushed))
-          (complete_lines job.terminator (drop (at + 1) rest)) (front_more so_far.lies at found).lines fault
+          _ (front_more so_far.lies at found).lines fault
 
   -- no complete line is left
   module _ (none : IsLine job.terminator rest) {is' : Output}
@@ -334,7 +334,7 @@ uniq_line_tool job run start none = record {
 
 line_ends : (end : ℕ) (l more : List ℕ) → IsLine end l
     → IsFirstByte (is_byte end) ((l ++ end ∷ []) ++ more) (Some (length l))
-line_ends end l more whole = grind usual
+line_ends end l _ whole = grind usual
 
 module _ {job : Uniq} {first block : List ℕ} {start : ℕ} {line : Option BlockRange} {pending : BlockRange}
     {run_key : List ℕ} {was is : Output} where
@@ -359,7 +359,7 @@ module _ {job : Uniq} {first block : List ℕ} {start : ℕ} {line : Option Bloc
       let own : run_key ≡ key job (take at rest) = grind (arith, bytes_eq-Decides) in
       let split : rest ≡ repeated (1 + n) (take at rest ++ job.terminator ∷ []) ++ left =
       grind (arith, take_with_terminator, take-append-drop (at + 1) rest, append_assoc) in
-      runs_loop_again (take at rest) (line_before_terminator job.terminator rest at found) own (1 + n) left
+      runs_loop_again _ (line_before_terminator _ _ at found) own _ _
       (rw split at so_far)
 
 -- ---- inputs in parts: lines with different keys are in different runs, so no run is cut or merged

@@ -17,7 +17,7 @@ pub use proofs.Vectors.Lanes.{shuffle_result}
 
 few_selected : {X : Type 0} (flags : List Bool) (xs : List X) → length (select_by flags xs) ≤ length flags
 few_selected [] xs = omega arith
-few_selected (flag ∷ flags) [] = omega arith
+few_selected _ [] = omega arith
 few_selected (flag ∷ flags) (x ∷ xs) = grind (arith, few_selected flags xs)
 
 map-select_by : {X Y : Type 0} (f : X → Y) (flags : List Bool) (xs : List X)
@@ -30,7 +30,7 @@ map-select_by f (false ∷ flags) (x ∷ xs) = map-select_by f flags xs
 pub select_by_prefix : {X : Type 0} (flags : List Bool) (xs : List X)
     → select_by flags (take (length flags) xs) ≡ select_by flags xs
 select_by_prefix [] xs = refl
-select_by_prefix (flag ∷ flags) [] = refl
+select_by_prefix _ [] = refl
 select_by_prefix (flag ∷ flags) (x ∷ xs) = cc (select_by_prefix flags xs)
 
 pub select_by_append : {X : Type 0} (front back : List Bool) (xs : List X)
@@ -45,14 +45,14 @@ pub all_selected : {X : Type 0} (flags : List Bool) (xs : List X) → length xs 
     → mask_l flags + 1 ≡ 2 ^ length flags → select_by flags xs ≡ xs
 all_selected [] [] same all = refl
 all_selected [] (x ∷ xs) same all = absurd (omega arith)
-all_selected (flag ∷ flags) [] same all = absurd (omega arith)
+all_selected _ [] same all = absurd (omega arith)
 all_selected (flag ∷ flags) (x ∷ xs) same all = grind (arith, all_selected flags xs)
 
 pub all_but_one : {X : Type 0} (flags : List Bool) (xs : List X) (k : ℕ) → length xs ≡ length flags
     → k < length flags → mask_l flags + 2 ^ k + 1 ≡ 2 ^ length flags
     → select_by flags xs ≡ take k xs ++ drop (k + 1) xs
 all_but_one [] xs k same within but_one = absurd (omega arith)
-all_but_one (flag ∷ flags) [] k same within but_one = absurd (omega arith)
+all_but_one _ [] k same within but_one = absurd (omega arith)
 all_but_one (flag ∷ flags) (x ∷ xs) zero same within but_one = grind (arith, all_selected flags xs)
 all_but_one (flag ∷ flags) (x ∷ xs) (suc k) same within but_one = grind (arith, all_but_one flags xs k)
 
@@ -106,7 +106,7 @@ few_in_row flags row is = omega (arith, is.count, few_selected flags (range_with
 
 pub row_selects : (flags : List Bool) (row v : List ℕ) → length v ≡ 16 → length flags ≡ 8 → IsCompressRow flags row
     → take (get_or row 15 0) (swz_l w8 16 v 0 row) ≡ select_by flags v
-row_selects flags row v wide long is =
+row_selects _ row v wide long is =
     grind (
       arith,
       length-range_with_len,
@@ -147,7 +147,7 @@ next_place flags {place} long low =
     cc (
       length-take-le place flags (omega arith),
       drop-cons indices place 0 (omega arith),
-      get_or-range_with_len 0 8 place 0 low,
+      get_or-range_with_len 0 8 _ 0 low,
       add-one place,
     ) in
     grind (usual, select_by_append)
@@ -188,15 +188,15 @@ module _ (flags : List Bool) (long : length flags ≡ 16) where
   halves = cc (mask_append (take 8 flags) (drop 8 flags), take-append-drop 8 flags, front_long)
 
   pub low_half : {keep : ℕ} → keep ≡ mask_l flags → bit_and keep 255 ≡ mask_l (take 8 flags)
-  low_half is = omega (arith, and_numeral, halves, mask_below (take 8 flags) front_long)
+  low_half is = omega (arith, and_numeral, halves, mask_below _ front_long)
 
   pub high_half : {keep : ℕ} → keep ≡ mask_l flags → bit_and (keep / 256) 255 ≡ mask_l (drop 8 flags)
   high_half is = omega (
     arith,
     and_numeral,
     halves,
-    mask_below (take 8 flags) front_long,
-    mask_below (drop 8 flags) back_long,
+    mask_below _ front_long,
+    mask_below _ back_long,
   )
 
   -- what is selected of the first eight lanes, and, after a rotation, of the last eight
@@ -223,13 +223,13 @@ module _ (flags : List Bool) (long : length flags ≡ 16) where
 -- ---- bytes that a filter keeps
 
 pub chunk_parts : (at n m : ℕ) (from : List ℕ) → chunk at (n + m) from ≡ chunk at n from ++ chunk (at + n) m from
-chunk_parts at n m from = simp (take-add, drop-drop)
+chunk_parts at n m _ = simp (take-add, drop-drop)
 
 -- what is made of two parts is made of four
 pub in_four : {X : Type 0} (f : ℕ → ℕ → List X) (most : ℕ)
     → ((at n m : ℕ) → at + n + m ≤ most → f at (n + m) ≡ f at n ++ f (at + n) m) → (at : ℕ) → at + 64 ≤ most
     → f at 64 ≡ ((f at 16 ++ f (at + 16) 16) ++ f (at + 32) 16) ++ f (at + 48) 16
-in_four f most two at room = cc (two at 48 16 (omega arith), two at 32 16 (omega arith), two at 16 16 (omega arith))
+in_four f _ two at room = cc (two at 48 16 (omega arith), two at 32 16 (omega arith), two at 16 16 (omega arith))
 
 module _ (f : ℕ → ℕ → Bool) (before bytes : List ℕ) (paired : length bytes ≤ length before) where
   pub pairs_long : (at n : ℕ) → at + n ≤ length bytes → length (zip2 f (chunk at n before) (chunk at n bytes)) ≡ n
@@ -241,13 +241,13 @@ none_set {a} {b} {c} {d} none = omega (arith, le_or_l, le_or_r)
 module _ (test : ℕ → Bool) where
   kept_nil : (before : List ℕ) → kept_bytes test before [] ≡ []
   kept_nil [] = refl
-  kept_nil (a ∷ before) = refl
+  kept_nil _ = refl
 
   kept_append : (xs ys before bytes : List ℕ) → length xs ≡ length ys
       → kept_bytes test (xs ++ before) (ys ++ bytes) ≡ kept_bytes test xs ys ++ kept_bytes test before bytes
   kept_append [] [] before bytes same = refl
   kept_append [] (y ∷ ys) before bytes same = absurd (omega arith)
-  kept_append (x ∷ xs) [] before bytes same = absurd (omega arith)
+  kept_append _ [] before bytes same = absurd (omega arith)
   kept_append (x ∷ xs) (y ∷ ys) before bytes same = grind (arith, kept_append xs ys before bytes)
 
   pub select_kept : (before bytes : List ℕ)
@@ -265,7 +265,7 @@ module _ (test : ℕ → Bool) where
       → kept_bytes test before bytes ≡ bytes
   all_kept [] [] same none = refl
   all_kept [] (b ∷ bytes) same none = absurd (omega arith)
-  all_kept (a ∷ before) [] same none = absurd (omega arith)
+  all_kept _ [] same none = absurd (omega arith)
   all_kept (a ∷ before) (b ∷ bytes) same none = grind (arith, all_kept before bytes)
 
   module _ (before bytes : List ℕ) where
@@ -331,7 +331,7 @@ module _ {test : ℕ → Bool} {before bytes into : List ℕ} {at count : ℕ} {
           take-append-drop n (drop at bytes),
           drop-drop n at before,
           drop-drop n at bytes,
-          kept_append test _ _ before_rest rest (same_length test before bytes paired at n room),
+          kept_append test _ _ _ _ (same_length test before bytes paired at n room),
         );
     pre = record { within = room; room = omega arith };
   }

@@ -25,4 +25,4 @@ pub ended : (r : Bool) (n last at : ℕ) (a b : List ℕ) → length a ≡ lengt
     → take at a ≡ take at b → MatchBool r (chunk last n a ≡ chunk last n b) (a ≢ b) → r ≡ bytes_eq a b
 ended true n last at a b long all past before here =
     sym ((bytes_eq-Decides a b).1 (equal_to_end n last at a b long all past before here))
-ended false n last at a b long all past before other = grind (arith, bytes_eq-Decides)
+ended _ n _ at a b long all past before other = grind (arith, bytes_eq-Decides)

@@ -38,8 +38,8 @@ sel_maps p f g v em ex ey = cc (sel_map p f g v)
 
 pub tests_are : (t : ℕ → ℕ → Bool) (f : ℕ → ℕ) (v : List ℕ) {xs : List ℕ} {n : ℕ} (y : ℕ) → length v ≡ n → xs ≡ map f v
     → map (top 7) (zip2 (λ a b. cond (t a b) 255 0) xs (replicate n y)) ≡ map (λ b. t (f b) y) v
-tests_are t f v {xs} {n} y long is = tops_compared w8 t xs (replicate n y)
-    ∙ zip2_of_maps t f (λ _. y) v is (splat_is_map v n y long)
+tests_are t f v {xs} {n} y long is = tops_compared w8 t xs _
+    ∙ zip2_of_maps t f _ v is (splat_is_map v n y long)
 
 one_tested : (y : ℕ) (v : List ℕ) → map (λ a. cast_signed w8 (cond (eqb a y) 255 0)) v ≡ mask_of (is_byte y) v
 one_tested y [] = refl
@@ -56,7 +56,7 @@ compared_with y v {n} long = ap (map (cast_signed w8)) (zip2_splat (λ a b. cond
 pub mapped_more : (map_byte : ℕ → ℕ) (at next n : ℕ) (from to new : List ℕ) → next ≡ at + n
     → take at to ≡ map map_byte (take at from) → take (at + n) new ≡ take at to ++ map map_byte (take n (drop at from))
     → take next new ≡ map map_byte (take next from)
-mapped_more map_byte at next n from to new is begun more = grind (arith, map-append, take-add)
+mapped_more _ at _ n _ to new is begun more = grind (arith, map-append, take-add)
 
 pub bytes_same : {X : Type 0} (f g : ℕ → X) → ((b : ℕ) → b < 256 → f b ≡ g b) → (v : List ℕ) → Each1 (Fits w8) v
     → map f v ≡ map g v
@@ -97,7 +97,7 @@ pub one_stretch_more : (ranges : List ShiftRange) (ss : List Stretch) (i : ℕ) 
     → i < length ranges → range_sum (take i ranges) b ≡ stretch_sum (take i ss) b
     → range_delta range b ≡ stretch_delta (stretch_at ss i) b
     → range_sum (take (i + 1) (set ranges i range)) b ≡ stretch_sum (take (i + 1) ss) b
-one_stretch_more ranges ss i range b room before is = grind (usual, sum_by-append, add-one, stretch_taken)
+one_stretch_more _ ss i _ b room before is = grind (usual, sum_by-append, add-one, stretch_taken)
 
 pub all_stretches : (n : ℕ) (ss : List Stretch) → is_some (stretch_at ss n) ≡ false → length ss ≤ n
 all_stretches n [] none = omega arith
@@ -108,7 +108,7 @@ pub one_range_more : (ranges : List ShiftRange) (i : ℕ) (default : ShiftRange)
     → i < length ranges
     → images ≡ map (shift_by_ranges (take i ranges)) v → deltas ≡ map (range_delta (get_or ranges i default)) v
     → zip2 (λ a b. (a + b) % 256) images deltas ≡ map (shift_by_ranges (take (i + 1) ranges)) v
-one_range_more ranges i default v room before is =
+one_range_more _ i _ v room before is =
     zip2_of_maps (λ a b. (a + b) % 256) _ _ v before is ∙ grind usual
 
 -- ---- masks of lanes
@@ -117,7 +117,7 @@ abbrev pub lanes_of : List Bool → List ℕ
 lanes_of flags = map (λ t. cond t 255 0) flags
 
 pub lanes_of_mask : (test : ℕ → Bool) (v : List ℕ) → map (cast_unsigned w8) (mask_of test v) ≡ lanes_of (map test v)
-lanes_of_mask test [] = refl
+lanes_of_mask _ [] = refl
 lanes_of_mask test (b ∷ v) = grind (arith, lanes_of_mask test v)
 
 pub tops_of_lanes : (fs : List Bool) → map (top 7) (lanes_of fs) ≡ fs
@@ -129,7 +129,7 @@ tops_of_lanes (f ∷ fs) = grind (arith, tops_of_lanes fs)
 pub stored_more : (flag : Bool) (row : List ℕ) (count place : ℕ) → count < length row
     → take (count + cond flag 1 0) (set row count place) ≡ take count row ++ cond flag (place ∷ []) []
 stored_more true row count place room = take_more_set row count place room
-stored_more false row count place room = grind (arith, take-set, append-nil)
+stored_more _ row _ _ room = grind (arith, take-set, append-nil)
 
 -- ---- a table of 16 entries, indexed by a nibble of each byte
 
@@ -147,12 +147,12 @@ module _ (half : ℕ → ℕ) (small : (b : ℕ) → b < 256 → half b < 16) wh
   module _ {js : List ℕ} (v : List ℕ) (is : js ≡ map half v) (fit : (length v ≡ 16) × Each1 (Fits w8) v) where
     pub nibbles_ok : SwzOk w8 16 16 0 js
     nibbles_ok =
-        rw is (SwzOk-from_below w8 16 1 16 0 (map half v) refl (omega (arith, length-map v half))
+        rw is (SwzOk-from_below w8 16 1 16 0 _ refl (omega (arith, length-map v half))
         (halves_small v fit.1))
 
     pub looked_up : (table : List ℕ) → swz_l w8 16 table 0 js ≡ map (λ b. get_or table (half b) 0) v
-    looked_up table =
-        rw is (shuffle_result table 0 (map half v) (omega (arith, length-map v half)) (halves_small v fit.1)
+    looked_up _ =
+        rw is (shuffle_result _ 0 _ (omega (arith, length-map v half)) (halves_small v fit.1)
         ∙ map-map _ half v)
 
 pub low_nibbles : (v : List ℕ) → length v ≡ 16 → zip2 bit_and v (replicate 16 15) ≡ map (λ b. b % 16) v
@@ -184,7 +184,7 @@ pub tested : (set : ByteSet) (v : List ℕ) {low high bit : List ℕ} → length
     (zip2 bit_and (sel_l (map (top 7) (zip2 (λ a b. cond (ltb a b) 255 0) v (replicate 16 128))) low high) bit) bit)
     ≡ mask_of (set_has set) v
 tested set v long fit el eh eb =
-    let rows = sel_maps _ _ _ v (tests_are ltb (λ b. b) v 128 long (sym (map-id v))) el eh in
+    let rows = sel_maps _ _ _ v (tests_are ltb _ v 128 long (sym (map-id v))) el eh in
     ap (map (cast_signed w8)) (zip2_of_maps (λ a b. cond (eqb a b) 255 0) _ _ v (zip2_of_maps bit_and _ _ v rows eb) eb)
     ∙ map-map (cast_signed w8) _ v
     ∙ bytes_same _ _ (byte_tested set) v fit

@@ -16,7 +16,7 @@ none_counted d (b ∷ bytes) (differs, free) = grind (arith, none_counted d byte
 module _ (p : ℕ → Bool) (bytes : List ℕ) (start end : ℕ) (fits : end < length bytes)
     (is : p (get_or bytes end 0) ≡ true) (same : count_by p (take end bytes) ≡ count_by p (take start bytes)) where
   pub one_after : count_by p (take (end + 1) bytes) ≡ count_by p (take end bytes) + 1
-  one_after = count_by_more_yes p bytes end 0 fits is
+  one_after = count_by_more_yes p _ end 0 fits is
 
   pub in_order : start ≤ end
   in_order = grind usual
@@ -43,7 +43,7 @@ module _ {d : ℕ} {block : List ℕ} {from all marked : ℕ} (n start : ℕ) (h
       let v = chunk from 64 block in
       let bit = count_trailing_zeros 64 marked in
       let room : from + 64 ≤ length block = omega arith in
-      let nth = after_set p v n (omega (arith, length-chunk from 64 block room)) (grind (arith, ones-mask_l)) bits in
+      let nth = after_set p v n (omega (arith, length-chunk _ 64 _ room)) (grind (arith, ones-mask_l)) bits in
       let close = near p block 64 from n bit room nth in
       let fits : from + bit < length block = omega arith in
       let (_, passes, _) = nth in

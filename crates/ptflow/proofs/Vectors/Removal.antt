@@ -16,7 +16,7 @@ both_full (flag ∷ flags) = grind (arith, both_full flags)
 
 module _ (flags : List Bool) {m : ℕ} (is : m ≡ removed_mask flags) where
   full : {n : ℕ} → length flags ≡ n → m + mask_l flags + 1 ≡ 2 ^ n
-  full long = rw (is, ← long) (both_full flags)
+  full long = rw (is, ← long) (both_full _)
 
   module _ (long : length flags ≡ 16) where
     pub mask_16 : m < 65536
@@ -28,7 +28,7 @@ module _ (flags : List Bool) {m : ℕ} (is : m ≡ removed_mask flags) where
   module _ (long : length flags ≡ 64) where
     -- all of 64 are kept, if none is removed
     none_of : (bytes : List ℕ) → length bytes ≡ 64 → m ≡ 0 → select_by flags bytes ≡ bytes
-    none_of bytes size none = all_selected flags bytes (omega arith) (rw long (omega (arith, full long)))
+    none_of _ size none = all_selected _ _ (omega arith) (rw long (omega (arith, full long)))
 
     -- the index of the first one that is removed
     first_of : 0 < m → count_trailing_zeros 64 m < 64
@@ -68,7 +68,7 @@ module _ (fa fb fc fd : List Bool) (la : length fa ≡ 16) (lb : length fb ≡ 1
         let a_b_c = bit_or a_b (c * 4294967296 % 18446744073709551616) in
         let four = or_before_shift a_b_c d 281474976710656 18446744073709551616 refl (omega (arith, two, three))
         (omega arith) in
-        let ab = join_mask fa fb 65536 16 la refl eb in
+        let ab = join_mask fa fb _ 16 la refl eb in
         let abc = join_mask (fa ++ fb) fc 4294967296 32 (omega (arith, length-append fa fb)) refl ec in
         let abcd = join_mask ((fa ++ fb) ++ fc) fd 281474976710656 48
         (omega (arith, length-append (fa ++ fb) fc, length-append fa fb)) refl ed in
@@ -79,15 +79,15 @@ module _ (fa fb fc fd : List Bool) (la : length fa ≡ 16) (lb : length fb ≡ 1
 removed_lanes : (test : ℕ → Bool) (before bytes : List ℕ) → map (top 7) (zip2 bit_and
     (zip2 (λ a b. cond (eqb a b) 255 0) before bytes) (map (cast_unsigned w8) (mask_of test bytes)))
     ≡ map not (keep_flags test before bytes)
-removed_lanes test [] bytes = refl
-removed_lanes test (a ∷ before) [] = refl
+removed_lanes _ [] bytes = refl
+removed_lanes _ _ [] = refl
 removed_lanes test (a ∷ before) (b ∷ bytes) = grind (arith, removed_lanes test before bytes)
 
 flags_append : (test : ℕ → Bool) (xs ys before bytes : List ℕ) → length xs ≡ length ys
     → keep_flags test (xs ++ before) (ys ++ bytes) ≡ keep_flags test xs ys ++ keep_flags test before bytes
-flags_append test [] [] before bytes same = refl
-flags_append test [] (y ∷ ys) before bytes same = absurd (omega arith)
-flags_append test (x ∷ xs) [] before bytes same = absurd (omega arith)
+flags_append _ [] [] before bytes same = refl
+flags_append _ [] (y ∷ ys) before bytes same = absurd (omega arith)
+flags_append _ _ [] before bytes same = absurd (omega arith)
 flags_append test (x ∷ xs) (y ∷ ys) before bytes same = grind (arith, flags_append test xs ys before bytes)
 
 module _ (test : ℕ → Bool) (before bytes : List ℕ) (paired : length bytes ≤ length before) where
@@ -102,8 +102,8 @@ module _ (test : ℕ → Bool) (before bytes : List ℕ) (paired : length bytes 
       pub removed_mask_is : mask_l (map (top 7) (zip2 bit_and
           (zip2 (λ a b. cond (eqb a b) 255 0) (chunk k 16 before) (chunk k 16 bytes)) (map (cast_unsigned w8) lanes)))
           % 2 ^ 64 ≡ removed_mask (flags_of_chunk k 16)
-      removed_mask_is = rw (is, removed_lanes test (chunk k 16 before) (chunk k 16 bytes))
-          (mask_l-mod (map not (flags_of_chunk k 16)) 64
+      removed_mask_is = rw (is, removed_lanes _ _ _)
+          (mask_l-mod _ 64
           (omega (arith, length-map (flags_of_chunk k 16) not, flags_long k 16 room)))
 
       pub removed_mask_small : mask_l (map (top 7) (zip2 bit_and

@@ -6,8 +6,8 @@ use proofs.simd.byte_set.by_high_nibble.Goals as goal
 
 pub swizzle : goal.swizzle
 swizzle c = nibbles_ok (λ b. b / 16) (λ b byte. omega arith) c.args.v
-    (zip2_splat (λ a b. a / 2 ^ b) c.args.v 16 4 c.fits-v.0) c.fits-v
+    (zip2_splat (λ a b. a / 2 ^ b) _ 16 4 c.fits-v.0) c.fits-v
 
 pub returns : goal.returns
 returns c = looked_up (λ b. b / 16) (λ b byte. omega arith) c.args.v
-    (zip2_splat (λ a b. a / 2 ^ b) c.args.v 16 4 c.fits-v.0) c.fits-v c.args.table
+    (zip2_splat (λ a b. a / 2 ^ b) _ 16 4 c.fits-v.0) c.fits-v _

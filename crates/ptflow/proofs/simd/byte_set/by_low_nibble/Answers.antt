@@ -5,8 +5,8 @@ use proofs.Vectors.Lanes.{nibbles_ok, looked_up, low_nibbles}
 use proofs.simd.byte_set.by_low_nibble.Goals as goal
 
 pub swizzle : goal.swizzle
-swizzle c = nibbles_ok (λ b. b % 16) (λ b byte. omega arith) c.args.v (low_nibbles c.args.v c.fits-v.0) c.fits-v
+swizzle c = nibbles_ok (λ b. b % 16) (λ b byte. omega arith) c.args.v (low_nibbles _ c.fits-v.0) c.fits-v
 
 pub returns : goal.returns
 returns c =
-    looked_up (λ b. b % 16) (λ b byte. omega arith) c.args.v (low_nibbles c.args.v c.fits-v.0) c.fits-v c.args.table
+    looked_up (λ b. b % 16) (λ b byte. omega arith) c.args.v (low_nibbles _ c.fits-v.0) c.fits-v _

@@ -12,5 +12,5 @@ loop-at-preserved c = record {
 
 pub returns : goal.returns
 returns c =
-    ended _ 16 _ c.loop-at.at _ _ c.requires.1 (omega arith) (omega arith) c.loop-at.invariant.same
+    ended _ 16 _ _ _ _ c.requires.1 (omega arith) (omega arith) c.loop-at.invariant.same
     c.is_same_chunk-2.ensures

@@ -11,7 +11,7 @@ differ x y = not (eqb x y)
 equal_if_no_bit : (xs ys : List ℕ) → length xs ≡ length ys → mask_l (zip2 differ xs ys) ≡ 0 → xs ≡ ys
 equal_if_no_bit [] [] long none = refl
 equal_if_no_bit [] (y ∷ ys) long none = cc
-equal_if_no_bit (x ∷ xs) [] long none = cc
+equal_if_no_bit _ [] long none = cc
 equal_if_no_bit (x ∷ xs) (y ∷ ys) long none = grind (arith, nat_tests, equal_if_no_bit xs ys)
 
 no_bit_if_equal : (xs : List ℕ) → mask_l (zip2 differ xs xs) ≡ 0

@@ -16,7 +16,7 @@ same_before : (n : ℕ) (xs ys : List ℕ) → length xs ≡ length ys → n ≤
     → ((i : ℕ) → i < n → get_or (zip2 eqb xs ys) i false ≡ true) → take n xs ≡ take n ys
 same_before zero xs ys long few same = refl
 same_before (suc n) [] ys long few same = grind arith
-same_before (suc n) (x ∷ xs) [] long few same = cc
+same_before _ _ [] long few same = cc
 same_before (suc n) (x ∷ xs) (y ∷ ys) long few same = cc (
   eqb-true x y (same 0 (omega arith)),
   same_before n xs ys (omega arith) (omega arith) (λ i low. same (suc i) (omega arith)),

@@ -5,5 +5,5 @@ use proofs.simd.compress.copy_chunk.Goals as goal
 
 pub returns-clause-copied : goal.returns-clause-copied
 returns-clause-copied c =
-    take_more_put_chunk c.args.count c.args.into.now (chunk c.args.at 64 c.args.from.now) (c.args.count + 64)
-    (omega (arith, length-chunk c.args.at 64 c.args.from.now c.requires.lanes)) (omega arith)
+    take_more_put_chunk _ _ _ _
+    (omega (arith, length-chunk _ 64 _ c.requires.lanes)) (omega arith)

@@ -8,4 +8,4 @@ returns-clause-stored g c =
     let at = c.args.at in
     let made = c.map16.result in
     let (lanes, _) = c.fits-v in
-    rw (← c.map16.ensures) (take_more_put_chunk at c.args.to.now made (at + 16) (omega arith) (omega arith))
+    rw (← c.map16.ensures) (take_more_put_chunk at _ _ _ (omega arith) (omega arith))

@@ -11,7 +11,7 @@ loop-at-preserved g c =
     let (_, long, mapped) = c.loop-at.invariant in (
       omega arith,
       omega arith,
-      mapped_more _ (at + 16) (at + 32) 16 from _ _ (omega arith)
-          (mapped_more _ at (at + 16) 16 from _ _ (omega arith) mapped c.map_at.ensures.stored)
+      mapped_more _ _ _ 16 _ _ _ (omega arith)
+          (mapped_more _ at _ 16 _ _ _ (omega arith) mapped c.map_at.ensures.stored)
           c.map_at-in-loop-at.ensures.stored,
     )

@@ -16,4 +16,4 @@ loop-index-preserved g c =
 pub returns-clause-kept : goal.returns-clause-kept
 returns-clause-kept g c lane low within =
     rw (c.loop-index.invariant.filled.made (get_or c.args.rows lane 0 / 2) (omega arith))
-    (halved_lane _ _ c.args.count c.fits-rows.0 c.requires.lanes (omega arith) lane low within)
+    (halved_lane _ _ c.args.count c.fits-rows.0 c.requires.lanes (omega arith) _ low within)

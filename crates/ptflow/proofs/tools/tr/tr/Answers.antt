@@ -16,7 +16,7 @@ returns-clause-pass g c =
     c.run_blocks.ensures (tr_tool t)
     (record {
       text = λ bytes. rw c.new.ensures;
-      decided = λ given pushed now holds on. rest_decided t given pushed now.last (λ rest. rw (holds, c.new.ensures) at (on rest));
+      decided = λ given pushed now holds on. rest_decided t _ _ _ (λ rest. rw (holds, c.new.ensures) at (on rest));
       holds = refl;
       slots = refl;
     })

@@ -5,4 +5,4 @@ use proofs.simd.byte_set.ByteSetByteTest.test.Goals as goal
 
 pub returns : goal.returns
 returns c = let (long, fits) = c.fits-v in
-    tested c.args.self c.args.v long fits c.by_low_nibble.ensures c.by_low_nibble-2.ensures c.by_high_nibble-bit.ensures
+    tested _ _ long fits c.by_low_nibble.ensures c.by_low_nibble-2.ensures c.by_high_nibble-bit.ensures

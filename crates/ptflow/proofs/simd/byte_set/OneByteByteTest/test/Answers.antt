@@ -4,4 +4,4 @@ use proofs.Vectors.Lanes.{compared_with}
 use proofs.simd.byte_set.OneByteByteTest.test.Goals as goal
 
 pub returns : goal.returns
-returns c = compared_with c.args.self.byte c.args.v c.fits-v.0
+returns c = compared_with _ _ c.fits-v.0

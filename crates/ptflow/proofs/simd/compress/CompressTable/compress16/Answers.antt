@@ -8,4 +8,4 @@ pub returns-clause-packed : goal.returns-clause-packed
 returns-clause-packed c flags long masked =
     let first = c.compress8-half.ensures.packed _ (front_long flags long) (low_half flags long masked) in
     let second = c.compress8.ensures.packed _ (back_long flags long) (high_half flags long masked) in
-    second ∙ rw first (select_by_halves flags long (take c.args.at c.args.into.now) c.args.v c.fits-v.0)
+    second ∙ rw first (select_by_halves flags long _ _ c.fits-v.0)

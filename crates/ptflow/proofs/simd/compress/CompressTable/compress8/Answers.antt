@@ -7,7 +7,7 @@ use proofs.simd.compress.CompressTable.compress8.Goals as goal
 
 pub swizzle : goal.swizzle
 swizzle c =
-    let is = row_of_mask c.args.self.now.rows c.from.result c.args.self.now.is_table (omega arith) in
+    let is = row_of_mask _ _ c.args.self.now.is_table (omega arith) in
     SwzOk-from_below w8 16 1 16 0 _ refl (omega arith) (row_lanes _ is.lanes)
 
 pub returns-clause-packed : goal.returns-clause-packed
@@ -16,9 +16,9 @@ returns-clause-packed c flags long masked =
     let row = slice_index_or c.args.self.now.rows c.from.result [] in
     let is : IsCompressRow flags row = rw (c.from.ensures, masked) (c.args.self.now.is_table flags long) in
     rw c.from-count.ensures (
-    selected_stored c.args.at (get_or row 15 0) c.args.into.now (swz_l w8 16 v 0 row)
-    (length-swz_l w8 16 v 0 row ∙ is.long) (omega (arith, few_in_row flags row is)) (omega arith)
-    ∙ ap (λ kept. take c.args.at c.args.into.now ++ kept) (row_selects flags row v c.fits-v.0 long is)
+    selected_stored _ _ _ _
+    (length-swz_l w8 16 v 0 row ∙ is.long) (omega (arith, few_in_row _ row is)) (omega arith)
+    ∙ ap (λ kept. take c.args.at c.args.into.now ++ kept) (row_selects _ row v c.fits-v.0 long is)
     )
 
 pub returns-clause-end : goal.returns-clause-end

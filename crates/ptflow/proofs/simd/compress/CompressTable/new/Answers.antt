@@ -7,6 +7,6 @@ use proofs.simd.compress.CompressTable.new.Goals as goal
 pub invariant_of-result : goal.invariant_of-result
 invariant_of-result c = record {
   is_table = λ flags long.
-      let made = c.from_fn.ensures.items.at (mask_l flags) [] (mask_below flags long) in
+      let made = c.from_fn.ensures.items.at (mask_l flags) [] (mask_below _ long) in
       made.2.met flags long refl;
 }

@@ -9,5 +9,5 @@ returns c =
     let pairs = c.args.self in
     let before = chunk c.args.at 16 pairs.before.now in
     let bytes = chunk c.args.at 16 pairs.bytes.now in
-    rw (tops_compared w8 eqb before bytes)
-    (mask_l-mod (zip2 eqb before bytes) 64 (omega (arith, pairs_long eqb _ _ pairs.paired c.args.at 16 c.requires)))
+    rw (tops_compared w8 eqb _ _)
+    (mask_l-mod _ 64 (omega (arith, pairs_long eqb _ _ pairs.paired _ 16 c.requires)))

@@ -11,7 +11,7 @@ returns-then-self-eq1-clause-replaced c =
     let first : (n : ℕ) → slice_index_or cycle.unrolled (n % cycle.len) 0 ≡ slice_index_or cycle.unrolled 0 0 =
     λ n. let zero : n % cycle.len ≡ 0 = omega (arith, mod-lt n cycle.is_unrolled.some) in
     ap (λ k. slice_index_or cycle.unrolled k 0) zero in
-    c.map_bytes.ensures ∙ sym (replaced_by_map cycle.terminator _ _ first c.args.index c.args.from.now)
+    c.map_bytes.ensures ∙ sym (replaced_by_map cycle.terminator _ _ first _ _)
 
 pub loop-at-preserved : goal.loop-at-preserved
 loop-at-preserved c =

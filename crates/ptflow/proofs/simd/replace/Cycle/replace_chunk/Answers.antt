@@ -18,7 +18,7 @@ loop-after-preserved c =
     let number = c.args.index + c.loop-after.after in
     let counted : count_ones c.mask_at-mask.result ≡ count_by p v = rw (c.mask_at-mask.ensures, ones-mask_l) in
     let low : number < c.args.self.now.len + 63 =
-    omega (arith, count_by-le-length p v, length-chunk c.args.at 64 c.args.from.now c.requires.room) in
+    omega (arith, count_by-le-length p v, length-chunk _ 64 _ c.requires.room) in
     replace_next c.loop-after.invariant c.mask_at-mask.ensures c.loop-after-test.true
     c.loop-after.auto.mask-fits.fits (c.args.self.now.is_unrolled.at number low) refl refl
 

@@ -9,5 +9,5 @@ returns c =
     let v = c.args.v in
     let (long, _) = c.fits-v in
     let by = c.args.self in
-    sel_maps _ _ _ v (tests_are eqb (λ b. b) v by.terminator long (sym (map-id v))) (splat_is_map v 16 by.byte long)
+    sel_maps _ _ _ v (tests_are eqb _ v _ long (sym (map-id v))) (splat_is_map v 16 _ long)
     (sym (map-id v))

@@ -10,5 +10,5 @@ returns c =
     let v = c.args.v in
     let (long, _) = c.fits-v in
     let s = c.args.self in
-    sel_maps _ _ _ v (tests_are nat_le _ v s.width long (zip2_splat (λ a b. (a + (256 - b)) % 256) v 16 s.first long))
-    (splat_is_map v 16 s.by long) (splat_is_map v 16 0 long)
+    sel_maps _ _ _ v (tests_are _ _ v _ long (zip2_splat (λ a b. (a + (256 - b)) % 256) v 16 _ long))
+    (splat_is_map v 16 _ long) (splat_is_map v 16 0 long)

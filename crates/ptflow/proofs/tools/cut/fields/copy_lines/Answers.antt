@@ -15,7 +15,7 @@ returns-then-job-clause-put g c =
     let size = c.whole_lines_len-len in
     let of = c.new-delimiters.ensures in
     let free = rw (← c.unwrap_or-first.ensures)
-    at (free_before _ bytes c.first.result
+    at (free_before _ _ _
     (rw (of.needle, of.bytes, c.args.selection.now.delimits) at c.first.ensures)) in
     puts_dropped (cut_job c.args.selection.now.job.now) c.args.selection.now.by_fields c.args.selection.now.ends bytes _
     c.requires.first size.ensures.within.0 size.ensures.within.1 size.ensures.eof size.ensures.up_to
@@ -27,7 +27,7 @@ returns-clause-put g c =
     let size = c.whole_lines_len-len in
     let of = c.new-delimiters.ensures in
     let free = rw (← c.unwrap_or-first.ensures)
-    at (free_before _ bytes c.first.result
+    at (free_before _ _ _
     (rw (of.needle, of.bytes, c.args.selection.now.delimits) at c.first.ensures)) in
     let whole : size.result - 0 ≡ size.result = omega arith in
     puts_kept (cut_job c.args.selection.now.job.now) c.args.selection.now.by_fields c.args.selection.now.ends bytes _

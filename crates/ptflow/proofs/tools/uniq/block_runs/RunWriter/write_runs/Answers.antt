@@ -16,7 +16,7 @@ lines-init g c =
     let job = uniq_job c.args.self.now.job.now in
     let first = c.args.first.now in
     let whole = take_all (length first) first (omega arith) in
-    runs_loop_starts job first c.args.block.now (omega arith) (c.key-run_key.ensures ∙ ap (key job) whole) c.args.out.now
+    runs_loop_starts job _ _ (omega arith) (c.key-run_key.ensures ∙ ap (key job) whole) _
 
 after : (g : given.Over) (c : After-skip_repeats-repeats g)
     → RunsInvariant (uniq_job c.args.self.now.job.now) c.args.first.now c.args.block.now
