@@ -1,6 +1,6 @@
 -- The output of `cut` by bytes. First what intervals select: slices, one after another. Then the output for the rest of
--- a text, which depends only on the line offset: for a line, a piece of one, or 64 empty lines. Last byte shuffles, which
--- copy the selected bytes of a line piece by piece.
+-- a text, which depends only on the line offset: for a line, a piece of one, or 64 empty lines. Last byte shuffles,
+-- which copy the selected bytes of a line piece by piece.
 use Rattle.ptflow.proofs
 use Rattle.ptflow.specs
 use proofs.Common.{◌≡◌, ℕ, ◌+◌, ◌-◌, ◌≤◌, ◌^◌, Bool, false, List, [], ◌∷◌, ◌++◌, map, length, take, drop, Some, refl}
@@ -120,7 +120,7 @@ module _ {all : List Interval} {before count : ℕ} (bytes : List ℕ) {was : Li
           → is' ≡ is ++ take (count - from) (drop from bytes)
           → is' ≡ was ++ select_from (is_selected all) (before + 1) piece
       copied_ends {from} from_is reaches copied =
-          grind (arith, rest_is, select_none, not_selected, apart, append-nil, next, length-take-le count bytes in_bytes)
+          grind (arith, rest_is, select_none, not_selected, apart, append-nil, next, length-take-le _ bytes in_bytes)
 
       pub copied_more : {from to : ℕ} → from ≡ r.first - (before + 1) → to ≡ r.last - before → r.last < before + count
           → is' ≡ is ++ take (to - from) (drop from bytes)
@@ -318,7 +318,7 @@ pub rest_copied : (selected : ℕ → Bool) (bytes was : List ℕ) (before size 
     → is' ≡ is ++ select_from selected (size + 1) (take rest (drop size bytes))
     → is' ≡ was ++ select_from selected 1 (take count bytes)
 rest_copied selected bytes was before size rest count same whole within first then =
-    let front : length (take size bytes) ≡ size = length-take-le size bytes (omega arith) in
+    let front = length-take-le size bytes (omega arith) in
     let parts = take-add size rest bytes in
     grind (arith, append_assoc, select_append selected 1 (take size bytes) (take rest (drop size bytes)))
 
@@ -339,7 +339,6 @@ piece_copied selected start m at bytes was into {piece} {size} is counted short 
     let v = take 16 (drop start bytes) in
     let long = length-take-le 16 (drop start bytes) (omega (arith, length-drop start bytes)) in
     let few = shuffle_few _ is m short in
-    let front = length-take-le start bytes (omega arith) in
     grind (
       usual,
       selected_stored at (get_or piece.counts m 0) _ _ (length-swz_l w8 16 v 0 _ ∙ is.long) (omega (arith, few)) room,

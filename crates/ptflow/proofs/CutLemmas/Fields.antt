@@ -242,7 +242,7 @@ pub slice_put : (before rest : List ℕ) (first last to : ℕ) (bytes : List ℕ
     → after ≡ before ++ take (last - first) (drop first bytes) → all ≡ after ++ rest
 slice_put before rest first last to bytes is output_is within copied =
     let part = take (last - first) (drop first bytes) in
-    let same : take (last - first) (drop first (take to bytes)) ≡ part =
+    let same =
     ap (take (last - first)) (rest_of _ to _) ∙ take-take (last - first) (to - first) (drop first bytes)
     (omega arith) in
     rw (copied, append_assoc before part rest, ← same, ← output_is) is
@@ -295,6 +295,11 @@ free_prefix d n [] free = grind usual
 free_prefix d zero (b ∷ bytes) free = tt
 free_prefix d (suc n) (b ∷ bytes) free = (free.0, free_prefix d n _ free.1)
 
+free_before : (d : ℕ) (bytes : List ℕ) (r : Option ℕ) → IsFirstByte (is_byte d) bytes r
+    → IsLine d (take (unwrap_or r (length bytes)) bytes)
+free_before d bytes None none = grind (arith, take_all, line_if_not_found)
+free_before d bytes (Some at) first = line_before_terminator d _ at first
+
 free_lines : (d end : ℕ) (bytes : List ℕ) → IsLine d bytes → AreLines d (complete_lines end bytes)
 free_lines d end [] free = tt
 free_lines d end (b ∷ bytes) free = grind (arith, free_lines d end bytes free.1)
@@ -314,8 +319,8 @@ module _ (job : Cut) (by_fields : job.fields ≡ true) {end : ℕ} (same : end �
     (first : IsFirstByte (is_byte end) bytes (Some to)) where
   -- all complete lines before `size`, none of which has the delimiter
   module _ {size up_to : ℕ} (high : to < size) (fits : size ≤ length bytes) (eof : get_or bytes (size - 1) 0 ≡ end)
-      (near : (size ≡ to + 1) ⊎ (size ≤ up_to)) (past : to ≤ up_to)
-      (free : IsLine job.delimiter (take up_to bytes)) where
+      (near : (size ≡ to + 1) ⊎ (size ≤ up_to)) (past : to ≤ up_to) (r : Option ℕ)
+      (before : up_to ≡ unwrap_or r (length bytes)) (found : IsFirstByte (is_byte job.delimiter) bytes r) where
     abbrev front : List (List ℕ)
     front = complete_lines end (take size bytes)
 
@@ -335,10 +340,11 @@ module _ (job : Cut) (by_fields : job.fields ≡ true) {end : ℕ} (same : end �
         )
 
     free_up_to : {n : ℕ} → n ≤ up_to → IsLine job.delimiter (take n bytes)
-    free_up_to {n} le = rw (take-take n up_to bytes le) at (free_prefix _ n _ free)
+    free_up_to {n} le = 
+        rw (take-take n up_to bytes le) at (free_prefix _ n _ (rw (← before) at (free_before _ bytes r found)))
 
     are_free : ((size ≡ to + 1) ⊎ (size ≤ up_to)) → AreLines job.delimiter front
-    are_free (inl one) = grind (usual, complete_lines_cons, line_before_terminator)
+    are_free (inl one) = grind (usual, complete_lines_cons, line_before_terminator, free_up_to past)
     are_free (inr le) = search (free_lines, free_up_to)
 
     pub puts_kept : {old new : List ℕ} → job.only ≡ false → new ≡ old ++ take size bytes
@@ -347,11 +353,6 @@ module _ (job : Cut) (by_fields : job.fields ≡ true) {end : ℕ} (same : end �
 
     pub puts_dropped : {old : List ℕ} → job.only ≡ true → CopyLinesPost job end bytes size old old
     puts_dropped {old} only = grind (usual, texts, lines_are, lines_dropped, are_free)
-
-pub free_before : (d : ℕ) (bytes : List ℕ) (r : Option ℕ) → IsFirstByte (is_byte d) bytes r
-    → IsLine d (take (unwrap_or r (length bytes)) bytes)
-free_before d bytes None none = grind (arith, take_all, line_if_not_found)
-free_before d bytes (Some at) first = line_before_terminator d _ at first
 
 pub cut_of_parts : CutOfParts
 cut_of_parts job a b whole = grind (usual, the_lines_of_parts)

@@ -110,13 +110,6 @@ one_byte = grind arith
 
 pub tr_after_byte : TrAfterByte
 tr_after_byte m byte a b (front, ends) kept unsqueezed =
-    let last : EndsWith (m.image byte) (tr m a) = (
-      tr m front,
-      cc (
-        front_on m None front (byte ∷ []),
-        one_byte m (last_or None (tr m front)) byte kept unsqueezed,
-      ),
-    ) in
     grind (usual, tr_of_parts)
 
 pub tr_meets_twice : TrMeetsTwice

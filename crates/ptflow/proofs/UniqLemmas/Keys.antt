@@ -103,7 +103,7 @@ nth_end (suc j) (suc (suc m)) n k (b ∷ []) h = grind (arith, suffix_none)
 nth_end (suc j) (suc (suc m)) n zero (b ∷ c ∷ bytes) (within, passes, counted) = grind arith
 nth_end (suc j) (suc (suc m)) n (suc k) (b ∷ c ∷ bytes) (within, passes, counted) =
     let m' = count_by is_set (take k (ends_in j (c ∷ bytes))) in
-    step n m' (c ∷ take m bytes) (ends_word b (c ∷ bytes)) (sym counted ∙ counted_one _ (take k (ends_in j (c ∷ bytes))))
+    step n m' (c ∷ take m bytes) _ (sym counted ∙ counted_one (ends_word b (c ∷ bytes)) (take k (ends_in j (c ∷ bytes))))
     ∙ nth_end j (suc m) m' k (c ∷ bytes) (omega arith, passes, refl)
 
 none_after : (t : Bool) (n : ℕ) → cond t (suffix_at n []) (suffix_at (suc n) []) ≡ []
@@ -121,7 +121,6 @@ skip_ends (suc j) (suc (suc m)) n (b ∷ c ∷ bytes) few =
     let t = ends_word b (c ∷ bytes) in
     let rest = count_by is_set (ends_in j (c ∷ bytes)) in
     let counted = counted_one t (ends_in j (c ∷ bytes)) in
-    let enough : cond t 1 0 + rest ≤ n = omega (arith, counted) in
     let same : n - cond t 1 0 - rest ≡ n - count_by is_set (ends_in (suc j) (b ∷ c ∷ bytes)) = omega arith in
     cc (
       step n (n - cond t 1 0) (c ∷ take m bytes) t (omega arith),
@@ -205,8 +204,7 @@ module _ (bytes : List ℕ) (at : ℕ) (room : at + 32 ≤ length bytes) {blanks
     pub blanks_fit : blanks ≤ 4294967295
     blanks_fit =
         let v = chunk at 32 bytes in
-        let long = length-map v is_blank ∙ length-chunk at 32 bytes room in
-        omega (arith, rw long at (mask_l-lt (map is_blank v)))
+        omega (arith, rw (length-map v is_blank ∙ length-chunk at 32 bytes room) at (mask_l-lt (map is_blank v)))
 
     pub ends_mask : bit_and (4294967295 - blanks) (blanks / 2) ≡ mask_l (field_ends 31 (drop at bytes))
     ends_mask =

@@ -128,8 +128,7 @@ module _ {end : ℕ} {block rest : List ℕ} {front : List (List ℕ)} (lies : B
 ranges_join : {block : List ℕ} {a b : BlockRange} → IsRangeOf block a → IsRangeOf block b → a.to ≡ b.from
     → bytes_in_range block (record { from = a.from; to = b.to }) ≡ bytes_in_range block a ++ bytes_in_range block b
 ranges_join {block} {a} {b} fits next touch =
-    let back = bytes_in_range block b in
-    let split : drop a.from block ≡ ((bytes_in_range block a) ++ back) ++ drop b.to block =
+    let split : drop a.from block ≡ (bytes_in_range block a ++ bytes_in_range block b) ++ drop b.to block =
     grind (usual, drop_split) in
     grind usual
 
@@ -344,8 +343,7 @@ module _ {job : Uniq} {first block : List ℕ} {start : ℕ} {line : Option Bloc
   runs_loop_again l whole own zero rest so_far = grind arith
   runs_loop_again l whole own (suc n) rest {count} so_far =
       let bytes = l ++ job.terminator ∷ [] in
-      let split = rw (append_assoc bytes (repeated n bytes) rest) at so_far in
-      let once : RunsInvariant job first block (repeated n bytes ++ rest) start (count + 1) line pending run_key was is =
+      let once : RunsInvariant _ first block (repeated n bytes ++ rest) start (count + 1) line pending run_key was is =
       grind (usual, bytes_eq-Decides, runs_loop_more, line_ends) in
       grind (arith, runs_loop_again l whole own n rest once)
 

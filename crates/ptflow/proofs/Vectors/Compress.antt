@@ -1,6 +1,6 @@
 -- Compression: a row has the indices of the set flags of a mask, in order, so a shuffle by it moves the selected lanes
--- to the front. A mask of 16 flags is two halves. Then filters: a byte is kept or removed by itself and the byte that it
--- is compared with, so a text can be processed in pieces.
+-- to the front. A mask of 16 flags is two halves. Then filters: a byte is kept or removed by itself and the byte that
+-- it is compared with, so a text can be processed in pieces.
 use Rattle.ptflow.proofs
 use proofs.Common.{usual, ◌≡◌, ℕ, zero, suc, ◌+◌, ◌*◌, ◌^◌, ◌/◌, ◌%◌, ◌<◌, ◌≤◌, Bool, true, false, cond, List, [], ◌∷◌}
 use proofs.Common.{◌++◌, map, length, take, drop, set, get_or, length-drop, drop-cons, append_assoc, add-one}
@@ -159,15 +159,14 @@ row_next {place} {count} {row} low is begun = grind (usual, bit_mask_l, next_pla
 pub row_complete : {mask count : ℕ} {row : List ℕ} {flags : List Bool} → length flags ≡ 8 → mask ≡ mask_l flags
     → RowPrefix mask 8 count row → IsCompressRow flags (set row 15 count)
 row_complete {count} {row} {flags} long masked begun =
-    let all : take count row ≡ true_indices flags =
+    let all =
     begun.indices flags long masked
     ∙ (λ i. select_by (take_all 8 flags (omega arith) i) (range_with_len 0 (sym long i))) in
-    let size : length (true_indices flags) ≡ count = sym (ap length all) ∙ length-take-le count row (omega arith) in
     record {
-      indices = grind (usual, all, size);
+      indices = grind (usual, all);
       long = grind usual;
       lanes = grind usual;
-      count = grind (usual, size);
+      count = grind usual;
     }
 
 pub ruleset row_steps = (row_next, row_complete)
@@ -323,10 +322,9 @@ module _ {test : ℕ → Bool} {before bytes into : List ℕ} {at count : ℕ} {
       → FilterInvariant test before bytes into' (at + n) count' whole
   filter_piece paired n room few stored = record {
     is =
-        let before_rest = drop (at + n) before in
         let rest = drop (at + n) bytes in
         cc (
-          append_assoc (take count into) (kept_at test before bytes at n) (kept_bytes test before_rest rest),
+          append_assoc (take count into) (kept_at test before bytes at n) (kept_bytes test (drop (at + n) before) rest),
           take-append-drop n (drop at before),
           take-append-drop n (drop at bytes),
           drop-drop n at before,

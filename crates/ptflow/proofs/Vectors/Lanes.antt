@@ -1,6 +1,6 @@
--- Vector operations. Each is a `map` over the lanes, so facts about one byte carry over. A flag of a byte set is one bit
--- of one entry: the low nibble of a byte gives the entry, the high one the table and the bit. Images are looked up in
--- every row of a table; then each step halves the rows, and the lowest bit of a lane's row picks one of two vectors.
+-- Vector operations. Each is a `map` over the lanes, so facts about one byte carry over. A flag of a byte set is one
+-- bit of one entry: the low nibble of a byte gives the entry, the high one the table and the bit. Images are looked up
+-- in every row of a table; then each step halves the rows, and the lowest bit of a lane's row picks one of two vectors.
 use Rattle.ptflow.proofs
 use Rattle.ptflow.specs
 use Rattle.std.proofs.lemmas
@@ -277,7 +277,6 @@ module _ (rows : List ℕ) (found : List (List ℕ)) (count : ℕ) where
 
     halved_long : (i : ℕ) → 2 * i < count → length (halved i) ≡ 16
     halved_long i within =
-        let first = lanes (2 * i) [] (omega arith) in
         grind (arith, length-sel_l, bits_long)
 
     pub halved_next : {n i second : ℕ} {kept : List (List ℕ)} → IsFilledTo n halved i kept → i < n → 2 * i < count
@@ -293,7 +292,6 @@ module _ (rows : List ℕ) (found : List (List ℕ)) (count : ℕ) where
     halved_lane lane low within =
         let row = get_or rows lane 0 in
         let bit = and_mask row 1 in
-        let a = lanes (2 * (row / 2)) [] (omega arith) in
         let b = lanes (odd (row / 2)) [] (omega arith) in
         grind (arith, get_or-sel_l, get_or-map, bits_long)
 

@@ -40,10 +40,10 @@ module _ {d : ℕ} {block : List ℕ} {from all marked : ℕ} (n start : ℕ) (h
   pub next_terminator : NextTerminator d block from n (count_trailing_zeros 64 marked) start
   next_terminator =
       let p = is_byte d in
-      let v = chunk from 64 block in
       let bit = count_trailing_zeros 64 marked in
       let room : from + 64 ≤ length block = omega arith in
-      let nth = after_set p v n (omega (arith, length-chunk _ 64 _ room)) (grind (arith, ones-mask_l)) bits in
+      let nth = after_set p (chunk from 64 block) n (omega (arith, length-chunk _ 64 _ room))
+      (grind (arith, ones-mask_l)) bits in
       let close = near p block 64 from n bit room nth in
       let fits : from + bit < length block = omega arith in
       let (_, passes, _) = nth in

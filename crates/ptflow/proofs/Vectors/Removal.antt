@@ -39,8 +39,8 @@ module _ (flags : List Bool) {m : ℕ} (is : m ≡ removed_mask flags) where
         → select_by flags bytes ≡ take (count_trailing_zeros 64 m) bytes ++ drop (count_trailing_zeros 64 m + 1) bytes
     one_of bytes size some one =
         let low = first_of some in
-        let power = one ∙ one_shl (count_trailing_zeros 64 m) 64 low in
-        all_but_one flags bytes (count_trailing_zeros 64 m) (omega arith) (omega arith) (rw long (omega (arith, power, full long)))
+        all_but_one flags bytes (count_trailing_zeros 64 m) (omega arith) (omega arith)
+        (rw long (omega (arith, one ∙ one_shl (count_trailing_zeros 64 m) 64 low, full long)))
 
 -- ---- 64 bytes by the masks of four times 16
 
@@ -65,9 +65,8 @@ module _ (fa fb fc fd : List Bool) (la : length fa ≡ 16) (lb : length fb ≡ 1
         let two = or_before_shift a b 65536 18446744073709551616 refl low_a (omega arith) in
         let a_b = bit_or a (b * 65536 % 18446744073709551616) in
         let three = or_before_shift a_b c 4294967296 18446744073709551616 refl (omega (arith, two)) (omega arith) in
-        let a_b_c = bit_or a_b (c * 4294967296 % 18446744073709551616) in
-        let four = or_before_shift a_b_c d 281474976710656 18446744073709551616 refl (omega (arith, two, three))
-        (omega arith) in
+        let four = or_before_shift (bit_or a_b (c * 4294967296 % 18446744073709551616)) d 281474976710656
+        18446744073709551616 refl (omega (arith, two, three)) (omega arith) in
         let ab = join_mask fa fb _ 16 la refl eb in
         let abc = join_mask (fa ++ fb) fc 4294967296 32 (omega (arith, length-append fa fb)) refl ec in
         let abcd = join_mask ((fa ++ fb) ++ fc) fd 281474976710656 48

@@ -1,6 +1,6 @@
 -- The 64 bytes are stored after the first `count`.
 use Rattle.ptflow.proofs
-use proofs.Common.{◌+◌, arith, chunk, take_more_put_chunk, length-chunk}
+use proofs.Common.{arith, take_more_put_chunk, length-chunk}
 use proofs.simd.compress.copy_chunk.Goals as goal
 
 pub returns-clause-copied : goal.returns-clause-copied

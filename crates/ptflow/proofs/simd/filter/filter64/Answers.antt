@@ -15,7 +15,8 @@ returns-then-same_ab-same16-eq0-clause-kept g c =
 pub overflow_shl-index : goal.overflow_shl-index
 overflow_shl-index g c =
     first_removed _ _ _ c.args.pairs.paired _ c.requires.lanes c.removed16-removed_a.ensures.mask
-    c.removed16-removed_b.ensures.mask c.removed16-removed_c.ensures.mask c.removed16-removed_d.ensures.mask (omega arith)
+    c.removed16-removed_b.ensures.mask c.removed16-removed_c.ensures.mask c.removed16-removed_d.ensures.mask
+    (omega arith)
 
 pub returns-then-removed-eq0-clause-kept : goal.returns-then-removed-eq0-clause-kept
 returns-then-removed-eq0-clause-kept g c =

@@ -1,13 +1,12 @@
 -- Each iteration maps 32 bytes, by two vectors of 16.
 use Rattle.ptflow.proofs
-use proofs.Common.{◌+◌, arith}
+use proofs.Common.{arith}
 use proofs.Vectors.Lanes.{mapped_more}
 use proofs.simd.shift.map_chunks.Goals as goal
 
 pub loop-at-preserved : goal.loop-at-preserved
 loop-at-preserved g c =
     let at = c.loop-at.at in
-    let from = c.args.from.now in
     let (_, long, mapped) = c.loop-at.invariant in (
       omega arith,
       omega arith,

@@ -24,10 +24,9 @@ returns g c =
     let begun = c.in_ok-terminator.ensures in
     let end = c.new-2.ensures.terminator ∙ begun.set.0 in
     let list = c.new-2.ensures.selected in
-    let start = c.new-2.ensures.start in
     let pass = c.run_blocks.ensures (cut_tool job)
     (record {
-      text = λ bytes. rw (end, list, start) (simp (rest_of_all, (made_is job c.if-job.false)));
+      text = λ bytes. rw (end, list, c.new-2.ensures.start) (simp (rest_of_all, (made_is job c.if-job.false)));
       decided = λ given pushed now holds on.
           rest_is_decided job c.if-job.false given pushed now.line_offset (λ rest. cc (on rest, holds.0, holds.1));
       holds = (refl, refl);

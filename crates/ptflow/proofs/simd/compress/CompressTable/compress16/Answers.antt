@@ -1,6 +1,6 @@
 -- A mask of 16 flags is two of eight; for the second one the vector is rotated by eight lanes.
 use Rattle.ptflow.proofs
-use proofs.Common.{take, ◌∙◌}
+use proofs.Common.{◌∙◌}
 use proofs.Vectors.Compress.{low_half, high_half, front_long, back_long, select_by_halves}
 use proofs.simd.compress.CompressTable.compress16.Goals as goal
 

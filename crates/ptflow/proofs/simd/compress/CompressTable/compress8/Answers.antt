@@ -1,14 +1,14 @@
 -- A row has indices below 16, so the shuffle is defined. It moves the selected lanes to the front of what is stored.
 use Rattle.ptflow.proofs
-use proofs.Common.{◌∙◌, ◌++◌, [], ap, take, refl, slice_index_or, get_or, arith, w8, swz_l, length-swz_l}
+use proofs.Common.{◌∙◌, ◌++◌, [], ap, take, refl, slice_index_or, arith, w8, length-swz_l}
 use proofs.Common.{SwzOk-from_below, IsCompressRow}
 use proofs.Vectors.Compress.{few_in_row, length-flags_of, row_lanes, row_of_mask, row_selects, selected_stored}
 use proofs.simd.compress.CompressTable.compress8.Goals as goal
 
 pub swizzle : goal.swizzle
 swizzle c =
-    let is = row_of_mask _ _ c.args.self.now.is_table (omega arith) in
-    SwzOk-from_below w8 16 1 16 0 _ refl (omega arith) (row_lanes _ is.lanes)
+    SwzOk-from_below w8 16 1 16 0 _ refl (omega arith)
+    (row_lanes _ (row_of_mask _ _ c.args.self.now.is_table (omega arith)).lanes)
 
 pub returns-clause-packed : goal.returns-clause-packed
 returns-clause-packed c flags long masked =

@@ -5,15 +5,14 @@ use proofs.simd.replace.Cycle.new.Goals as goal
 
 pub invariant_of-result : goal.invariant_of-result
 invariant_of-result c =
-    let len = length c.args.bytes.now in
     let at = c.loop-number.invariant.at in
     record {
       is_unrolled = record {
         some = c.requires.0;
         few = c.requires.1;
         at = λ number low.
-            at number (omega arith)
-            ∙ sym (rw (mod-eq_of_lt (mod-lt number c.requires.0)) at (at (number % len) (omega arith)));
+            at number (omega arith) ∙ sym (rw (mod-eq_of_lt (mod-lt number c.requires.0))
+            at (at (number % length c.args.bytes.now) (omega arith)));
       };
     }
 

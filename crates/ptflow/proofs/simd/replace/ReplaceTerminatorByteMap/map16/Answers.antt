@@ -8,6 +8,5 @@ pub returns : goal.returns
 returns c =
     let v = c.args.v in
     let (long, _) = c.fits-v in
-    let by = c.args.self in
     sel_maps _ _ _ v (tests_are eqb _ v _ long (sym (map-id v))) (splat_is_map v 16 _ long)
     (sym (map-id v))

@@ -9,11 +9,10 @@ use Rattle.ptflow.proofs.tools.cut.fields.copy_fields.Goals.{In-Some}
 
 pub slices-init : goal.slices-init
 slices-init g c =
-    let line = take c.args.to c.args.delimiters.now.bytes.now in
     let of = c.new-cursor.ensures in
     record {
       copied = ap (◌++◌ (take c.args.start c.args.room.now))
-          (selected_remaining c.new-cursor.result of.passed (cut_job c.args.job.now) line c.requires.delimiter
+          (selected_remaining c.new-cursor.result of.passed (cut_job c.args.job.now) _ c.requires.delimiter
           (ap is_selected (of.left ∙ c.intervals.ensures.kept)));
       cursor = grind (arith, offset_start);
       window = λ near. of.window;
@@ -30,12 +29,11 @@ slice_near g c =
     let first = c.in-Some.slice.start in
     let next = c.in-Some.ensures.next in
     let loop = c.slices in
-    let part = take (c.in-Some.slice.end - first) (drop first line) in
     let long = length-take-le c.args.to c.args.delimiters.now.bytes.now (omega arith) in
     let size = length-take-le (c.in-Some.slice.end - first) (drop first line) (omega (arith, length-drop first line)) in
     let rest = output_from_cursor c.args.delimiters.now.needle line c.next_slice.new.self in
-    let near = output_is_near c.args.start loop.end c.args.room.now loop.room (cut_fields job line) part rest
-    (cc next.output) (omega arith) (omega arith) in
+    let near = output_is_near c.args.start loop.end c.args.room.now loop.room (cut_fields job line)
+    (take (c.in-Some.slice.end - first) (drop first line)) rest (cc next.output) (omega arith) (omega arith) in
     omega (arith, size, near, output_is_short job line)
 
 pub slices-preserved : goal.slices-preserved
@@ -45,7 +43,6 @@ slices-preserved g c =
     let first = c.in-Some.slice.start in
     let next = c.in-Some.ensures.next in
     let loop = c.slices in
-    let size = c.in-Some.slice.end - first in
     let long = length-take-le to bytes (omega arith) in
     let rest = output_from_cursor c.args.delimiters.now.needle (take to bytes) c.next_slice.new.self in
     record {

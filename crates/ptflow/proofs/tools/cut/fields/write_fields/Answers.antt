@@ -12,10 +12,10 @@ pub slices-init : goal.slices-init
 slices-init g c =
     let line = c.args.delimiters.now.bytes.now in
     let of = c.new-cursor.ensures in
-    let kept = ap is_selected (of.left ∙ c.intervals.ensures.kept) in
     let all = take_all (length line) line (omega arith) in record {
       front = prefix_starts (rw all
-          (selected_remaining c.new-cursor.result of.passed (cut_job c.args.job.now) line c.requires kept));
+          (selected_remaining c.new-cursor.result of.passed (cut_job c.args.job.now) line c.requires
+          (ap is_selected (of.left ∙ c.intervals.ensures.kept))));
       cursor = grind (arith, offset_start);
       window = λ near. of.window;
       clean = λ clean. clean;

@@ -7,13 +7,12 @@ use proofs.tools.tr.TranslatorBlockFilter.process_block.Goals as goal
 
 pub returns-in_err-push_block-clause-halts : goal.returns-in_err-push_block-clause-halts
 returns-in_err-push_block-clause-halts g c =
-    let t = c.args.self.now in
     on_err c.from_residual.result
     (record {
       pushed = _;
       wrote = c.push_block.ensures.pushed.wrote;
       fault = c.in_err-push_block.ensures.pushed.fault;
-      is_prefix = λ rest. (grind (arith, (front_on (byte_map_of t.translation.plan.now))));
+      is_prefix = λ rest. grind (arith, front_on (byte_map_of c.args.self.now.translation.plan.now));
     })
 
 pub returns-clause-continues : goal.returns-clause-continues

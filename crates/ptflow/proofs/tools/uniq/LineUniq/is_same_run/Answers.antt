@@ -5,6 +5,5 @@ use proofs.tools.uniq.LineUniq.is_same_run.Goals as goal
 
 pub returns-then-self-gt0 : goal.returns-then-self-gt0
 returns-then-self-gt0 c =
-    let first = take_all (length c.args.first.now) c.args.first.now (omega arith) in
     let line = take_all (length c.args.line.now) c.args.line.now (omega arith) in
-    grind (usual, first, line)
+    grind (usual, line)

@@ -29,18 +29,16 @@ pub loop-at-preserved : goal.loop-at-preserved
 loop-at-preserved c =
     let bytes = c.args.bytes.now in
     let at = c.loop-at.at in
-    let left = c.loop-at.left in
     let counted = ends_counted (drop at bytes) c.field_ends-ends.ensures c.from-count.ensures in (
       omega arith,
       omega arith,
       omega arith,
-      ap (λ n. suffix_at (left - n) (take (c.args.to - (at + 31)) (drop (at + 31) bytes))) counted
+      ap (λ n. suffix_at (c.loop-at.left - n) (take (c.args.to - (at + 31)) (drop (at + 31) bytes))) counted
           ∙ key_after_window bytes at c.args.to (omega arith) (omega (arith, counted)) ∙ c.loop-at.invariant.3,
     )
 
 pub returns-then-bytes-at-lt32 : goal.returns-then-bytes-at-lt32
-returns-then-bytes-at-lt32 c =
-    grind (arith, suffix_is)
+returns-then-bytes-at-lt32 c = grind (arith, suffix_is)
 
 pub returns : goal.returns
 returns c = grind (arith, suffix_none, suffix_is)

@@ -13,5 +13,4 @@ bytes-preserved-then-ends_word c =
 
 pub returns : goal.returns
 returns c =
-    let none = nil_from_length c.bytes.rest.now (omega arith) in
-    cc (none, suffix_none _, c.bytes.invariant, suffix_is _ _)
+    cc (nil_from_length c.bytes.rest.now (omega arith), suffix_none _, c.bytes.invariant, suffix_is _ _)

@@ -22,9 +22,8 @@ returns-clause-copied c =
       | goal.else-line-gt0+else-not-is_short w ↦ omega arith
     ] in
     ap (λ n. select_from (is_selected list) (n + 1) bytes) (sym zero) in
-    let last = c.args.self.now.shuffles.last in
-    let up_to : (start : ℕ) → start ≤ count → min count last ≤ start → c.if-line-gt0.value ≡ false
-    → was ++ select_from (is_selected list) 1 (take start (drop line.start c.args.block.now)) ≡ was ++ selected
+    let up_to : (start : ℕ) → start ≤ count → min count c.args.self.now.shuffles.last ≤ start
+    → c.if-line-gt0.value ≡ false → was ++ select_from (is_selected list) 1 (take start (drop line.start c.args.block.now)) ≡ was ++ selected
     = λ start upto reaches here.
     ap (◌++◌ was) (none_later _ _ (λ k later before. c.args.self.now.are_shuffles.last k (omega arith)) upto
     (omega (arith, length-drop line.start c.args.block.now)) ∙ begins here) in
@@ -48,4 +47,4 @@ returns-clause-copied c =
             ∙ up_to w.min.result (omega arith) (omega arith) w.if-count-self.false,
       )
     ] in
-    (grind usual)
+    grind usual

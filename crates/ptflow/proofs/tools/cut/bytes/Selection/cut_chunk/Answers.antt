@@ -12,11 +12,11 @@ use Rattle.ptflow.proofs.tools.cut.bytes.Selection.cut_chunk.Goals.{In-loop-end}
 pub returns-then-line-eq0-clause-on : goal.returns-then-line-eq0-clause-on
 returns-then-line-eq0-clause-on c =
     let end = c.args.self.now.terminator in
-    let block = c.args.block.now in
     let line = c.args.line in
     record {
       cut = cut_next end _ _ _ _ _ _ _ _ _ _ (λ start bytes so_far. so_far)
-          (take_more_put_chunk _ _ _ _ (omega (arith, length-chunk line.start 64 block (omega arith))) (omega arith))
+          (take_more_put_chunk _ _ _ _ (omega (arith, length-chunk line.start 64 c.args.block.now (omega arith)))
+          (omega arith))
           (terminators_next end _ _ (omega arith) c.if-line-from.true c.if-line-eq0.true
           c.requires.ends.is c.if-mask-eq18446744073709551615.true);
       bound = omega arith;
@@ -46,6 +46,5 @@ loop-end-preserved c =
 pub returns-clause-same : goal.returns-clause-same
 returns-clause-same c =
     let p = is_byte c.args.self.now.terminator in
-    let block = c.args.block.now in
-    let same = count_chunk p block c.args.from in
+    let same = count_chunk p c.args.block.now c.args.from in
     (c.loop-end.invariant.within, omega (arith, same, (ap count_ones c.requires.ends.is ∙ ones-mask_l p _)))

@@ -28,8 +28,8 @@ returns-then-not-has_output-clause-waits g c =
 
 pub returns-then-pending-line-clause-waits : goal.returns-then-pending-line-clause-waits
 returns-then-pending-line-clause-waits g c =
-    let job = uniq_job c.args.self.now.job.now in
-    pending_joined job _ _ c.requires c.in-Some.is (cc) c.if-pending-line.true (no_count _ c.if-ne.ensures _)
+    pending_joined (uniq_job c.args.self.now.job.now) _ _ c.requires c.in-Some.is (cc) c.if-pending-line.true
+    (no_count _ c.if-ne.ensures _)
 
 pub returns-in_err-flush_with_count-clause-wrote : goal.returns-in_err-flush_with_count-clause-wrote
 returns-in_err-flush_with_count-clause-wrote g c =

@@ -8,8 +8,7 @@ use proofs.tools.uniq.block_runs.RunWriter.write_run.Goals as goal
 pub returns-then-not-has_output : goal.returns-then-not-has_output
 returns-then-not-has_output g c =
     let job = uniq_job c.args.self.now.job.now in
-    let none = sym c.has_output.ensures ∙ c.if-not-has_output.true in
-    rw (current_run_is job _, none) c.push.ensures.pushed
+    rw (current_run_is job _, sym c.has_output.ensures ∙ c.if-not-has_output.true) c.push.ensures.pushed
 
 pub returns-in_err-flush_with_count : goal.returns-in_err-flush_with_count
 returns-in_err-flush_with_count g c =
@@ -18,8 +17,7 @@ returns-in_err-flush_with_count g c =
 pub returns : goal.returns
 returns g c =
     let job = uniq_job c.args.self.now.job.now in
-    let shown = sym c.has_output.ensures ∙ c.if-not-has_output.false in
-    rw (current_run_is job _, shown)
+    rw (current_run_is job _, sym c.has_output.ensures ∙ c.if-not-has_output.false)
     (let pushed = rw c.args.self.now.ends at c.push_line.ensures.pushed in record {
       wrote = wrote_then _ _ _ c.flush_with_count.ensures.wrote pushed.wrote;
       clean = pushed.clean;

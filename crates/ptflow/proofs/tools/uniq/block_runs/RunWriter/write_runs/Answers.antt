@@ -1,7 +1,7 @@
 -- A line with the key of the current run, and copies of it, add to its count. Any other line ends the run, whose output
 -- is pushed or deferred. After the last line the deferred output is pushed, and all complete lines were passed.
 use Rattle.ptflow.proofs
-use proofs.Common.{◌+◌, IsLine, length, refl, ap, arith, length-append, length-drop, take_rest, line_if_not_found, ◌∙◌}
+use proofs.Common.{◌+◌, length, refl, ap, arith, length-append, length-drop, take_rest, line_if_not_found, ◌∙◌}
 use proofs.Common.{take_all, uniq_job, usual, rules, take_at}
 use Rattle.ptflow.specs.Uniqs.{key}
 use proofs.Passes.Exits.{on_err, wrote_then}
@@ -15,8 +15,8 @@ pub lines-init : goal.lines-init
 lines-init g c =
     let job = uniq_job c.args.self.now.job.now in
     let first = c.args.first.now in
-    let whole = take_all (length first) first (omega arith) in
-    runs_loop_starts job _ _ (omega arith) (c.key-run_key.ensures ∙ ap (key job) whole) _
+    runs_loop_starts job _ _ (omega arith)
+    (c.key-run_key.ensures ∙ ap (key job) (take_all (length first) first (omega arith))) _
 
 after : (g : given.Over) (c : After-skip_repeats-repeats g)
     → RunsInvariant (uniq_job c.args.self.now.job.now) c.args.first.now c.args.block.now
@@ -40,8 +40,8 @@ lines-preserved-then-is_equal g c = after g (goal.at.lines-preserved-then-is_equ
 pub returns-in_err-pending-clause-halts : goal.returns-in_err-pending-clause-halts
 returns-in_err-pending-clause-halts g c =
     on_err _
-    (runs_loop_failed c.lines.invariant (rw c.args.self.now.ends at c.in-Some.ensures) c.key-next.ensures c.is_equal.ensures
-    c.if-is_equal.false c.in_err-pending.ensures.wrote c.in_err-pending.ensures.fault)
+    (runs_loop_failed c.lines.invariant (rw c.args.self.now.ends at c.in-Some.ensures) c.key-next.ensures
+    c.is_equal.ensures c.if-is_equal.false c.in_err-pending.ensures.wrote c.in_err-pending.ensures.fault)
 
 pub lines-preserved : goal.lines-preserved
 lines-preserved g c =
