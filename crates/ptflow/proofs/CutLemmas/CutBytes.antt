@@ -178,19 +178,13 @@ terminators_next end selected block {start} room here none is all more =
     let long = length-chunk start 64 block (omega arith) in
     let every : mask_l (map (is_byte end) ends) + 1
     ≡ 2 ^ length ends = grind arith in
-    cc (
-      chunk-drop start 64 block,
-      append_assoc ends (drop (start + 64) block) more,
-      empty_lines end _ _ _
-          every,
-    )
+    cc (chunk-drop start 64 block, append_assoc ends (drop (start + 64) block) more, empty_lines end _ _ _ every)
 
 pub cut_next : (end : ℕ) (list : List Interval) (line_offset now next : ℕ) (from rest rest' old was : List ℕ)
     {is : List ℕ} (bytes : List ℕ) → ExtendsCut end list line_offset from old now rest was → is ≡ was ++ bytes
     → ((more : List ℕ) → cut_list_from end list now (rest ++ more) ≡ bytes
     ++ cut_list_from end list next (rest' ++ more)) → ExtendsCut end list line_offset from old next rest' is
-cut_next end _ _ now _ _ _ _ old was _ cut copied on start block so_far more =
-    grind usual
+cut_next end _ _ now _ _ _ _ old was _ cut copied on start block so_far more = grind usual
 
 pub line_cut : {end : ℕ} {list : List Interval} {block : List ℕ} {was now next : Line} {old new is : List ℕ} (count : ℕ)
     → CutPost end list block was old now new → IsFirstByte (is_byte end) (drop now.start block) (Some count)

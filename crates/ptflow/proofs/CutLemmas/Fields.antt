@@ -331,13 +331,7 @@ module _ (job : Cut) (by_fields : job.fields ≡ true) {end : ℕ} (same : end �
     texts = grind (arith, is_ended, text_of_ended)
 
     lines_are : complete_lines end bytes ≡ front ++ complete_lines end (drop size bytes)
-    lines_are =
-        cc (
-          take-append-drop size bytes,
-          texts,
-          eof-append end _ _
-              (line_split end _).whole,
-        )
+    lines_are = cc (take-append-drop size bytes, texts, eof-append end _ _ (line_split end _).whole)
 
     free_up_to : {n : ℕ} → n ≤ up_to → IsLine job.delimiter (take n bytes)
     free_up_to {n} le = 

@@ -104,13 +104,8 @@ last_after : {X : Type 0} (o : Option X) (front : List X) (x : X) → last_or o 
 last_after o [] x = refl
 last_after o (y ∷ front) x = last_after (Some y) front x
 
-one_byte : (m : ByteMap) (last : Option ℕ) (byte : ℕ) → m.deletes byte ≡ false
-    → m.squeezes (m.image byte) ≡ false → tr_from m last (byte ∷ []) ≡ m.image byte ∷ []
-one_byte = grind arith
-
 pub tr_after_byte : TrAfterByte
-tr_after_byte m byte a b (front, ends) kept unsqueezed =
-    grind (usual, tr_of_parts)
+tr_after_byte m byte a b (front, ends) kept unsqueezed = grind (usual, tr_of_parts)
 
 pub tr_meets_twice : TrMeetsTwice
 tr_meets_twice m byte a b rest is (front, ends) begins =

@@ -175,11 +175,7 @@ module _ (bytes : List ℕ) (at to : ℕ) {left : ℕ} (some : 0 < left) where
       let n : left ≡ suc (left - 1) = omega arith in
       let next : suc (left - 1 - count) ≡ left - count = omega arith in
       let size : to - at - 31 ≡ to - (at + 31) = omega arith in
-      cc (
-        skip_ends 31 (to - at) (left - 1) (drop at bytes) (omega arith),
-        rest_of 31 _ _,
-        drop-drop 31 at bytes,
-      )
+      cc (skip_ends 31 (to - at) (left - 1) (drop at bytes) (omega arith), rest_of 31 _ _, drop-drop 31 at bytes)
 
 -- ---- the mask of a window
 

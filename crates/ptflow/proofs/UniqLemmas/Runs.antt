@@ -306,8 +306,7 @@ module _ {job : Uniq} {first block rest : List ℕ} {start count : ℕ} {line : 
 
     pub running_unended : is'.write_failed ≡ true
         → RunsFailed job (run_of first start) (complete_lines job.terminator block) was is'
-    running_unended fault =
-        search (steps_failed, rw so_far.waits.all at (wrote_then _ _ _ so_far.waits.wrote wrote))
+    running_unended fault = search (steps_failed, rw so_far.waits.all at (wrote_then _ _ _ so_far.waits.wrote wrote))
 
 -- ---- the current run
 

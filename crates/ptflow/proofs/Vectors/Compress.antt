@@ -121,11 +121,7 @@ row_selects _ row v wide long is =
 pub selected_stored : (at n : ℕ) (into lanes : List ℕ) → length lanes ≡ 16 → n ≤ 16 → at + 16 ≤ length into
     → take (at + n) (put_chunk at into lanes) ≡ take at into ++ take n lanes
 selected_stored at n into lanes long few room =
-    grind (
-      usual,
-      take_more_put_chunk at into lanes (at + 16),
-      take-append-add (take at into) lanes n,
-    )
+    grind (usual, take_more_put_chunk at into lanes (at + 16), take-append-add (take at into) lanes n)
 
 -- ---- the row of a mask, index by index
 
@@ -190,13 +186,7 @@ module _ (flags : List Bool) (long : length flags ≡ 16) where
   low_half is = omega (arith, and_numeral, halves, mask_below _ front_long)
 
   pub high_half : {keep : ℕ} → keep ≡ mask_l flags → bit_and (keep / 256) 255 ≡ mask_l (drop 8 flags)
-  high_half is = omega (
-    arith,
-    and_numeral,
-    halves,
-    mask_below _ front_long,
-    mask_below _ back_long,
-  )
+  high_half is = omega (arith, and_numeral, halves, mask_below _ front_long, mask_below _ back_long)
 
   -- what is selected of the first eight lanes, and, after a rotation, of the last eight
   pub select_by_halves : (before v : List ℕ) → length v ≡ 16

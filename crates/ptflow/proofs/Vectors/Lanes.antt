@@ -108,8 +108,7 @@ pub one_range_more : (ranges : List ShiftRange) (i : ℕ) (default : ShiftRange)
     → i < length ranges
     → images ≡ map (shift_by_ranges (take i ranges)) v → deltas ≡ map (range_delta (get_or ranges i default)) v
     → zip2 (λ a b. (a + b) % 256) images deltas ≡ map (shift_by_ranges (take (i + 1) ranges)) v
-one_range_more _ i _ v room before is =
-    zip2_of_maps (λ a b. (a + b) % 256) _ _ v before is ∙ grind usual
+one_range_more _ i _ v room before is = zip2_of_maps (λ a b. (a + b) % 256) _ _ v before is ∙ grind usual
 
 -- ---- masks of lanes
 
@@ -260,8 +259,7 @@ pub record IsFilledTo (n : ℕ) (f : ℕ → List ℕ) (index : ℕ) (kept : Lis
 
 pub filled_next : {n : ℕ} {f : ℕ → List ℕ} {index : ℕ} {kept : List (List ℕ)} {v : List ℕ} → IsFilledTo n f index kept
     → index < n → v ≡ f index → length (f index) ≡ 16 → IsFilledTo n f (index + 1) (set kept index v)
-filled_next {f = f} {index} {kept} {v} filled room is size =
-    grind (usual, length-set, get_or-set_same, cases_eq)
+filled_next {f = f} {index} {kept} {v} filled room is size = grind (usual, length-set, get_or-set_same, cases_eq)
 
 module _ (rows : List ℕ) (found : List (List ℕ)) (count : ℕ) where
   abbrev pub odd : ℕ → ℕ
@@ -276,8 +274,7 @@ module _ (rows : List ℕ) (found : List (List ℕ)) (count : ℕ) where
     bits_long = length-map rows (λ row. not (eqb (bit_and row 1) 0)) ∙ long
 
     halved_long : (i : ℕ) → 2 * i < count → length (halved i) ≡ 16
-    halved_long i within =
-        grind (arith, length-sel_l, bits_long)
+    halved_long i within = grind (arith, length-sel_l, bits_long)
 
     pub halved_next : {n i second : ℕ} {kept : List (List ℕ)} → IsFilledTo n halved i kept → i < n → 2 * i < count
         → second ≡ odd i → IsFilledTo n halved (i + 1) (set kept i

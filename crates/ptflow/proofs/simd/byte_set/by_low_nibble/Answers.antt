@@ -8,5 +8,4 @@ pub swizzle : goal.swizzle
 swizzle c = nibbles_ok (λ b. b % 16) (λ b byte. omega arith) c.args.v (low_nibbles _ c.fits-v.0) c.fits-v
 
 pub returns : goal.returns
-returns c =
-    looked_up (λ b. b % 16) (λ b byte. omega arith) c.args.v (low_nibbles _ c.fits-v.0) c.fits-v _
+returns c = looked_up (λ b. b % 16) (λ b byte. omega arith) c.args.v (low_nibbles _ c.fits-v.0) c.fits-v _

@@ -6,8 +6,7 @@ use proofs.tools.cut.fields.copy_lines.Goals as goal
 use proofs.Passes.Exits.{ended_next}
 
 pub returns-then-first-to-clause-put : goal.returns-then-first-to-clause-put
-returns-then-first-to-clause-put g c =
-    grind (usual, ended_next)
+returns-then-first-to-clause-put g c = grind (usual, ended_next)
 
 pub returns-then-job-clause-put : goal.returns-then-job-clause-put
 returns-then-job-clause-put g c =

@@ -12,5 +12,4 @@ bytes-preserved-then-ends_word c =
     grind (usual, next_byte c.bytes.rest.now c.bytes.left (omega arith) (omega arith), c.bytes.invariant)
 
 pub returns : goal.returns
-returns c =
-    cc (nil_from_length c.bytes.rest.now (omega arith), suffix_none _, c.bytes.invariant, suffix_is _ _)
+returns c = cc (nil_from_length c.bytes.rest.now (omega arith), suffix_none _, c.bytes.invariant, suffix_is _ _)

@@ -11,8 +11,7 @@ returns-then-not-has_output g c =
     rw (current_run_is job _, sym c.has_output.ensures ∙ c.if-not-has_output.true) c.push.ensures.pushed
 
 pub returns-in_err-flush_with_count : goal.returns-in_err-flush_with_count
-returns-in_err-flush_with_count g c =
-    rw (current_run_is _ _) (search (rules, push_failed, push_past_failure))
+returns-in_err-flush_with_count g c = rw (current_run_is _ _) (search (rules, push_failed, push_past_failure))
 
 pub returns : goal.returns
 returns g c =
