@@ -11,9 +11,9 @@ use proofs.Common.{cut_fields, is_selected, AreSeparated, Interval, select_from,
 use proofs.Common.{output_from_cursor, min, Option, None, Some, is_some, flat_map, list_any, list_any_at, IsFirstByte}
 use proofs.Common.{line_if_not_found, unlines, IsLine, is_field_delimiter, cut_line, cut_lines, IsPrefix, ◌⊎◌, inl, inr}
 use proofs.Common.{unwrap_or, complete_lines, AreLines, line_before_terminator, complete_lines_cons, the_lines}
-use proofs.Common.{the_complete_lines, CopyLinesPost, the_lines_of_parts, CutOfParts, cases_lt, append_assoc, ◌∙◌}
+use proofs.Common.{the_complete_lines, CopyLinesPost, the_lines_of_parts, CutOfParts, cases_lt}
 use proofs.Common.{nth_later, nth_from, few_from, IsAfterNth}
-use proofs.CutLemmas.CutBytes.{rest_of, not_selected, select_first, select_slice, select_skip}
+use proofs.CutLemmas.CutBytes.{not_selected, select_first, select_slice, select_skip}
 use proofs.Passes.Exits.{line_split}
 use Rattle.ptlines.specs.declared.scan.MatchWindow.{MatchWindow}
 use specs.declared.tools.cut.fields.FieldCursor.{FieldCursor}
@@ -235,17 +235,6 @@ output_is_near start end was now out part rest copied room place =
       length-take-le start was room,
       length-take-le end now place,
     )
-
--- a slice of the line, which is the first `to` bytes, is copied after the output so far
-pub slice_put : (before rest : List ℕ) (first last to : ℕ) (bytes : List ℕ) {all after output : List ℕ}
-    → all ≡ before ++ output → output ≡ take (last - first) (drop first (take to bytes)) ++ rest → last ≤ to
-    → after ≡ before ++ take (last - first) (drop first bytes) → all ≡ after ++ rest
-slice_put before rest first last to bytes is output_is within copied =
-    let part = take (last - first) (drop first bytes) in
-    let same =
-    ap (take (last - first)) (rest_of _ to _) ∙ take-take (last - first) (to - first) (drop first bytes)
-    (omega arith) in
-    rw (copied, append_assoc before part rest, ← same, ← output_is) is
 
 -- ---- the lines of a text
 

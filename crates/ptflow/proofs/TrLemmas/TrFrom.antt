@@ -3,7 +3,7 @@
 use Rattle.ptflow.proofs
 use proofs.Common.{usual, ◌≡◌, ℕ, ◌-◌, not, Bool, false, List, [], ◌∷◌, ◌++◌, Option, None, Some, length, refl, ap}
 use proofs.Common.{arith, filter, slice_get, last_or, option_or, append-nil, map-append, filter-append, IsPrefix}
-use proofs.Common.{is_not_repeat, squeeze_after, tr, tr_decided, squeeze_from, tr_from, eq-eqb, squeeze, BeginsWith}
+use proofs.Common.{is_not_repeat, squeeze_after, tr_decided, squeeze_from, tr_from, eq-eqb, squeeze, BeginsWith}
 use proofs.Common.{Each1, Fits, w8, suc, ◌<◌, get_or, EndsWith}
 use proofs.Vectors.Lanes.{bytes_fit}
 use Rattle.ptlangs.specs.TrPlan.{ByteMap}

@@ -6,7 +6,7 @@ use proofs.Common.{◌≡◌, ℕ, zero, suc, ◌+◌, ◌-◌, ◌/◌, ◌^◌
 use proofs.Common.{length, map, take, drop, refl, sym, ◌∙◌, ap, arith, usual, slice_get, option_map_or, drop-drop}
 use proofs.Common.{is_blank, ends_word, word_ends, after_fields, ◌==◌, IsNth, count_by, from_bool, mask_l, chunk}
 use proofs.Common.{get_or, count_ones, ones-mask_l, sum_by-cons, bit_and, mask_l-lt, length-map, length-chunk, rules}
-use proofs.Common.{cases_lt, ⊎_elim, drop_all}
+use proofs.Common.{cases_lt, drop_all}
 use proofs.CutLemmas.CutBytes.{rest_of}
 use Rattle.ptflow.specs.Private.Uniq.FieldEnds.{field_ends}
 use lib.Bits.{and_step, and_zero_r}
@@ -103,7 +103,8 @@ nth_end (suc j) (suc (suc m)) n k (b ∷ []) h = grind (arith, suffix_none)
 nth_end (suc j) (suc (suc m)) n zero (b ∷ c ∷ bytes) (within, passes, counted) = grind arith
 nth_end (suc j) (suc (suc m)) n (suc k) (b ∷ c ∷ bytes) (within, passes, counted) =
     let m' = count_by is_set (take k (ends_in j (c ∷ bytes))) in
-    step n m' (c ∷ take m bytes) _ (sym counted ∙ counted_one (ends_word b (c ∷ bytes)) (take k (ends_in j (c ∷ bytes))))
+    step n m' (c ∷ take m bytes) _
+    (sym counted ∙ counted_one (ends_word b (c ∷ bytes)) (take k (ends_in j (c ∷ bytes))))
     ∙ nth_end j (suc m) m' k (c ∷ bytes) (omega arith, passes, refl)
 
 none_after : (t : Bool) (n : ℕ) → cond t (suffix_at n []) (suffix_at (suc n) []) ≡ []

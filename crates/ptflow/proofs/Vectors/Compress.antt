@@ -10,7 +10,7 @@ use proofs.Common.{take-map, take-append-le, drop-append-le, length-take-le, tak
 use proofs.Common.{get_or-range_with_len, and_numeral, not, eqb, filter, append-nil, take-append-drop, take-add, zip2}
 use proofs.Common.{drop-drop, drop_all, length-chunk, length-zip2, bit_and, keep_flags, kept_bytes, FilterPre, bit_or}
 use proofs.Common.{rules, slice_index_or, sym, ◌∙◌, ◌-◌, take_all, take-take, drop-take, copied_prefix, mask_append}
-use proofs.Common.{le_or_l, le_or_r, IsCompressTable, IsCompressRow, select_by, true_indices}
+use proofs.Common.{le_or_l, le_or_r, IsCompressTable, IsCompressRow, select_by}
 pub use proofs.Vectors.Lanes.{shuffle_result}
 
 -- ---- items that are selected by flags

@@ -7,9 +7,9 @@ use Rattle.std.proofs.lemmas
 use proofs.Common.{is_byte, usual, ◌≡◌, ℕ, ◌+◌, ◌<◌, ◌≤◌, ◌%◌, Bool, false, List, [], ◌∷◌, ◌++◌, Option, map, take}
 use proofs.Common.{drop, length, get_or, replicate, cond, refl, sym, ◌∙◌, ap, arith, w8, Fits, sum_by, zero, suc}
 use proofs.Common.{slice_get, option_map, sel_l, zip2, top, Each1, take-add, false≢true, map-append, tops_compared}
-use proofs.Common.{zip2_splat, zip2_of_maps, splat_is_map, Each1-from_get_or, stretch_delta, pos, negsuc, filter}
+use proofs.Common.{zip2_splat, zip2_of_maps, splat_is_map, Each1-from_get_or, stretch_delta, filter}
 use proofs.Common.{mask_of, cast_unsigned, true, set, take_more_set, take-set, append-nil, add-one, sum_by-append}
-use proofs.Common.{sum_by-cons, range_delta, shift_by_ranges, ◌*◌, ◌/◌, ◌^◌, ◌&&◌, ◌||◌, ltb, eqb, ◌≢◌, ⊎_elim, bit_or}
+use proofs.Common.{sum_by-cons, range_delta, ◌*◌, ◌/◌, ◌^◌, ◌&&◌, ◌||◌, ltb, eqb, ◌≢◌, ⊎_elim, bit_or}
 use proofs.Common.{bit_and, cast_signed, bit_at, from_bool, swz_l, SwzOk, SwzOk-from_below, pick_l, get_or-drop, ◌-◌}
 use proofs.Common.{map-map, and_mask, lt-ltb, le-ltb, cases_eq, cases_lt, pow_pos, length-map, set-get_or}
 use proofs.Common.{get_or-set_same, table_has, set_has, IsSetOf, All, not, length-set, get_or-chunk, get_or-map, chunk}
@@ -104,12 +104,6 @@ all_stretches n [] none = omega arith
 all_stretches zero (s ∷ ss) none = absurd (false≢true (sym none))
 all_stretches (suc n) (s ∷ ss) none = grind (arith, all_stretches n ss none)
 
-pub one_range_more : (ranges : List ShiftRange) (i : ℕ) (default : ShiftRange) (v : List ℕ) {images deltas : List ℕ}
-    → i < length ranges
-    → images ≡ map (shift_by_ranges (take i ranges)) v → deltas ≡ map (range_delta (get_or ranges i default)) v
-    → zip2 (λ a b. (a + b) % 256) images deltas ≡ map (shift_by_ranges (take (i + 1) ranges)) v
-one_range_more _ i _ v room before is = zip2_of_maps (λ a b. (a + b) % 256) _ _ v before is ∙ grind usual
-
 -- ---- masks of lanes
 
 abbrev pub lanes_of : List Bool → List ℕ
@@ -168,14 +162,6 @@ bit_of {half} small = grind arith
 all_or_none : (row k : ℕ) → eqb (bit_and row (2 ^ k)) (2 ^ k) ≡ eqb (bit_at row k) 1
 all_or_none row k = grind (arith, and_pow, pow_pos)
 
-byte_tested : (set : ByteSet) (b : ℕ) → b < 256
-    → cast_signed w8
-    (cond
-    (eqb (bit_and (cond (ltb b 128) (get_or set.low (b % 16) 0) (get_or set.high (b % 16) 0))
-    (get_or bits_in_order (b / 16) 0)) (get_or bits_in_order (b / 16) 0)) 255 0)
-    ≡ cond (set_has set b) (negsuc 0) (pos 0)
-byte_tested set b byte = grind (arith, bit_of, all_or_none)
-
 pub tested : (set : ByteSet) (v : List ℕ) {low high bit : List ℕ} → length v ≡ 16 → Each1 (Fits w8) v
     → low ≡ map (λ b. get_or set.low (b % 16) 0) v → high ≡ map (λ b. get_or set.high (b % 16) 0) v
     → bit ≡ map (λ b. get_or bits_in_order (b / 16) 0) v
@@ -186,7 +172,7 @@ tested set v long fit el eh eb =
     let rows = sel_maps _ _ _ v (tests_are ltb _ v 128 long (sym (map-id v))) el eh in
     ap (map (cast_signed w8)) (zip2_of_maps (λ a b. cond (eqb a b) 255 0) _ _ v (zip2_of_maps bit_and _ _ v rows eb) eb)
     ∙ map-map (cast_signed w8) _ v
-    ∙ bytes_same _ _ (byte_tested set) v fit
+    ∙ bytes_same _ _ (λ b byte. grind (arith, bit_of, all_or_none)) v fit
 
 -- ---- a table that is filled flag by flag
 
@@ -204,10 +190,6 @@ module _ (table : List ℕ) {n : ℕ} (long : length table ≡ 16) (within : n <
   abbrev put : ℕ
   put = bit_or old (1 * 2 ^ (n / 16) % 256)
 
-  set_here : table_has (flags_set table n 1) n ≡ true
-  set_here =
-      cc (get_or-set_same table (n % 16) put 0 (omega arith), same_bit, bit_at_set_same w8 old (n / 16) (omega arith))
-
   set_there : {b : ℕ} → b < 128 → b ≢ n → table_has (flags_set table n 1) b ≡ table_has table b
   set_there {b} byte other = ⊎_elim
       (λ row. cc (
@@ -219,7 +201,13 @@ module _ (table : List ℕ) {n : ℕ} (long : length table ≡ 16) (within : n <
   filled_is : (flag : Bool) {b : ℕ} → b < 128
       → table_has (flags_set table n (from_bool flag)) b
       ≡ cond (eqb b n) (flag || table_has table n) (table_has table b)
-  filled_is true {b} byte = grind (arith, set_here, set_there)
+  filled_is true {b} byte = grind (
+    arith,
+    set_there,
+    get_or-set_same table (n % 16) put 0 (omega arith),
+    same_bit,
+    bit_at_set_same w8 old (n / 16) (omega arith),
+  )
   filled_is false {b} byte = grind (arith, or_zero_r, set-get_or)
 
 -- the table has the flags of the first n bytes
@@ -273,16 +261,13 @@ module _ (rows : List ℕ) (found : List (List ℕ)) (count : ℕ) where
     bits_long : length (map (λ row. not (eqb (bit_and row 1) 0)) rows) ≡ 16
     bits_long = length-map rows (λ row. not (eqb (bit_and row 1) 0)) ∙ long
 
-    halved_long : (i : ℕ) → 2 * i < count → length (halved i) ≡ 16
-    halved_long i within = grind (arith, length-sel_l, bits_long)
-
     pub halved_next : {n i second : ℕ} {kept : List (List ℕ)} → IsFilledTo n halved i kept → i < n → 2 * i < count
         → second ≡ odd i → IsFilledTo n halved (i + 1) (set kept i
         (sel_l (map (top 7) (zip2 (λ a b. cond (not (eqb a b)) 255 0) (zip2 bit_and rows (replicate 16 1))
         (replicate 16 0))) (get_or found second []) (get_or found (2 * i) [])))
     halved_next filled room within is =
         let bits = tests_are (λ a b. not (eqb a b)) _ rows 0 long (zip2_splat bit_and rows 16 1 long) in
-        filled_next filled room (cc is) (halved_long _ within)
+        filled_next filled room (cc is) (grind (arith, length-sel_l, bits_long))
 
     pub halved_lane : (lane : ℕ) → lane < 16 → get_or rows lane 0 < count
         → get_or (halved (get_or rows lane 0 / 2)) lane 0 ≡ lane_of found rows lane

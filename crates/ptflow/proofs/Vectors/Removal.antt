@@ -1,9 +1,9 @@
 -- The mask of the bytes that a filter removes of 64, as four of 16 bits, and that of the bytes that it keeps.
 use Rattle.ptflow.proofs
 use Rattle.std.proofs.lemmas
-use proofs.Common.{sym, arith, rules, ◌≡◌, ℕ, ◌+◌, ◌-◌, ◌*◌, ◌%◌, ◌^◌, ◌<◌, ◌≤◌, Bool, not, List, ℤ, [], ◌∷◌, ◌++◌, map}
+use proofs.Common.{sym, arith, ◌≡◌, ℕ, ◌+◌, ◌-◌, ◌*◌, ◌%◌, ◌^◌, ◌<◌, ◌≤◌, Bool, not, List, ℤ, [], ◌∷◌, ◌++◌, map}
 use proofs.Common.{length, refl, ◌∙◌, chunk, mask_l, cond, length-chunk, length-map, bit_or, bit_and, map-append, zip2}
-use proofs.Common.{top, eqb, cast_unsigned, w8, mask_of, keep_flags, length-zip2, mask_l-mod, mask_l-lt, length-append}
+use proofs.Common.{top, eqb, cast_unsigned, w8, mask_of, keep_flags, mask_l-mod, length-append}
 use proofs.Common.{take, drop, removed_mask, select_by, w64, one_shl, mask_append}
 use proofs.Vectors.Compress.{all_but_one, all_selected, chunk_parts, in_four, kept_at, pairs_long, select_kept}
 use Rattle.std.specs.Int.Count.{count_trailing_zeros}
@@ -21,9 +21,6 @@ module _ (flags : List Bool) {m : ℕ} (is : m ≡ removed_mask flags) where
   module _ (long : length flags ≡ 16) where
     pub mask_16 : m < 65536
     mask_16 = omega (arith, full long)
-
-    pub kept_16 : 65535 - m ≡ mask_l flags
-    kept_16 = omega (arith, full long)
 
   module _ (long : length flags ≡ 64) where
     -- all of 64 are kept, if none is removed
@@ -115,19 +112,16 @@ module _ (test : ℕ → Bool) (before bytes : List ℕ) (paired : length bytes 
         → ((flags : List Bool) → length flags ≡ 16 → 65535 - m ≡ mask_l flags
         → is ≡ was ++ select_by flags (chunk k 16 bytes)) → is ≡ was ++ kept_at test before bytes k 16
     kept_by m was is masked packed =
-        rw select_kept at (packed _ (flags_long k 16 room) (kept_16 _ masked (flags_long k 16 room)))
-
-  flags_two : (k n m : ℕ) → k + n + m ≤ length bytes
-      → flags_of_chunk k (n + m) ≡ flags_of_chunk k n ++ flags_of_chunk (k + n) m
-  flags_two k n m room = grind (arith, chunk_parts, flags_append, length-chunk)
+        rw select_kept at (packed _ (flags_long k 16 room) (omega (arith, full _ masked (flags_long k 16 room))))
 
   module _ (at : ℕ) (room : at + 64 ≤ length bytes) {a b c d : ℕ} (ea : a ≡ removed_mask (flags_of_chunk at 16))
       (eb : b ≡ removed_mask (flags_of_chunk (at + 16) 16)) (ec : c ≡ removed_mask (flags_of_chunk (at + 32) 16))
       (ed : d ≡ removed_mask (flags_of_chunk (at + 48) 16)) where
     all_is : or_four a b c d ≡ removed_mask (flags_of_chunk at 64)
-    all_is = rw (in_four flags_of_chunk (length bytes) flags_two at room) (four_masks _ _ _ _
-        (flags_long at 16 (omega arith)) (flags_long (at + 16) 16 (omega arith)) (flags_long (at + 32) 16 (omega arith))
-        (flags_long (at + 48) 16 (omega arith)) ea eb ec ed)
+    all_is =
+        rw (in_four flags_of_chunk (length bytes) (λ k n m low. grind (arith, chunk_parts, flags_append, length-chunk)) at)
+        (four_masks _ _ _ _ (flags_long at 16 (omega arith)) (flags_long (at + 16) 16 (omega arith))
+        (flags_long (at + 32) 16 (omega arith)) (flags_long (at + 48) 16 (omega arith)) ea eb ec ed)
 
     pub first_removed : 0 < or_four a b c d → count_trailing_zeros 64 (or_four a b c d) < 64
     first_removed = first_of _ all_is (flags_long at 64 room)

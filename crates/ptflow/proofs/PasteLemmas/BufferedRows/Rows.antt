@@ -16,6 +16,7 @@ pub use proofs.Common.{take-append-le, RowsTaken, CopyColumnsPost, CopyRowsPost,
 pub use proofs.Passes.Exits.{lines_none, lines_are_given, lines_more, eof_gives_nothing}
 pub use Rattle.std.proofs.Math.Bool.{or-true, or-false}
 pub use Grid.*
+use Rattle.std.proofs.Common.{arith}
 
 pub AreLines-append : (end : ℕ) (xs ys : Lines) → AreLines end xs → AreLines end ys → AreLines end (xs ++ ys)
 AreLines-append end [] ys p q = q

@@ -1,7 +1,7 @@
 -- `cut` by fields is a line tool, and `cut` by bytes a block tool. Setting the terminator does not change the input,
 -- so the contract of each loop carries over.
 use Rattle.ptflow.proofs
-use proofs.Common.{◌++◌, refl, sym, ◌∙◌, ap, cond, cut_job, cut_tool, cut_list_from, Reader, arith}
+use proofs.Common.{refl, sym, ◌∙◌, ap, cond, cut_job, cut_tool, Reader, arith}
 use proofs.CutLemmas.CutBytes.{rest_is_decided, made_is, rest_of_all}
 use proofs.Passes.Exits.{pass_unchanged, pass_set, ready_set}
 use proofs.tools.cut.cut.Goals as goal

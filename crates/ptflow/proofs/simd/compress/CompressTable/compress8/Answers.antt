@@ -1,7 +1,7 @@
 -- A row has indices below 16, so the shuffle is defined. It moves the selected lanes to the front of what is stored.
 use Rattle.ptflow.proofs
-use proofs.Common.{◌∙◌, ◌++◌, [], ap, take, refl, slice_index_or, arith, w8, length-swz_l}
-use proofs.Common.{SwzOk-from_below, IsCompressRow}
+use proofs.Common.{◌∙◌, ◌++◌, [], ap, take, refl, slice_index_or, arith, w8, length-swz_l, SwzOk-from_below}
+use proofs.Common.{IsCompressRow}
 use proofs.Vectors.Compress.{few_in_row, length-flags_of, row_lanes, row_of_mask, row_selects, selected_stored}
 use proofs.simd.compress.CompressTable.compress8.Goals as goal
 

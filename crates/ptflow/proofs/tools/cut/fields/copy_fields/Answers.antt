@@ -1,11 +1,12 @@
 -- The copied bytes are not longer than the line, so there is room for one more slice.
 use Rattle.ptflow.proofs
 use proofs.Common.{◌+◌, ◌-◌, ◌≤◌, ◌++◌, take, drop, refl, ◌∙◌, ap, arith, length-take-le, length-drop, is_selected}
-use proofs.Common.{cut_job, cut_fields, output_from_cursor, usual}
-use proofs.CutLemmas.Fields.{selected_remaining, output_is_short, output_is_near, offset_start, slice_put}
+use proofs.Common.{cut_job, cut_fields, output_from_cursor, usual, append_assoc, take-take}
+use proofs.CutLemmas.Fields.{selected_remaining, output_is_short, output_is_near, offset_start}
 use proofs.tools.cut.fields.copy_fields.Given as given
 use proofs.tools.cut.fields.copy_fields.Goals as goal
 use Rattle.ptflow.proofs.tools.cut.fields.copy_fields.Goals.{In-Some}
+use proofs.CutLemmas.CutBytes.{rest_of}
 
 pub slices-init : goal.slices-init
 slices-init g c =
@@ -46,8 +47,10 @@ slices-preserved g c =
     let long = length-take-le to bytes (omega arith) in
     let rest = output_from_cursor c.args.delimiters.now.needle (take to bytes) c.next_slice.new.self in
     record {
-      copied = slice_put (take loop.end loop.room) rest first c.in-Some.slice.end to bytes loop.invariant.copied
-          next.output (omega arith) c.copy_slice.ensures.copied;
+      copied =
+          let size = c.in-Some.slice.end - first in
+          let same = ap (take size) (rest_of _ to _) ∙ take-take size (to - first) (drop first bytes) (omega arith) in
+          rw (c.copy_slice.ensures.copied, append_assoc, ← same, ← next.output) loop.invariant.copied;
       cursor = next.moved;
       window = c.in-Some.ensures.window;
       low = omega arith;

@@ -23,7 +23,8 @@ returns-clause-copied c =
     ] in
     ap (λ n. select_from (is_selected list) (n + 1) bytes) (sym zero) in
     let up_to : (start : ℕ) → start ≤ count → min count c.args.self.now.shuffles.last ≤ start
-    → c.if-line-gt0.value ≡ false → was ++ select_from (is_selected list) 1 (take start (drop line.start c.args.block.now)) ≡ was ++ selected
+    → c.if-line-gt0.value ≡ false
+    → was ++ select_from (is_selected list) 1 (take start (drop line.start c.args.block.now)) ≡ was ++ selected
     = λ start upto reaches here.
     ap (◌++◌ was) (none_later _ _ (λ k later before. c.args.self.now.are_shuffles.last k (omega arith)) upto
     (omega (arith, length-drop line.start c.args.block.now)) ∙ begins here) in

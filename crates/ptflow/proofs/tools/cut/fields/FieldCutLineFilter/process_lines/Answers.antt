@@ -1,8 +1,8 @@
 -- The output for the lines of the block is pushed at the end, when no complete line is left; if that fails, a prefix
 -- of it is.
 use Rattle.ptflow.proofs
-use proofs.Common.{rules, ℕ, List, ◌+◌, ◌≤◌, length, drop, ◌++◌, take, ◌∙◌, ap, arith, length-drop, take_rest, IsLine}
-use proofs.Common.{take_at, complete_lines, line_if_not_found, complete_lines_none, cut_job, cut_lines, append-nil}
+use proofs.Common.{rules, ℕ, List, ◌+◌, ◌≤◌, length, drop, take, ◌∙◌, arith, length-drop, take_rest}
+use proofs.Common.{take_at, line_if_not_found, complete_lines_none, cut_job, append-nil}
 use proofs.Common.{usual}
 use proofs.Passes.Exits.{on_err, taken_more}
 use proofs.tools.cut.fields.FieldCutLineFilter.process_lines.Goals as goal
