@@ -109,7 +109,6 @@ module _ {all : List Interval} {before count : ℕ} (bytes : List ℕ) {was : Li
         ≡ was ++ select_from (is_selected all) (before + 1) piece
     next = grind (usual, select_first)
 
-    -- the interval ends before the piece
     pub copied_none : r.last ≤ before → CopyInvariant all (i + 1) before piece was is start at
     copied_none passed =
         let none = select_none (is_within r) (before + 1) piece (λ n from to. above r n (omega arith)) in
@@ -197,7 +196,6 @@ module _ (job : Cut) (by_bytes : job.fields ≡ false) where
   abbrev end : ℕ
   end = job.terminator
 
-  -- each line has one output line
   pub made_is : (ls : List (List ℕ)) → unlines end (flat_map (cut_line job) ls) ≡ cut_text end job.selected ls
   made_is ls = ap (unlines end) (one_each ls)
     where
@@ -215,10 +213,7 @@ module _ (job : Cut) (by_bytes : job.fields ≡ false) where
       -- with one terminator more, the piece is a line too
       let all_lines : lines end (given ++ end ∷ []) ≡ (complete_lines end given) ++ p.piece ∷ [] =
       grind (usual, lines_of_unlines, lines_cons) in
-      record {
-        rest = select_from job.selected 1 p.piece;
-        is = grind (usual, rest_of_all, made_is);
-      }
+      record { rest = select_from job.selected 1 p.piece; is = grind (usual, rest_of_all, made_is) }
 
 -- ---- shuffles: a row has the selected indices in order, and the counts tell how many a piece of each length has
 
@@ -247,8 +242,6 @@ module _ (selected : ℕ → Bool) where
       ++ select_from selected (1 + n) (range_with_len n m)
   picked_parts n m = grind (arith, range_parts, select_append, length-range_with_len)
 
-  -- ---- the row and the counts, index by index
-
   pub record PickBegun (index count : ℕ) (row counts : List ℕ) : Type 0 where
     pub is : count ≡ length (selected_indices selected index)
     pub few : count ≤ index
@@ -270,8 +263,6 @@ module _ (selected : ℕ → Bool) where
   none_later {start} {count} xs past upto within =
       let whole : start + (count - start) ≡ count = omega arith in
       grind (arith, select_none, length-take, append-nil, select_append, take-add)
-
-  -- ---- the bytes that the row moves to the front
 
   module _ {piece : PieceShuffle} (is : IsPieceShuffle selected piece) where
     prefix_indices : {count : ℕ} → count ≤ 16
@@ -303,8 +294,6 @@ none_after (one ∷ more) low (suc n) {last} {index} separated few is later =
     let (none, less) = none_after more (one.last + 1) n separated.2 (omega arith) is later in
     grind arith
 
--- ---- a line, piece by piece
-
 -- the bytes after the first `size` ones were copied after those
 pub rest_copied : (selected : ℕ → Bool) (bytes was : List ℕ) (before size rest count : ℕ) {is is' : List ℕ}
     → before ≡ size → size + rest ≡ count → count ≤ length bytes
@@ -316,7 +305,6 @@ rest_copied selected bytes was before size rest count same whole within first th
     let parts = take-add size rest bytes in
     grind (arith, append_assoc, select_append selected 1 (take size bytes) (take rest (drop size bytes)))
 
--- positions that are counted from a later byte on
 select_later : (selected : ℕ → Bool) (start n : ℕ) (xs : List ℕ)
     → select_from (selected_after selected start) n xs ≡ select_from selected (start + n) xs
 select_later _ _ n [] = refl

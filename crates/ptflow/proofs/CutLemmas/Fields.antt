@@ -99,7 +99,6 @@ module _ (d : ℕ) (bytes : List ℕ) {to n : ℕ} {old new : MatchWindow} (with
 
 -- ---- the selected fields of a line, in one pass
 
--- the cursor at the start of a line
 module _ (cursor : FieldCursor) (none : cursor.passed ≡ 0) where
   pub selected_remaining : (job : Cut) {d : ℕ} (line : List ℕ) → d ≡ job.delimiter
       → is_selected cursor.left.now ≡ job.selected → cut_fields job line ≡ output_from_cursor d line cursor
@@ -114,7 +113,6 @@ module _ (d : ℕ) (line : List ℕ) (cursor : FieldCursor) where
   none_selected none = grind arith
 
   module _ (w : IsFieldCursor d line cursor) (fits : cursor.window.at ≤ length line) (within : 0 < length all) where
-    -- the next interval, and those after it
     abbrev r : Interval
     r = get_or all 0 (record { first = 0; last = 0 })
 
@@ -226,17 +224,8 @@ pub output_is_near : (start end : ℕ) (was now out part rest : List ℕ) → ta
     ++ (part ++ rest)
     → start ≤ length was → end ≤ length now → end + length part ≤ start + length out
 output_is_near start end was now out part rest copied room place =
-    omega (
-      arith,
-      ap length copied,
-      length-append (take start was) out,
-      length-append (take end now) (part ++ rest),
-      length-append part rest,
-      length-take-le start was room,
-      length-take-le end now place,
-    )
-
--- ---- the lines of a text
+    let size = simp length-append at (ap length copied) in
+    omega (arith, size, length-take-le start was room, length-take-le end now place)
 
 pub none_of : (d : ℕ) (line : List ℕ) → IsLine d line → list_any (λ b. b == d) line ≡ false
 none_of d [] free = refl
@@ -266,8 +255,6 @@ module _ (job : Cut) where
   pub cut_sure : (ls : List (List ℕ)) (pushed : List ℕ) → cut_lines job (ls ++ []) ≡ pushed ++ cut_lines job []
       → IsPrefix (cut_lines job ls) pushed
   cut_sure ls _ on = grind (arith, append-nil)
-
--- ---- lines before others
 
 eof-append : (end : ℕ) (ls : List (List ℕ)) (bytes : List ℕ) → AreLines end ls
     → complete_lines end (unlines end ls ++ bytes) ≡ ls ++ complete_lines end bytes
@@ -301,8 +288,6 @@ module _ (job : Cut) (by_fields : job.fields ≡ true) where
   lines_dropped : job.only ≡ true → (ls : List (List ℕ)) → AreLines job.delimiter ls → flat_map (cut_line job) ls ≡ []
   lines_dropped only [] free = refl
   lines_dropped only (l ∷ ls) free = search (lines_dropped only ls free.1, of_none, none_of)
-
--- ---- the first lines of a block
 
 module _ (job : Cut) (by_fields : job.fields ≡ true) {end : ℕ} (same : end ≡ job.terminator) (bytes : List ℕ) (to : ℕ)
     (first : IsFirstByte (is_byte end) bytes (Some to)) where

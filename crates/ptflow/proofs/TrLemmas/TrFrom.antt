@@ -40,8 +40,6 @@ last_is last (b ∷ bytes) =
     let less : length (b ∷ bytes) - 1 ≡ length bytes = omega arith in
     cc (at_end b bytes, some_last last b bytes)
 
--- ---- a block
-
 module _ (t : ByteMap) where
   pub front_on : (last : Option ℕ) (block rest : List ℕ)
       → tr_from t last (block ++ rest) ≡ tr_from t last block ++ tr_from t (last_or last (tr_from t last block)) rest
@@ -55,10 +53,7 @@ module _ (t : ByteMap) where
   pub rest_decided : (given pushed : List ℕ) (now : Option ℕ)
       → ((rest : List ℕ) → tr_from t None (given ++ rest) ≡ pushed ++ tr_from t now rest)
       → IsPrefix (tr_decided t (record { bytes = given; eof = false })) pushed
-  rest_decided given pushed now on = record {
-    rest = [];
-    is = grind (usual, on [], append-nil given);
-  }
+  rest_decided given pushed now on = record { rest = []; is = grind (usual, on [], append-nil given) }
 
 -- ---- nothing is deleted or squeezed
 
@@ -110,8 +105,6 @@ tr_after_byte m byte a b (front, ends) kept unsqueezed = grind (usual, tr_of_par
 pub tr_meets_twice : TrMeetsTwice
 tr_meets_twice m byte a b rest is (front, ends) begins =
     grind (arith, front_on m None a b, last_after None front byte, eq-eqb)
-
--- ---- tests that agree on bytes
 
 same_after : (p q : ℕ → Bool) → ((b : ℕ) → b < 256 → p b ≡ q b) → (last : ℕ) (bytes : List ℕ) → Each1 (Fits w8) bytes
     → squeeze_after p last bytes ≡ squeeze_after q last bytes

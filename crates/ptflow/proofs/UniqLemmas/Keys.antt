@@ -48,8 +48,6 @@ pub suffix_is : (n : ℕ) (line : List ℕ) → suffix_at n line ≡ after_field
 unfolding from_end
 suffix_is = grind (arith, suffix_zero, from_end_is)
 
--- ---- byte by byte
-
 pub next_byte : (rest : List ℕ) (left : ℕ) → 0 < left → 0 < length rest
     → suffix_at left rest ≡ cond (ends_word (get_or rest 0 0) (drop 1 rest)) (suffix_at (left - 1) (drop 1 rest))
     (suffix_at left (drop 1 rest))
@@ -62,7 +60,6 @@ next_byte _ _ some more = grind arith
 abbrev numbers : List Bool → List ℕ
 numbers flags = map from_bool flags
 
--- the test of a number
 abbrev pub is_set : ℕ → Bool
 is_set b = b == 1
 
@@ -132,8 +129,6 @@ skip_ends (suc j) (suc (suc m)) n (b ∷ c ∷ bytes) few =
 range_from : (bytes : List ℕ) (at to : ℕ) → take (to - min at to) (drop (min at to) bytes)
     ≡ take (to - at) (drop at bytes)
 range_from _ at to = grind (arith, cases_lt at to)
-
--- ---- by the mask of a window
 
 module _ (bytes : List ℕ) {ends : ℕ} (is : ends ≡ mask_l (field_ends 31 bytes)) where
   as_numbers : ends ≡ mask_l (map is_set (ends_in 31 bytes))

@@ -52,14 +52,10 @@ module _ (job : Uniq) where
   runs_are line [] = refl
   runs_are line (l ∷ ls) = grind (arith, onto_first_run, first, runs_are l ls)
 
-  -- ---- one line more
-
   pub runs_after_next : (run : Run) (line : List ℕ) (more : List (List ℕ))
       → (nat_lt 0 run.count && is_same job run.line line) ≡ false
       → runs_after job run (line ∷ more) ≡ current_run run ++ runs_after job (run_of line 1) more
   runs_after_next run line more turns = grind (arith, runs_are line more)
-
-  -- ---- the output of runs
 
   pub entries-append : (xs ys : List Run) → output_of job (xs ++ ys) ≡ output_of job xs ++ output_of job ys
   entries-append xs ys = grind usual
@@ -67,8 +63,6 @@ module _ (job : Uniq) where
 pub current_run_is : (job : Uniq) (run : Run)
     → output_of job (current_run run) ≡ run_output job.show run.count (run.line ++ job.terminator ∷ [])
 current_run_is job run = grind usual
-
--- ---- all runs but the last
 
 init_push : (rs : List Run) (run : Run) → init (rs ++ run ∷ []) ≡ rs
 init_push [] run = refl
@@ -176,12 +170,10 @@ module _ {job : Uniq} {before after : Run} {ls : List (List ℕ)} {passed : List
         → runs_after job before ((ls ++ line ∷ []) ++ more) ≡ passed ++ runs_after job after (line ∷ more)
     one_more more = cc (append_assoc ls (line ∷ []) more, steps.on (line ∷ more))
 
-    -- one line more, of the current run
     pub steps_more : (nat_lt 0 after.count && is_same job after.line line) ≡ true
         → RunSteps job before (run_of after.line (after.count + 1)) (ls ++ line ∷ []) passed
     steps_more same = grind (usual, one_more, steps)
 
-    -- one that ends it
     pub steps_next : (nat_lt 0 after.count && is_same job after.line line) ≡ false
         → RunSteps job before (run_of line 1) (ls ++ line ∷ []) (passed ++ current_run after)
     steps_next other = grind (usual, one_more, runs_after_next)
@@ -298,7 +290,6 @@ module _ {job : Uniq} {first block rest : List ℕ} {start count : ℕ} {line : 
       runs_loop_failed wrote fault = steps_failed steps (search (entries, pending_pushed))
           _ (front_more so_far.lies at found).lines fault
 
-  -- no complete line is left
   module _ (none : IsLine job.terminator rest) {is' : Output}
       (wrote : PushEffect is is' (bytes_in_range block pending)) where
     pub all_lines : complete_lines job.terminator block ≡ so_far.front
@@ -307,8 +298,6 @@ module _ {job : Uniq} {first block rest : List ℕ} {start count : ℕ} {line : 
     pub running_unended : is'.write_failed ≡ true
         → RunsFailed job (run_of first start) (complete_lines job.terminator block) was is'
     running_unended fault = search (steps_failed, rw so_far.waits.all at (wrote_then _ _ _ so_far.waits.wrote wrote))
-
--- ---- the current run
 
 -- The first of two slots may hold the first line of the current run, which the decided output leaves out.
 pub uniq_line_tool : {S : Type 0} (job : Uniq) (run : S → CurrentRun) (start : S) → (run start).count ≡ 0
@@ -408,7 +397,6 @@ module _ (job : Uniq) (taken : List ℕ → Bool) where
   all_runs P [] all = tt
   all_runs P (x ∷ ls) (first, others) = grind (arith, all_runs P ls others)
 
-  -- a line whose key is not in the part
   onto_dropped : (x : List ℕ) (rs : List Run) → line_taken x ≡ false
       → filter run_taken (cons_run job x rs) ≡ filter run_taken rs
   onto_dropped = grind (arith, bytes_eq-Decides)

@@ -92,8 +92,6 @@ pub mask_of_flags : (n m : ℕ) → m < 2 ^ n → mask_l (flags_of n m) ≡ m
 mask_of_flags zero m low = omega arith
 mask_of_flags (suc n) m low = grind (arith, mask_of_flags n (m / 2))
 
--- ---- lanes by their indices
-
 pub row_lanes : (row : List ℕ) → All (λ index. index < 16) row → Each1 (λ index. index < 16) row
 row_lanes row lanes = Each1-from_get_or (λ index. index < 16) row 0 (λ i low. lanes i 0 low)
 
@@ -158,12 +156,7 @@ row_complete {count} {row} {flags} long masked begun =
     let all =
     begun.indices flags long masked
     ∙ (λ i. select_by (take_all 8 flags (omega arith) i) (range_with_len 0 (sym long i))) in
-    record {
-      indices = grind (usual, all);
-      long = grind usual;
-      lanes = grind usual;
-      count = grind usual;
-    }
+    grind (usual, all)
 
 pub ruleset row_steps = (row_next, row_complete)
 
@@ -249,7 +242,6 @@ module _ (test : ℕ → Bool) where
   kept_self [] = refl
   kept_self (b ∷ bytes) = grind (arith, kept_self bytes)
 
-  -- all bytes are kept if none is equal to the one that it is compared with
   all_kept : (before bytes : List ℕ) → length before ≡ length bytes → mask_l (zip2 eqb before bytes) ≡ 0
       → kept_bytes test before bytes ≡ bytes
   all_kept [] [] same none = refl
@@ -282,7 +274,6 @@ module _ (test : ℕ → Bool) where
       kept_none k room = all_kept _ _ (same_length k 16 room)
 
       module _ (at : ℕ) (room : at + 64 ≤ length bytes) where
-        -- what is kept of each vector in turn is what is kept of all
         pub kept_in_four : (t : List ℕ) {a b c d : List ℕ} → a ≡ t ++ kept_at at 16 → b ≡ a ++ kept_at (at + 16) 16
             → c ≡ b ++ kept_at (at + 32) 16 → d ≡ c ++ kept_at (at + 48) 16 → d ≡ t ++ kept_at at 64
         kept_in_four t ea eb ec ed = grind (arith, append_assoc, (in_four kept_at (length bytes) kept_two at room))
@@ -302,11 +293,9 @@ module _ (test : ℕ → Bool) where
 
 module _ {test : ℕ → Bool} {before bytes into : List ℕ} {at count : ℕ} {whole : List ℕ}
     (k : FilterInvariant test before bytes into at count whole) where
-  -- no byte is left
   pub filter_done : length bytes ≤ at → take count into ≡ whole
   filter_done past = grind (arith, append-nil, drop_all, kept_nil)
 
-  -- a piece more
   pub filter_piece : length bytes ≤ length before → (n : ℕ) → {into' : List ℕ} {count' : ℕ} → at + n ≤ length bytes
       → count' ≤ count + n → take count' into' ≡ take count into ++ kept_at test before bytes at n
       → FilterInvariant test before bytes into' (at + n) count' whole

@@ -126,7 +126,6 @@ stored_more _ row _ _ room = grind (arith, take-set, append-nil)
 
 -- ---- a table of 16 entries, indexed by a nibble of each byte
 
--- lanes at indices below 16
 pub shuffle_result : (v : List ℕ) (i : ℕ) (row : List ℕ) → i + length row ≤ 16 → Each1 (λ place. place < 16) row
     → swz_l w8 16 v i row ≡ pick_l 0 v row
 shuffle_result v i [] room lanes = refl
@@ -150,8 +149,6 @@ module _ (half : ℕ → ℕ) (small : (b : ℕ) → b < 256 → half b < 16) wh
 
 pub low_nibbles : (v : List ℕ) → length v ≡ 16 → zip2 bit_and v (replicate 16 15) ≡ map (λ b. b % 16) v
 low_nibbles v long = zip2_splat bit_and v 16 15 long ∙ (λ i. map (λ b. and_mask b 4 i) v)
-
--- ---- the test
 
 abbrev pub bits_in_order : List ℕ
 bits_in_order = 1 ∷ 2 ∷ 4 ∷ 8 ∷ 16 ∷ 32 ∷ 64 ∷ 128 ∷ 1 ∷ 2 ∷ 4 ∷ 8 ∷ 16 ∷ 32 ∷ 64 ∷ 128 ∷ []
@@ -282,7 +279,6 @@ module _ (rows : List ℕ) (found : List (List ℕ)) (count : ℕ) where
 module _ (first n : ℕ) (table : List (List ℕ)) (within : first + 16 * n ≤ 256) (size : length table ≡ n)
     (lanes : All (λ row. length row ≡ 16) table)
   where
-    -- a byte out of the rows is its own image
     pub image_is : {moved : MovedRange} {images : List ℕ} → HasMoved moved images → first ≤ moved.first
         → moved.last < first + 16 * n → ((i : ℕ) → i < n → get_or table i [] ≡ chunk (first + 16 * i) 16 images)
         → length images ≡ 256 → (b : ℕ) → b < 256 → image_from first table b ≡ get_or images b 0
@@ -297,7 +293,6 @@ module _ (first n : ℕ) (table : List (List ℕ)) (within : first + 16 * n ≤ 
           has.others b byte,
         )
 
-    -- the distance from the first byte
     abbrev pub offset : ℕ → ℕ
     offset b = (b + (256 - first)) % 256
 

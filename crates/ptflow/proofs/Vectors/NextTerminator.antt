@@ -6,8 +6,6 @@ use proofs.Common.{ones-mask_l, get_or-chunk, length-chunk, IsFirstByte, NoneBef
 use proofs.Common.{IsTerminatorMask, after_set, count_in_prefix, first_is, near, without}
 use lib.Count.{count_trailing_zeros}
 
--- ---- lines without a byte
-
 pub none_counted : (d : ℕ) (bytes : List ℕ) → IsLine d bytes → count_by (is_byte d) bytes ≡ 0
 none_counted d [] free = refl
 none_counted d (b ∷ bytes) (differs, free) = grind (arith, none_counted d bytes free, byte_ne)

@@ -23,7 +23,6 @@ module _ (flags : List Bool) {m : ℕ} (is : m ≡ removed_mask flags) where
     mask_16 = omega (arith, full long)
 
   module _ (long : length flags ≡ 64) where
-    -- all of 64 are kept, if none is removed
     none_of : (bytes : List ℕ) → length bytes ≡ 64 → m ≡ 0 → select_by flags bytes ≡ bytes
     none_of _ size none = all_selected _ _ (omega arith) (rw long (omega (arith, full long)))
 
@@ -31,7 +30,6 @@ module _ (flags : List Bool) {m : ℕ} (is : m ≡ removed_mask flags) where
     first_of : 0 < m → count_trailing_zeros 64 m < 64
     first_of some = (bit_at-trailing_zeros w64 m some (omega (arith, full long))).0
 
-    -- all but that one are kept, if no other is removed
     one_of : (bytes : List ℕ) → length bytes ≡ 64 → 0 < m → m ≡ 1 * 2 ^ count_trailing_zeros 64 m % 2 ^ 64
         → select_by flags bytes ≡ take (count_trailing_zeros 64 m) bytes ++ drop (count_trailing_zeros 64 m + 1) bytes
     one_of bytes size some one =
@@ -69,8 +67,6 @@ module _ (fa fb fc fd : List Bool) (la : length fa ≡ 16) (lb : length fb ≡ 1
         let abcd = join_mask ((fa ++ fb) ++ fc) fd 281474976710656 48
         (omega (arith, length-append (fa ++ fb) fc, length-append fa fb)) refl ed in
         omega (arith, two, three, four, ab, abc, abcd, ea)
-
--- ---- bytes of a filter
 
 removed_lanes : (test : ℕ → Bool) (before bytes : List ℕ) → map (top 7) (zip2 bit_and
     (zip2 (λ a b. cond (eqb a b) 255 0) before bytes) (map (cast_unsigned w8) (mask_of test bytes)))

@@ -5,10 +5,7 @@ use proofs.Vectors.Equal.{ended}
 use proofs.simd.compare.is_equal_long.Goals as goal
 
 pub loop-at-preserved : goal.loop-at-preserved
-loop-at-preserved c = record {
-  same = grind (arith, take-add);
-  within = omega arith;
-}
+loop-at-preserved c = record { same = grind (arith, take-add); within = omega arith }
 
 pub returns : goal.returns
 returns c =

@@ -1,7 +1,7 @@
 -- All bytes are kept if none is equal to the one that it is compared with. Otherwise the mask of those that are kept is
 -- the complement of that of the removed ones, for all 64 or for each 16.
 use Rattle.ptflow.proofs
-use proofs.Common.{usual, ◌+◌, arith, ◌∙◌, ap, ◌++◌, take}
+use proofs.Common.{rules, usual, ◌+◌, arith, ◌∙◌, ap, ◌++◌, take}
 use proofs.Vectors.Compress.{kept_in_four, none_equal_in_four}
 use proofs.Vectors.Removal.{first_removed, kept_by, none_removed, one_removed}
 use proofs.simd.filter.filter64.Goals as goal
@@ -21,9 +21,7 @@ overflow_shl-index g c =
 pub returns-then-removed-eq0-clause-kept : goal.returns-then-removed-eq0-clause-kept
 returns-then-removed-eq0-clause-kept g c =
     c.copy_chunk-then-removed-eq0.ensures.copied ∙ ap (◌++◌ (take c.args.count c.args.into.now))
-    (none_removed _ _ _ c.args.pairs.paired _ c.requires.lanes c.removed16-removed_a.ensures.mask
-    c.removed16-removed_b.ensures.mask c.removed16-removed_c.ensures.mask c.removed16-removed_d.ensures.mask
-    c.if-removed-eq0.true)
+    (search (rules, none_removed))
 
 pub returns-then-from-at-ge128-clause-kept : goal.returns-then-from-at-ge128-clause-kept
 returns-then-from-at-ge128-clause-kept g c =
