@@ -67,9 +67,6 @@ stored_again at count k from into once twice low room room_once is_once is_twice
     let size : count + k + n ≡ count + 63 = omega arith in
     let after : at + (k + 1) ≡ at + k + 1 = omega arith in
     cc (
-      all,
-      size,
-      after,
       copied_prefix count k 64 into once (drop at from) room (omega arith) is_once,
       copied_prefix (count + k) n 64 once twice (drop (at + k + 1) from) room_once (omega arith) is_twice,
       take-take k 64 (drop at from) (omega arith),

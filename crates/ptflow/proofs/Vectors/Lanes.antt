@@ -188,12 +188,12 @@ module _ (table : List ℕ) {n : ℕ} (long : length table ≡ 16) (within : n <
   put = bit_or old (1 * 2 ^ (n / 16) % 256)
 
   set_there : {b : ℕ} → b < 128 → b ≢ n → table_has (flags_set table n 1) b ≡ table_has table b
-  set_there {b} byte other = ⊎_elim
-      (λ row. cc (
-        get_or-set_same table (n % 16) put 0 (omega arith),
-        bit_at_set_other w8 old (n / 16) (omega arith) (b / 16 % 8) (grind arith),
-      ))
-      (grind usual) (cases_eq (b % 16) (n % 16))
+  set_there {b} byte other = grind (
+    usual,
+    cases_eq (b % 16) (n % 16),
+    get_or-set_same table (n % 16) put 0 (omega arith),
+    bit_at_set_other w8 old (n / 16) (omega arith) (b / 16 % 8),
+  )
 
   filled_is : (flag : Bool) {b : ℕ} → b < 128
       → table_has (flags_set table n (from_bool flag)) b

@@ -26,5 +26,4 @@ pub returns-clause-next : goal.returns-clause-next
 returns-clause-next c = rw (c.mask_at-mask.ensures, ones-mask_l) at c.after.ensures
 
 pub returns-clause-replaced : goal.returns-clause-replaced
-returns-clause-replaced c =
-    let (_, replaced) = replace_end c.loop-after.invariant c.mask_at-mask.ensures (omega arith) in replaced
+returns-clause-replaced c = (replace_end c.loop-after.invariant c.mask_at-mask.ensures (omega arith)).1

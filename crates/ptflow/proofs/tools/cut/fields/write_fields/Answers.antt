@@ -27,10 +27,7 @@ next : (g : given.Over) (c : In-Some g) → let line = c.args.delimiters.now.byt
     ++ output_from_cursor c.args.delimiters.now.needle (take (length line) line) c.next_slice.new.self
 next g c =
     let line = c.args.delimiters.now.bytes.now in
-    c.in-Some.ensures.next.output
-    ∙ ap (λ bytes. take (c.in-Some.slice.end - c.in-Some.slice.start) (drop c.in-Some.slice.start bytes)
-    ++ output_from_cursor c.args.delimiters.now.needle (take (length line) line) c.next_slice.new.self)
-    (take_all (length line) line (omega arith))
+    cc (c.in-Some.ensures.next.output, take_all (length line) line (omega arith))
 
 pub returns-in_err-push-clause-wrote : goal.returns-in_err-push-clause-wrote
 returns-in_err-push-clause-wrote g c =

@@ -1,13 +1,13 @@
 -- An interval that reaches the end of the piece is the last one. If none is left, nothing more is selected.
 use Rattle.ptflow.proofs
-use proofs.Common.{arith, usual, length-drop, take_rest, ℕ, ◌∙◌, ap, min, append-nil, drop_all}
+use proofs.Common.{arith, usual, length-drop, take_rest, ℕ, append-nil, drop_all}
 use proofs.CutLemmas.CutBytes.{copied_ends, copied_more, copied_none, select_none}
 use proofs.tools.cut.bytes.Selection.copy_selected.Goals as goal
 
 pub returns-then-last-interval-clause-copied : goal.returns-then-last-interval-clause-copied
 returns-then-last-interval-clause-copied c =
     copied_ends _ (omega (arith, length-drop {A = ℕ})) c.loop-interval.invariant
-    c.loop-interval-test.true _ (c.min-from.ensures ∙ ap (λ (f : ℕ). min f c.args.count) c.saturating_sub-from.ensures)
+    c.loop-interval-test.true _ (cc)
     c.if-last-interval.true (rw take_rest at c.copy_short.ensures.copied)
 
 pub loop-interval-preserved-then-interval-line : goal.loop-interval-preserved-then-interval-line

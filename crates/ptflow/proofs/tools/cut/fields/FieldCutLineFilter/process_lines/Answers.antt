@@ -1,15 +1,11 @@
 -- The output for the lines of the block is pushed at the end, when no complete line is left; if that fails, a prefix
 -- of it is.
 use Rattle.ptflow.proofs
-use proofs.Common.{rules, ℕ, List, ◌+◌, ◌≤◌, length, drop, take, ◌∙◌, arith, length-drop, take_rest}
+use proofs.Common.{rules, ℕ, take, ◌∙◌, arith, length-drop, take_rest}
 use proofs.Common.{take_at, line_if_not_found, complete_lines_none, cut_job, append-nil}
 use proofs.Common.{usual}
 use proofs.Passes.Exits.{on_err, taken_more}
 use proofs.tools.cut.fields.FieldCutLineFilter.process_lines.Goals as goal
-
-less_left : (start size : ℕ) (rest : List ℕ) {end all : ℕ} → size ≤ length rest → end ≤ start + size
-    → start + length rest ≤ all → end + length (drop size rest) ≤ all
-less_left start size rest fits near space = omega (arith, length-drop size rest)
 
 pub lines-preserved : goal.lines-preserved
 lines-preserved g c =
@@ -18,7 +14,7 @@ lines-preserved g c =
     rw take_rest (record {
       taken = taken_more _ _ put.taken l.invariant.taken;
       on = λ more. l.invariant.on more ∙ put.on more;
-      space = less_left _ _ _ put.fits c.copy_lines-copied.ensures.end.1 l.invariant.space;
+      space = omega (arith, length-drop {A = ℕ}, put.fits, c.copy_lines-copied.ensures.end.1);
       same_selection = l.invariant.same_selection;
       long = c.copy_lines-copied.ensures.long ∙ l.invariant.long;
     })
