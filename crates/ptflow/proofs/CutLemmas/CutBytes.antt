@@ -3,9 +3,9 @@
 -- which copy the selected bytes of a line piece by piece.
 use Rattle.ptflow.proofs
 use Rattle.ptflow.specs
-use proofs.Common.{◌≡◌, ℕ, ◌+◌, ◌-◌, ◌≤◌, ◌^◌, Bool, false, List, [], ◌∷◌, ◌++◌, map, length, take, drop, Some, refl}
-use proofs.Common.{ap, arith, append_assoc, usual, flat_map, mask_l, chunk, length-chunk, chunk-drop, IsFirstByte}
-use proofs.Common.{is_byte, unlines, lines, IsLine, complete_lines, lines_cons, byte_ne, lines_of_unlines}
+use proofs.Common.{drop_all, ◌≡◌, ℕ, ◌+◌, ◌-◌, ◌≤◌, ◌^◌, Bool, false, List, [], ◌∷◌, ◌++◌, map, length, take, drop}
+use proofs.Common.{Some, refl, ap, arith, append_assoc, usual, flat_map, mask_l, chunk, length-chunk, chunk-drop}
+use proofs.Common.{IsFirstByte, is_byte, unlines, lines, IsLine, complete_lines, lines_cons, byte_ne, lines_of_unlines}
 use proofs.Common.{line_before_terminator, select_from, cut_line, cut, cut_decided, cut_list_from, IsPrefix, Cut}
 use proofs.Common.{Interval, CutPost, selected_bytes, is_selected, zero, suc, ◌<◌, set, ◌&&◌, get_or, length-append}
 use proofs.Common.{sym, ◌∙◌, w8, All, nat_le, range_with_len, take-add, swz_l, pick_l-range_with_len, take-map}
@@ -60,8 +60,7 @@ select_skip test n (suc count) (x ∷ xs) out = grind (arith, select_skip test (
 
 pub select_slice : {X : Type 0} (r : Interval) (n : ℕ) (xs : List X) (i j : ℕ) → i ≡ r.first - n → j ≡ r.last + 1 - n
     → select_from (is_within r) n xs ≡ take (j - i) (drop i xs)
-select_slice r n [] zero j is js = sym (take-nil (j - 0))
-select_slice r n [] (suc i) j is js = sym (take-nil (j - suc i))
+select_slice r n [] i j is js = grind (arith, take-nil, drop_all)
 select_slice r n (x ∷ xs) i zero is js = grind (arith, select_none)
 select_slice r n (x ∷ xs) zero (suc j) is js =
     grind (usual, select_slice r (n + 1) xs zero j (omega arith) (omega arith))

@@ -11,8 +11,8 @@ use proofs.Common.{cut_fields, is_selected, AreSeparated, Interval, select_from,
 use proofs.Common.{output_from_cursor, min, Option, None, Some, is_some, flat_map, list_any, list_any_at, IsFirstByte}
 use proofs.Common.{line_if_not_found, unlines, IsLine, is_field_delimiter, cut_line, cut_lines, IsPrefix, ◌⊎◌, inl, inr}
 use proofs.Common.{unwrap_or, complete_lines, AreLines, line_before_terminator, complete_lines_cons, the_lines}
-use proofs.Common.{the_complete_lines, CopyLinesPost, the_lines_of_parts, CutOfParts, cases_lt}
-use proofs.Common.{nth_later, nth_from, few_from, IsAfterNth}
+use proofs.Common.{the_complete_lines, CopyLinesPost, the_lines_of_parts, CutOfParts, cases_lt, nth_later, nth_from}
+use proofs.Common.{few_from, IsAfterNth}
 use proofs.CutLemmas.CutBytes.{not_selected, select_first, select_slice, select_skip}
 use proofs.Passes.Exits.{line_split}
 use Rattle.ptlines.specs.declared.scan.MatchWindow.{MatchWindow}

@@ -3,8 +3,8 @@
 use Rattle.ptflow.proofs
 use proofs.Common.{usual, ◌≡◌, ℕ, ◌-◌, not, Bool, false, List, [], ◌∷◌, ◌++◌, Option, None, Some, length, refl, ap}
 use proofs.Common.{arith, filter, slice_get, last_or, option_or, append-nil, map-append, filter-append, IsPrefix}
-use proofs.Common.{is_not_repeat, squeeze_after, tr_decided, squeeze_from, tr_from, eq-eqb, squeeze, BeginsWith}
-use proofs.Common.{Each1, Fits, w8, suc, ◌<◌, get_or, EndsWith}
+use proofs.Common.{is_not_repeat, squeeze_after, tr_decided, squeeze_from, tr_from, eq-eqb, squeeze, BeginsWith, Each1}
+use proofs.Common.{Fits, w8, suc, ◌<◌, get_or, EndsWith}
 use proofs.Vectors.Lanes.{bytes_fit}
 use Rattle.ptlangs.specs.TrPlan.{ByteMap}
 use Rattle.ptflow.specs.Laws.Parts.{TrAfterByte, TrMeetsTwice, TrOfAnyParts, TrOfParts}

@@ -1,7 +1,7 @@
 -- Two slices of one length are equal if their first bytes are, up to an index, and their last ones, which may overlap.
 use Rattle.ptflow.proofs
-use proofs.Common.{◌≡◌, ◌≢◌, ℕ, ◌+◌, ◌≤◌, Bool, true, List, length, take, drop, sym, arith, bytes_eq}
-use proofs.Common.{bytes_eq-Decides, chunk, take-append-drop, take-take, take_all, length-drop, MatchBool}
+use proofs.Common.{◌≡◌, ◌≢◌, ℕ, ◌+◌, ◌≤◌, Bool, true, List, length, take, drop, sym, arith, bytes_eq, bytes_eq-Decides}
+use proofs.Common.{chunk, take-append-drop, take-take, take_all, length-drop, MatchBool}
 
 pub ended : (r : Bool) (n last at : ℕ) (a b : List ℕ) → length a ≡ length b → last + n ≡ length a → last ≤ at
     → take at a ≡ take at b → MatchBool r (chunk last n a ≡ chunk last n b) (a ≢ b) → r ≡ bytes_eq a b

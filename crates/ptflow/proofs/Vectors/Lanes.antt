@@ -7,13 +7,13 @@ use Rattle.std.proofs.lemmas
 use proofs.Common.{is_byte, usual, ◌≡◌, ℕ, ◌+◌, ◌<◌, ◌≤◌, ◌%◌, Bool, false, List, [], ◌∷◌, ◌++◌, Option, map, take}
 use proofs.Common.{drop, length, get_or, replicate, cond, refl, sym, ◌∙◌, ap, arith, w8, Fits, sum_by, zero, suc}
 use proofs.Common.{slice_get, option_map, sel_l, zip2, top, Each1, take-add, false≢true, map-append, tops_compared}
-use proofs.Common.{zip2_splat, zip2_of_maps, splat_is_map, Each1-from_get_or, stretch_delta, filter}
-use proofs.Common.{mask_of, cast_unsigned, true, set, take_more_set, take-set, append-nil, add-one, sum_by-append}
-use proofs.Common.{sum_by-cons, range_delta, ◌*◌, ◌/◌, ◌^◌, ◌&&◌, ◌||◌, ltb, eqb, ◌≢◌, ⊎_elim, bit_or}
-use proofs.Common.{bit_and, cast_signed, bit_at, from_bool, swz_l, SwzOk, SwzOk-from_below, pick_l, get_or-drop, ◌-◌}
-use proofs.Common.{map-map, and_mask, lt-ltb, le-ltb, cases_eq, cases_lt, pow_pos, length-map, set-get_or}
-use proofs.Common.{get_or-set_same, table_has, set_has, IsSetOf, All, not, length-set, get_or-chunk, get_or-map, chunk}
-use proofs.Common.{ext_get_or, get_or_default, get_or_past, min, rules, is_some}
+use proofs.Common.{zip2_splat, zip2_of_maps, splat_is_map, Each1-from_get_or, stretch_delta, filter, mask_of}
+use proofs.Common.{cast_unsigned, true, set, take_more_set, take-set, append-nil, add-one, sum_by-append, sum_by-cons}
+use proofs.Common.{range_delta, ◌*◌, ◌/◌, ◌^◌, ◌&&◌, ◌||◌, ltb, eqb, ◌≢◌, ⊎_elim, bit_or, bit_and, cast_signed, bit_at}
+use proofs.Common.{from_bool, swz_l, SwzOk, SwzOk-from_below, pick_l, get_or-drop, ◌-◌, map-map, and_mask, lt-ltb}
+use proofs.Common.{le-ltb, cases_eq, cases_lt, pow_pos, length-map, set-get_or, get_or-set_same, table_has, set_has}
+use proofs.Common.{IsSetOf, All, not, length-set, get_or-chunk, get_or-map, chunk, ext_get_or, get_or_default}
+use proofs.Common.{get_or_past, min, rules, is_some}
 use specs.declared.simd.shift.ShiftRange.{ShiftRange}
 use Rattle.ptlangs.specs.declared.tr.shifts.Stretch.{Stretch}
 use lemmas.Nat.Bits.{and_pow, bit_at_set_same, bit_at_set_other}

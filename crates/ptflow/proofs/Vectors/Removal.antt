@@ -1,10 +1,10 @@
 -- The mask of the bytes that a filter removes of 64, as four of 16 bits, and that of the bytes that it keeps.
 use Rattle.ptflow.proofs
 use Rattle.std.proofs.lemmas
-use proofs.Common.{sym, arith, ◌≡◌, ℕ, ◌+◌, ◌-◌, ◌*◌, ◌%◌, ◌^◌, ◌<◌, ◌≤◌, Bool, not, List, ℤ, [], ◌∷◌, ◌++◌, map}
+use proofs.Common.{◌≢◌, sym, arith, ◌≡◌, ℕ, ◌+◌, ◌-◌, ◌*◌, ◌%◌, ◌^◌, ◌<◌, ◌≤◌, Bool, not, List, ℤ, [], ◌∷◌, ◌++◌, map}
 use proofs.Common.{length, refl, ◌∙◌, chunk, mask_l, cond, length-chunk, length-map, bit_or, bit_and, map-append, zip2}
-use proofs.Common.{top, eqb, cast_unsigned, w8, mask_of, keep_flags, mask_l-mod, length-append}
-use proofs.Common.{take, drop, removed_mask, select_by, w64, one_shl, mask_append}
+use proofs.Common.{top, eqb, cast_unsigned, w8, mask_of, keep_flags, mask_l-mod, length-append, take, drop}
+use proofs.Common.{removed_mask, select_by, w64, one_shl, mask_append}
 use proofs.Vectors.Compress.{all_but_one, all_selected, chunk_parts, in_four, kept_at, pairs_long, select_kept}
 use Rattle.std.specs.Int.Count.{count_trailing_zeros}
 use lemmas.Nat.Bits.{bit_at-trailing_zeros}
@@ -119,16 +119,16 @@ module _ (test : ℕ → Bool) (before bytes : List ℕ) (paired : length bytes 
         (four_masks _ _ _ _ (flags_long at 16 (omega arith)) (flags_long (at + 16) 16 (omega arith))
         (flags_long (at + 32) 16 (omega arith)) (flags_long (at + 48) 16 (omega arith)) ea eb ec ed)
 
-    pub first_removed : 0 < or_four a b c d → count_trailing_zeros 64 (or_four a b c d) < 64
-    first_removed = first_of _ all_is (flags_long at 64 room)
+    pub first_removed : or_four a b c d ≢ 0 → count_trailing_zeros 64 (or_four a b c d) < 64
+    first_removed some = first_of _ all_is (flags_long at 64 room) (omega arith)
 
     pub none_removed : or_four a b c d ≡ 0 → chunk at 64 bytes ≡ kept_at test before bytes at 64
     none_removed none = sym (none_of _ all_is (flags_long at 64 room) _ (length-chunk at 64 bytes room) none)
         ∙ select_kept test (chunk at 64 before) (chunk at 64 bytes)
 
     pub one_removed : let index = count_trailing_zeros 64 (or_four a b c d) in
-        0 < or_four a b c d → or_four a b c d ≡ 1 * 2 ^ index % 2 ^ 64
+        or_four a b c d ≢ 0 → or_four a b c d ≡ 1 * 2 ^ index % 2 ^ 64
         → take index (chunk at 64 bytes) ++ drop (index + 1) (chunk at 64 bytes) ≡ kept_at test before bytes at 64
     one_removed some one =
-        sym (one_of _ all_is (flags_long at 64 room) _ (length-chunk at 64 bytes room) some one)
+        sym (one_of _ all_is (flags_long at 64 room) _ (length-chunk at 64 bytes room) (omega arith) one)
         ∙ select_kept test (chunk at 64 before) (chunk at 64 bytes)

@@ -13,10 +13,7 @@ returns-then-same_ab-same16-eq0-clause-kept g c =
     c.if-same_ab-same16-eq0.true) in grind usual
 
 pub overflow_shl-index : goal.overflow_shl-index
-overflow_shl-index g c =
-    first_removed _ _ _ c.args.pairs.paired _ c.requires.lanes c.removed16-removed_a.ensures.mask
-    c.removed16-removed_b.ensures.mask c.removed16-removed_c.ensures.mask c.removed16-removed_d.ensures.mask
-    (omega arith)
+overflow_shl-index g c = search (rules, first_removed)
 
 pub returns-then-removed-eq0-clause-kept : goal.returns-then-removed-eq0-clause-kept
 returns-then-removed-eq0-clause-kept g c =
@@ -26,9 +23,7 @@ returns-then-removed-eq0-clause-kept g c =
 pub returns-then-from-at-ge128-clause-kept : goal.returns-then-from-at-ge128-clause-kept
 returns-then-from-at-ge128-clause-kept g c =
     c.copy_all_but.ensures.copied ∙ ap (◌++◌ (take c.args.count c.args.into.now))
-    (one_removed _ _ _ c.args.pairs.paired _ c.requires.lanes c.removed16-removed_a.ensures.mask
-    c.removed16-removed_b.ensures.mask c.removed16-removed_c.ensures.mask c.removed16-removed_d.ensures.mask
-    (omega arith) c.if-removed-index.true)
+    (search (rules, one_removed))
 
 pub returns-clause-kept : goal.returns-clause-kept
 returns-clause-kept g c =

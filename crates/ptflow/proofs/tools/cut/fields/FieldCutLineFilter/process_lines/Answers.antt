@@ -1,9 +1,8 @@
 -- The output for the lines of the block is pushed at the end, when no complete line is left; if that fails, a prefix
 -- of it is.
 use Rattle.ptflow.proofs
-use proofs.Common.{rules, ℕ, take, ◌∙◌, arith, length-drop, take_rest}
-use proofs.Common.{take_at, line_if_not_found, complete_lines_none, cut_job, append-nil}
-use proofs.Common.{usual}
+use proofs.Common.{rules, ℕ, take, ◌∙◌, arith, length-drop, take_rest, take_at, line_if_not_found, complete_lines_none}
+use proofs.Common.{cut_job, append-nil, usual}
 use proofs.Passes.Exits.{on_err, taken_more}
 use proofs.tools.cut.fields.FieldCutLineFilter.process_lines.Goals as goal
 
