@@ -1,12 +1,12 @@
 -- Each iteration replaces the terminator of the lowest bit of the mask by the next byte of the cycle.
 use Rattle.ptflow.proofs
-use proofs.Common.{◌≡◌, ◌+◌, ◌<◌, arith, count_ones, chunk, count_by, count_by-le-length, length-chunk, ones-mask_l}
-use proofs.Common.{is_byte, refl}
+use proofs.Common.{rules, ◌≡◌, ◌+◌, ◌<◌, arith, count_ones, chunk, count_by, count_by-le-length, length-chunk}
+use proofs.Common.{ones-mask_l, is_byte, refl}
 use proofs.PasteLemmas.Replaced.{replace_starts, end_within, replace_next, replace_end}
 use proofs.simd.replace.Cycle.replace_chunk.Goals as goal
 
 pub loop-after-init : goal.loop-after-init
-loop-after-init c = replace_starts c.requires.room c.requires.same c.mask_at-mask.ensures
+loop-after-init c = search (rules, replace_starts)
 
 pub bounds-to-end : goal.bounds-to-end
 bounds-to-end c = end_within c.loop-after.invariant c.mask_at-mask.ensures (omega arith)
