@@ -115,7 +115,7 @@ module _ (test : ℕ → Bool) (before bytes : List ℕ) (paired : length bytes 
       (ed : d ≡ removed_mask (flags_of_chunk (at + 48) 16)) where
     all_is : or_four a b c d ≡ removed_mask (flags_of_chunk at 64)
     all_is =
-        rw (in_four flags_of_chunk (length bytes) (λ k n m low. grind (arith, chunk_parts, flags_append, length-chunk)) at)
+        rw (in_four flags_of_chunk _ (λ k n m low. grind (arith, chunk_parts, flags_append, length-chunk)) at room)
         (four_masks _ _ _ _ (flags_long at 16 (omega arith)) (flags_long (at + 16) 16 (omega arith))
         (flags_long (at + 32) 16 (omega arith)) (flags_long (at + 48) 16 (omega arith)) ea eb ec ed)
 

@@ -1,5 +1,4 @@
--- All bytes are kept if none is equal to the one that it is compared with. Otherwise the mask of those that are kept is
--- the complement of that of the removed ones, for all 64 or for each 16.
+-- All bytes are kept if none is equal to the one that it is compared with, or none is removed.
 use Rattle.ptflow.proofs
 use proofs.Common.{rules, usual, ◌+◌, arith, ◌∙◌, ap, ◌++◌, take}
 use proofs.Vectors.Compress.{kept_in_four, none_equal_in_four}

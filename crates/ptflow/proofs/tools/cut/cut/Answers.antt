@@ -1,5 +1,4 @@
--- `cut` by fields is a line tool, and `cut` by bytes a block tool. Setting the terminator does not change the input,
--- so the contract of each loop carries over.
+-- A line tool by fields, a block tool by bytes. Setting the terminator does not change the input.
 use Rattle.ptflow.proofs
 use proofs.Common.{refl, sym, ◌∙◌, ap, cond, cut_job, cut_tool, Reader, arith}
 use proofs.CutLemmas.CutBytes.{rest_is_decided, made_is, rest_of_all}
@@ -11,7 +10,7 @@ pub returns-in_err-terminator : goal.returns-in_err-terminator
 returns-in_err-terminator g c = grind (arith, pass_unchanged)
 
 pub run_lines-requires-clause-tool : goal.run_lines-requires-clause-tool
-run_lines-requires-clause-tool g c = grind (arith, (cut_sure (cut_job c.new.result.selection.job.now)))
+run_lines-requires-clause-tool g c = grind (arith, cut_sure (cut_job c.new.result.selection.job.now))
 
 pub returns-then-job : goal.returns-then-job
 returns-then-job g c =
@@ -26,7 +25,7 @@ returns g c =
     let list = c.new-2.ensures.selected in
     let pass = c.run_blocks.ensures (cut_tool job)
     (record {
-      text = λ bytes. rw (end, list, c.new-2.ensures.start) (simp (rest_of_all, (made_is job c.if-job.false)));
+      text = λ bytes. rw (end, list, c.new-2.ensures.start) (simp (rest_of_all, made_is job c.if-job.false));
       decided = λ given pushed now holds on.
           rest_is_decided job c.if-job.false given pushed now.line_offset (λ rest. cc (on rest, holds.0, holds.1));
       holds = (refl, refl);

@@ -1,5 +1,4 @@
--- All output of a block is decided at once, so `run_blocks` is a pass. The store is never used, so `Memory` is never
--- returned.
+-- All output of a block is decided at once, so `run_blocks` is a pass. The store is never used.
 use Rattle.ptflow.proofs
 use proofs.Common.{refl, no_store, tr_tool, byte_map_of}
 use proofs.Passes.Exits.{pass_unchanged, never_memory}

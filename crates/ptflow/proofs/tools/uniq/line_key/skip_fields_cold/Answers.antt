@@ -1,5 +1,4 @@
--- If the last of the fields ends among the next 31 bytes, the line after it is the result; otherwise the field ends
--- among them were skipped. After the end of the line, the rest is empty.
+-- If the last of the fields ends in the window, the line after it is the result; otherwise the ends in it were skipped.
 use Rattle.ptflow.proofs
 use proofs.Common.{◌-◌, ◌+◌, ◌∙◌, take, drop, sym, ap, arith}
 use proofs.UniqLemmas.Keys.{ends_counted, key_after_window, key_in_window, near, nth_in_window, suffix_at, suffix_is}

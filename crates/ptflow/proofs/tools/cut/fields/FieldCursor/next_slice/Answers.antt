@@ -1,5 +1,4 @@
--- An interval takes two steps: to the start of its first field, and to the end of its last one. There is no slice if
--- no interval or no field is left.
+-- An interval takes two steps: to the start of its first field, and to the end of its last one.
 use Rattle.ptflow.proofs
 use proofs.Common.{◌≡◌, ◌+◌, min, ◌∙◌, refl, sym, arith, length, take, length-take-le, take_rest, usual, eqb-false}
 use proofs.CutLemmas.Fields.{ends_before, next_slice, none_left, none_selected}

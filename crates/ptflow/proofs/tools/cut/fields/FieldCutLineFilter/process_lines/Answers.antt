@@ -1,5 +1,4 @@
--- The output for the lines of the block is pushed at the end, when no complete line is left; if that fails, a prefix
--- of it is.
+-- The output for the lines of the block is pushed at the end; if that fails, a prefix of it is.
 use Rattle.ptflow.proofs
 use proofs.Common.{rules, ℕ, take, ◌∙◌, arith, length-drop, take_rest, take_at, line_if_not_found, complete_lines_none}
 use proofs.Common.{cut_job, append-nil, usual}

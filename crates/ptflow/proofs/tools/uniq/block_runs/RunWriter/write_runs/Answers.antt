@@ -1,5 +1,4 @@
--- A line with the key of the current run, and copies of it, add to its count. Any other line ends the run, whose output
--- is pushed or deferred. After the last line the deferred output is pushed, and all complete lines were passed.
+-- A line with the key of the current run, and copies of it, add to its count. Any other line ends the run.
 use Rattle.ptflow.proofs
 use proofs.Common.{◌+◌, length, refl, ap, arith, length-append, length-drop, take_rest, line_if_not_found, ◌∙◌}
 use proofs.Common.{take_all, uniq_job, usual, rules, take_at}
