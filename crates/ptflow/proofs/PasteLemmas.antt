@@ -20,6 +20,7 @@ use Rattle.ptflow.specs.PasteCall.{paste_engine}
 use Rattle.ptlines.specs.Calls.Engines.{CallPost, CallEnd, AreAllConsistent, inputs_at}
 use Rattle.ptlines.specs.declared.sizes.TheConstants.{BLOCK}
 use Rattle.std.specs.Prelude.{◌*◌}
+use Rattle.std.proofs.Common.{arith}
 
 -- Output that was determined two blocks of an input earlier is pushed: without these blocks that input has fewer lines
 -- than one more row takes, so only rows that were already pushed are determined.

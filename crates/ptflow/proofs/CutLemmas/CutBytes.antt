@@ -1,32 +1,27 @@
--- The output of `cut` by bytes. First what intervals select: slices, one after another, with the invariant of the loop
--- that copies them. Then the output for the rest of a text, which depends only on the line offset: for a line, a piece
--- of one, or 64 empty lines, and what of it is decided. Last byte shuffles: how the row and the counts of a piece are
--- made, and that they copy the selected bytes of a line piece by piece.
+-- The output of `cut` by bytes. First what intervals select: slices, one after another. Then the output for the rest of
+-- a text, which depends only on the line offset: for a line, a piece of one, or 64 empty lines. Last byte shuffles,
+-- which copy the selected bytes of a line piece by piece.
 use Rattle.ptflow.proofs
 use Rattle.ptflow.specs
-use proofs.Common.{◌≡◌, ℕ, ◌+◌, ◌-◌, ◌≤◌, ◌^◌, Bool, false, List, [], ◌∷◌, ◌++◌, map, length, take, drop, Some, refl}
-use proofs.Common.{ap, arith, append_assoc, usual, flat_map, mask_l, chunk, length-chunk, chunk-drop}
+use proofs.Common.{drop_all, ◌≡◌, ℕ, ◌+◌, ◌-◌, ◌≤◌, ◌^◌, Bool, false, List, [], ◌∷◌, ◌++◌, map, length, take, drop}
+use proofs.Common.{Some, refl, ap, arith, append_assoc, usual, flat_map, mask_l, chunk, length-chunk, chunk-drop}
 use proofs.Common.{IsFirstByte, is_byte, unlines, lines, IsLine, complete_lines, lines_cons, byte_ne, lines_of_unlines}
-use proofs.Common.{line_before_terminator, select_from, cut_line, cut, cut_decided}
-use proofs.Common.{cut_list_from, IsPrefix, Cut, Interval, CutPost, selected_bytes, is_selected, zero, suc}
-use proofs.Common.{◌<◌, set, ◌&&◌, get_or, length-append, sym, ◌∙◌, w8, All, nat_le, range_with_len, take-add}
-use proofs.Common.{swz_l, pick_l-range_with_len, take-map, take-take, take-append-le, take_all, length-take-le}
-use proofs.Common.{append-nil, length-range_with_len, cases_eq, put_chunk, length-drop, length-swz_l, slice_get, min}
-use proofs.Common.{drop_more, AreSeparated, ⊎_elim, cases_lt, length-set}
+use proofs.Common.{line_before_terminator, select_from, cut_line, cut, cut_decided, cut_list_from, IsPrefix, Cut}
+use proofs.Common.{Interval, CutPost, selected_bytes, is_selected, zero, suc, ◌<◌, set, ◌&&◌, get_or, length-append}
+use proofs.Common.{sym, ◌∙◌, w8, All, nat_le, range_with_len, take-add, swz_l, pick_l-range_with_len, take-map}
+use proofs.Common.{take-take, take-append-le, take_all, length-take-le, append-nil, length-range_with_len, cases_eq}
+use proofs.Common.{put_chunk, length-drop, length-swz_l, slice_get, min, drop_more, AreSeparated, ⊎_elim, cases_lt}
+use proofs.Common.{length-set, selected_indices, selected_after, IsPieceShuffle, length-take}
 use specs.declared.tools.cut.bytes.Line.{Line}
 use proofs.Passes.Exits.{split_of, LineSplit, line_split}
 use proofs.Vectors.Lanes.{stored_more}
 use mir.Val.{bool_byte}
-use specs.Private.Cut.ShortLines.{selected_indices, selected_after, IsPieceShuffle}
 use specs.declared.tools.cut.shuffle.PieceShuffle.{PieceShuffle}
 use proofs.Vectors.Compress.{row_lanes, selected_stored, shuffle_result}
 use lib.Seq.{take-nil}
-use Rattle.std.proofs.lemmas.List.{length-take}
 use specs.Private.Cut.CutFrom.{ExtendsCut, cut_bytes_from, cut_lines_from}
 
--- ---- what intervals select
-
--- Disjoint ascending intervals select one after another, and each a slice; so the selected items are these slices.
+-- ---- what intervals select: each a slice, and one after another, since they are disjoint and ascend
 
 abbrev pub is_within : Interval → ℕ → Bool
 is_within r n = nat_le r.first n && nat_le n r.last
@@ -43,7 +38,7 @@ not_selected (r ∷ rs) low n apart out = grind (arith, not_selected rs _ n apar
 
 pub select_none : {X : Type 0} (test : ℕ → Bool) (n : ℕ) (xs : List X)
     → ((k : ℕ) → n ≤ k → k < n + length xs → test k ≡ false) → select_from test n xs ≡ []
-select_none test n [] out = refl
+select_none _ n [] out = refl
 select_none test n (x ∷ xs) out = grind (arith, select_none test (n + 1) xs (grind arith))
 
 pub select_first : {X : Type 0} (r : Interval) (rs : List Interval) (n : ℕ) (xs : List X) → AreSeparated (r.last + 1) rs
@@ -60,13 +55,12 @@ pub select_skip : {X : Type 0} (test : ℕ → Bool) (n count : ℕ) (xs : List 
     → ((k : ℕ) → n ≤ k → k < n + count → test k ≡ false)
     → select_from test n xs ≡ select_from test (n + count) (drop count xs)
 select_skip test n zero xs out = grind arith
-select_skip test n (suc count) [] out = refl
+select_skip _ n _ [] out = refl
 select_skip test n (suc count) (x ∷ xs) out = grind (arith, select_skip test (n + 1) count xs (grind arith))
 
 pub select_slice : {X : Type 0} (r : Interval) (n : ℕ) (xs : List X) (i j : ℕ) → i ≡ r.first - n → j ≡ r.last + 1 - n
     → select_from (is_within r) n xs ≡ take (j - i) (drop i xs)
-select_slice r n [] zero j is js = sym (take-nil (j - 0))
-select_slice r n [] (suc i) j is js = sym (take-nil (j - suc i))
+select_slice r n [] i j is js = grind (arith, take-nil, drop_all)
 select_slice r n (x ∷ xs) i zero is js = grind (arith, select_none)
 select_slice r n (x ∷ xs) zero (suc j) is js =
     grind (usual, select_slice r (n + 1) xs zero j (omega arith) (omega arith))
@@ -82,7 +76,7 @@ rest_of (suc n) (suc to) (b ∷ bytes) = grind (arith, rest_of n to bytes)
 rest_is : (r : Interval) (before count : ℕ) (bytes : List ℕ) → count ≤ length bytes → before + count ≤ r.last
     → let from = min (r.first - (before + 1)) count in
     take (count - from) (drop from bytes) ≡ select_from (is_within r) (before + 1) (take count bytes)
-rest_is r before count bytes within reaches = grind (usual, select_slice, rest_of)
+rest_is r _ _ _ within reaches = grind (usual, select_slice, rest_of)
 
 -- The invariant of `copy_selected`: the intervals from `i` on are left. What was copied is not longer than the part of
 -- the piece before them.
@@ -114,7 +108,6 @@ module _ {all : List Interval} {before count : ℕ} (bytes : List ℕ) {was : Li
         ≡ was ++ select_from (is_selected all) (before + 1) piece
     next = grind (usual, select_first)
 
-    -- the interval ends before the piece
     pub copied_none : r.last ≤ before → CopyInvariant all (i + 1) before piece was is start at
     copied_none passed =
         let none = select_none (is_within r) (before + 1) piece (λ n from to. above r n (omega arith)) in
@@ -125,7 +118,7 @@ module _ {all : List Interval} {before count : ℕ} (bytes : List ℕ) {was : Li
           → is' ≡ is ++ take (count - from) (drop from bytes)
           → is' ≡ was ++ select_from (is_selected all) (before + 1) piece
       copied_ends {from} from_is reaches copied =
-          grind (arith, rest_is, select_none, not_selected, apart, append-nil, next, length-take-le count bytes in_bytes)
+          grind (arith, rest_is, select_none, not_selected, apart, append-nil, next, length-take-le _ bytes in_bytes)
 
       pub copied_more : {from to : ℕ} → from ≡ r.first - (before + 1) → to ≡ r.last - before → r.last < before + count
           → is' ≡ is ++ take (to - from) (drop from bytes)
@@ -139,12 +132,12 @@ module _ (end : ℕ) (selected : ℕ → Bool) where
 
   pub rest_of_all : (ls : List (List ℕ)) → cut_lines_from end selected 0 ls ≡ cut_text ls
   rest_of_all [] = refl
-  rest_of_all (line ∷ ls) = simp append_assoc
+  rest_of_all _ = simp append_assoc
 
   pub rest_line : (line_offset : ℕ) (line rest : List ℕ) → IsLine end line
       → cut_bytes_from end selected line_offset (line ++ end ∷ rest)
       ≡ (select_from selected (line_offset + 1) line ++ end ∷ []) ++ cut_bytes_from end selected 0 rest
-  rest_line line_offset line rest whole = grind (arith, lines_cons, append_assoc)
+  rest_line _ _ _ whole = grind (arith, lines_cons, append_assoc)
 
   pub rest_piece : (line_offset : ℕ) (piece rest : List ℕ) → IsLine end piece
       → cut_bytes_from end selected line_offset (piece ++ rest) ≡ select_from selected (line_offset + 1) piece
@@ -183,19 +176,13 @@ terminators_next end selected block {start} room here none is all more =
     let long = length-chunk start 64 block (omega arith) in
     let every : mask_l (map (is_byte end) ends) + 1
     ≡ 2 ^ length ends = grind arith in
-    cc (
-      chunk-drop start 64 block,
-      append_assoc ends (drop (start + 64) block) more,
-      empty_lines end _ _ _
-          every,
-    )
+    cc (chunk-drop start 64 block, append_assoc ends (drop (start + 64) block) more, empty_lines end _ _ _ every)
 
 pub cut_next : (end : ℕ) (list : List Interval) (line_offset now next : ℕ) (from rest rest' old was : List ℕ)
     {is : List ℕ} (bytes : List ℕ) → ExtendsCut end list line_offset from old now rest was → is ≡ was ++ bytes
     → ((more : List ℕ) → cut_list_from end list now (rest ++ more) ≡ bytes
     ++ cut_list_from end list next (rest' ++ more)) → ExtendsCut end list line_offset from old next rest' is
-cut_next end list line_offset now next _ _ _ old was bytes cut copied on start block so_far more =
-    grind usual
+cut_next end _ _ now _ _ _ _ old was _ cut copied on start block so_far more = grind usual
 
 pub line_cut : {end : ℕ} {list : List Interval} {block : List ℕ} {was now next : Line} {old new is : List ℕ} (count : ℕ)
     → CutPost end list block was old now new → IsFirstByte (is_byte end) (drop now.start block) (Some count)
@@ -208,7 +195,6 @@ module _ (job : Cut) (by_bytes : job.fields ≡ false) where
   abbrev end : ℕ
   end = job.terminator
 
-  -- each line has one output line
   pub made_is : (ls : List (List ℕ)) → unlines end (flat_map (cut_line job) ls) ≡ cut_text end job.selected ls
   made_is ls = ap (unlines end) (one_each ls)
     where
@@ -226,15 +212,9 @@ module _ (job : Cut) (by_bytes : job.fields ≡ false) where
       -- with one terminator more, the piece is a line too
       let all_lines : lines end (given ++ end ∷ []) ≡ (complete_lines end given) ++ p.piece ∷ [] =
       grind (usual, lines_of_unlines, lines_cons) in
-      record {
-        rest = select_from job.selected 1 p.piece;
-        is = grind (usual, rest_of_all, made_is);
-      }
+      record { rest = select_from job.selected 1 p.piece; is = grind (usual, rest_of_all, made_is) }
 
--- ---- shuffles
-
--- A row has the selected indices in order, so a shuffle moves the selected bytes of 16 to the front. The counts tell
--- how many bytes of a piece of each length are selected.
+-- ---- shuffles: a row has the selected indices in order, and the counts tell how many a piece of each length has
 
 module _ (selected : ℕ → Bool) where
   pub select_append : {X : Type 0} (n : ℕ) (xs ys : List X)
@@ -261,8 +241,6 @@ module _ (selected : ℕ → Bool) where
       ++ select_from selected (1 + n) (range_with_len n m)
   picked_parts n m = grind (arith, range_parts, select_append, length-range_with_len)
 
-  -- ---- the row and the counts, index by index
-
   pub record PickBegun (index count : ℕ) (row counts : List ℕ) : Type 0 where
     pub is : count ≡ length (selected_indices selected index)
     pub few : count ≤ index
@@ -285,24 +263,25 @@ module _ (selected : ℕ → Bool) where
       let whole : start + (count - start) ≡ count = omega arith in
       grind (arith, select_none, length-take, append-nil, select_append, take-add)
 
-  -- ---- the bytes that the row moves to the front
-
   module _ {piece : PieceShuffle} (is : IsPieceShuffle selected piece) where
     prefix_indices : {count : ℕ} → count ≤ 16
         → take (length (selected_indices selected count)) piece.row ≡ selected_indices selected count
     prefix_indices {count} short =
         let all : count + (16 - count) ≡ 16 = omega arith in
-        let parts = ap (selected_indices selected) (sym all) ∙ picked_parts _ _ in
         let some = selected_indices selected count in
         let later = select_from selected (1 + count) (range_with_len count (16 - count)) in
-        let few : length some ≤ length (selected_indices selected 16) = omega
-        (arith, ap length parts, length-append some later) in
-        sym (take-take (length some) (length (selected_indices selected 16)) _ few)
-        ∙ ap (take (length some)) (is.indices ∙ parts)
-        ∙ take-append-le (length some) some later (omega arith) ∙ take_all (length some) some (omega arith)
+        let parts : selected_indices selected 16 ≡ some ++ later = cc (picked_parts _ _) in
+        let few : length some ≤ length (selected_indices selected 16) =
+        omega (arith, ap length parts, length-append some later) in
+        cc (
+          take-take (length some) (length (selected_indices selected 16)) piece.row few,
+          is.indices,
+          take-append-le (length some) some later (omega arith),
+          take_all (length some) some (omega arith),
+        )
 
     pub shuffle_few : (count : ℕ) → count ≤ 16 → get_or piece.counts count 0 ≤ count
-    shuffle_few count short = grind (arith, few_selected, length-range_with_len)
+    shuffle_few _ short = grind (arith, few_selected, length-range_with_len)
 
 pub none_after : (all : List Interval) (low n : ℕ) {last : Interval} {index : ℕ} → AreSeparated low all
     → length all ≤ n + 1 → slice_get all n ≡ Some last → last.last < index
@@ -314,8 +293,6 @@ none_after (one ∷ more) low (suc n) {last} {index} separated few is later =
     let (none, less) = none_after more (one.last + 1) n separated.2 (omega arith) is later in
     grind arith
 
--- ---- a line, piece by piece
-
 -- the bytes after the first `size` ones were copied after those
 pub rest_copied : (selected : ℕ → Bool) (bytes was : List ℕ) (before size rest count : ℕ) {is is' : List ℕ}
     → before ≡ size → size + rest ≡ count → count ≤ length bytes
@@ -323,14 +300,13 @@ pub rest_copied : (selected : ℕ → Bool) (bytes was : List ℕ) (before size 
     → is' ≡ is ++ select_from selected (size + 1) (take rest (drop size bytes))
     → is' ≡ was ++ select_from selected 1 (take count bytes)
 rest_copied selected bytes was before size rest count same whole within first then =
-    let front : length (take size bytes) ≡ size = length-take-le size bytes (omega arith) in
+    let front = length-take-le size bytes (omega arith) in
     let parts = take-add size rest bytes in
     grind (arith, append_assoc, select_append selected 1 (take size bytes) (take rest (drop size bytes)))
 
--- positions that are counted from a later byte on
 select_later : (selected : ℕ → Bool) (start n : ℕ) (xs : List ℕ)
     → select_from (selected_after selected start) n xs ≡ select_from selected (start + n) xs
-select_later selected start n [] = refl
+select_later _ _ n [] = refl
 select_later selected start n (x ∷ xs) = grind (arith, select_later selected start (n + 1) xs)
 
 -- the selected bytes of the next piece are stored after those before
@@ -344,7 +320,6 @@ piece_copied selected start m at bytes was into {piece} {size} is counted short 
     let v = take 16 (drop start bytes) in
     let long = length-take-le 16 (drop start bytes) (omega (arith, length-drop start bytes)) in
     let few = shuffle_few _ is m short in
-    let front = length-take-le start bytes (omega arith) in
     grind (
       usual,
       selected_stored at (get_or piece.counts m 0) _ _ (length-swz_l w8 16 v 0 _ ∙ is.long) (omega (arith, few)) room,

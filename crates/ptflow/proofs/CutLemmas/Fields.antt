@@ -1,8 +1,8 @@
--- The output of `cut` by fields. The fields after the first n start after the n-th delimiter. The fields of an
--- interval are one slice of the line, so the output of a line is slices, one for each step of the cursor. It is not
--- longer than the line. Lines without the delimiter are kept or dropped, at the front of a block all at once. Last,
--- the law of `cut` of a text in parts (`CutOfParts`).
+-- The output of `cut` by fields. The fields after the first n start after the n-th delimiter. The fields of an interval
+-- are one slice of the line, so the output of a line is slices, one for each step of the cursor. Lines without the
+-- delimiter are kept or dropped, at the front of a block all at once.
 use Rattle.ptflow.proofs
+use Rattle.ptflow.specs
 use proofs.Common.{usual, ◌≡◌, ℕ, zero, suc, ◌+◌, ◌<◌, ◌==◌, ◌-◌, ◌≤◌, Bool, true, false, List, [], ◌∷◌, ◌++◌, length}
 use proofs.Common.{take, drop, refl, sym, ap, arith, join_with_byte, append-nil, take-take, take-add, take_all}
 use proofs.Common.{drop_all, drop-drop, length-drop, length-take-le, take-append-drop, flat_map-append}
@@ -11,15 +11,13 @@ use proofs.Common.{cut_fields, is_selected, AreSeparated, Interval, select_from,
 use proofs.Common.{output_from_cursor, min, Option, None, Some, is_some, flat_map, list_any, list_any_at, IsFirstByte}
 use proofs.Common.{line_if_not_found, unlines, IsLine, is_field_delimiter, cut_line, cut_lines, IsPrefix, ◌⊎◌, inl, inr}
 use proofs.Common.{unwrap_or, complete_lines, AreLines, line_before_terminator, complete_lines_cons, the_lines}
-use proofs.Common.{the_complete_lines, CopyLinesPost, the_lines_of_parts, CutOfParts}
-use proofs.CutLemmas.CutBytes.{rest_of, not_selected, select_first, select_slice, select_skip}
-use proofs.Common.{cases_lt, append_assoc, ◌∙◌}
+use proofs.Common.{the_complete_lines, CopyLinesPost, the_lines_of_parts, CutOfParts, cases_lt, nth_later, nth_from}
+use proofs.Common.{few_from, IsAfterNth}
+use proofs.CutLemmas.CutBytes.{not_selected, select_first, select_slice, select_skip}
 use proofs.Passes.Exits.{line_split}
-use Rattle.ptlines.proofs.MatchWindows.{nth_later, nth_from, few_from}
-use Rattle.ptlines.specs.Calls.Scan.{IsAfterNth}
 use Rattle.ptlines.specs.declared.scan.MatchWindow.{MatchWindow}
-use Rattle.ptflow.specs.declared.tools.cut.fields.FieldCursor.{FieldCursor}
-use Rattle.ptflow.specs.Private.Cut.FieldOffsets.{IsFieldOffset, fields, prefixed_fields}
+use specs.declared.tools.cut.fields.FieldCursor.{FieldCursor}
+use specs.Private.Cut.FieldOffsets.{IsFieldOffset, fields, prefixed_fields}
 
 module _ (d : ℕ) where
   pub fields-append : (xs ys : List ℕ) → fields d (xs ++ d ∷ ys) ≡ fields d xs ++ fields d ys
@@ -80,7 +78,7 @@ module _ (d : ℕ) (bytes : List ℕ) {to n : ℕ} {old new : MatchWindow} (with
   pub offset_later : old.at ≤ new.at
   offset_later = elim (cases_lt to new.at) [
     | inl past ↦ omega arith
-    | inr near ↦ omega (arith, nth_later (is_byte d) bytes within fits (n - 1) (next.found near))
+    | inr near ↦ omega (arith, nth_later (is_byte d) bytes within fits _ (next.found near))
   ]
 
   pub offset_of_window : IsFieldOffset d n (drop old.at (take to bytes)) (min new.at (to + 1) - old.at)
@@ -94,14 +92,13 @@ module _ (d : ℕ) (bytes : List ℕ) {to n : ℕ} {old new : MatchWindow} (with
             omega (arith, length-drop old.at (take to bytes)) in
             rw is (offset_end d line (omega (arith, few_from p bytes within fits {before = n - 1} (next.none past))))
         | inr near ↦
-            let later = nth_later p bytes within fits (n - 1) (next.found near) in
+            let later = nth_later p bytes within fits _ (next.found near) in
             let is : min new.at (to + 1) - old.at ≡ new.at - 1 - old.at + 1 = omega arith in
             rw is (offset_after_nth d line _ some (nth_from p bytes within fits (next.found near)))
       ]
 
 -- ---- the selected fields of a line, in one pass
 
--- the cursor at the start of a line
 module _ (cursor : FieldCursor) (none : cursor.passed ≡ 0) where
   pub selected_remaining : (job : Cut) {d : ℕ} (line : List ℕ) → d ≡ job.delimiter
       → is_selected cursor.left.now ≡ job.selected → cut_fields job line ≡ output_from_cursor d line cursor
@@ -116,7 +113,6 @@ module _ (d : ℕ) (line : List ℕ) (cursor : FieldCursor) where
   none_selected none = grind arith
 
   module _ (w : IsFieldCursor d line cursor) (fits : cursor.window.at ≤ length line) (within : 0 < length all) where
-    -- the next interval, and those after it
     abbrev r : Interval
     r = get_or all 0 (record { first = 0; last = 0 })
 
@@ -202,13 +198,13 @@ module _ (d : ℕ) (line : List ℕ) (cursor : FieldCursor) where
           pub next_slice : (next : FieldCursor) → next.left.now ≡ rs → next.passed ≡ r.last
               → min next.window.at (length line + 1) ≡ at → (end : ℕ) → end ≡ at - 1
               → IsNextSlice d line cursor (record { start = from - min cursor.passed 1; end = end }) next
-          next_slice next left_is passed_is at_is end end_is = grind (arith, output, ends)
+          next_slice _ left_is passed_is at_is end end_is = grind (arith, output, ends)
 
 -- ---- the output of a line is not longer than the line
 
 few_prefixed : (d : ℕ) (test : ℕ → Bool) (n : ℕ) (fs : List (List ℕ))
     → length (prefixed_fields d (select_from test n fs)) ≤ length (prefixed_fields d fs)
-few_prefixed d test n [] = omega arith
+few_prefixed d _ n [] = omega arith
 few_prefixed d test n (f ∷ fs) = grind (usual, few_prefixed d test (n + 1) fs)
 
 pub output_is_short : (job : Cut) (line : List ℕ) → length (cut_fields job line) ≤ length line
@@ -228,28 +224,8 @@ pub output_is_near : (start end : ℕ) (was now out part rest : List ℕ) → ta
     ++ (part ++ rest)
     → start ≤ length was → end ≤ length now → end + length part ≤ start + length out
 output_is_near start end was now out part rest copied room place =
-    omega (
-      arith,
-      ap length copied,
-      length-append (take start was) out,
-      length-append (take end now) (part ++ rest),
-      length-append part rest,
-      length-take-le start was room,
-      length-take-le end now place,
-    )
-
--- a slice of the line, which is the first `to` bytes, is copied after the output so far
-pub slice_put : (before rest : List ℕ) (first last to : ℕ) (bytes : List ℕ) {all after output : List ℕ}
-    → all ≡ before ++ output → output ≡ take (last - first) (drop first (take to bytes)) ++ rest → last ≤ to
-    → after ≡ before ++ take (last - first) (drop first bytes) → all ≡ after ++ rest
-slice_put before rest first last to bytes is output_is within copied =
-    let part = take (last - first) (drop first bytes) in
-    let same : take (last - first) (drop first (take to bytes)) ≡ part =
-    ap (take (last - first)) (rest_of first to bytes) ∙ take-take (last - first) (to - first) (drop first bytes)
-    (omega arith) in
-    rw (copied, append_assoc before part rest, ← same, ← output_is) is
-
--- ---- the lines of a text
+    let size = simp length-append at (ap length copied) in
+    omega (arith, size, length-take-le start was room, length-take-le end now place)
 
 pub none_of : (d : ℕ) (line : List ℕ) → IsLine d line → list_any (λ b. b == d) line ≡ false
 none_of d [] free = refl
@@ -258,7 +234,7 @@ none_of d (b ∷ line) free = grind (arith, none_of d line)
 pub found : (d : ℕ) (line : List ℕ) (r : Option ℕ) → IsFirstByte (is_byte d) line r
     → list_any (λ b. b == d) line ≡ is_some r
 found d line None first = none_of d _ (line_if_not_found d _ first)
-found d line (Some at) first = grind (arith, list_any_at)
+found d _ _ first = grind (arith, list_any_at)
 
 module _ (job : Cut) (by_fields : job.fields ≡ true) (line : List ℕ) where
   pub of_line : list_any (is_field_delimiter job) line ≡ false → job.only ≡ false → cut_line job line ≡ line ∷ []
@@ -270,7 +246,7 @@ module _ (job : Cut) (by_fields : job.fields ≡ true) (line : List ℕ) where
 module _ (job : Cut) (line : List ℕ) where
   pub line_written : (bytes : List ℕ) → cut_line job line ≡ bytes ∷ [] → cut_lines job (line ∷ []) ≡ bytes
       ++ job.terminator ∷ []
-  line_written bytes is = grind (arith, append-nil)
+  line_written _ is = grind (arith, append-nil)
 
   pub line_dropped : cut_line job line ≡ [] → cut_lines job (line ∷ []) ≡ []
   line_dropped is = cc
@@ -278,9 +254,7 @@ module _ (job : Cut) (line : List ℕ) where
 module _ (job : Cut) where
   pub cut_sure : (ls : List (List ℕ)) (pushed : List ℕ) → cut_lines job (ls ++ []) ≡ pushed ++ cut_lines job []
       → IsPrefix (cut_lines job ls) pushed
-  cut_sure ls pushed on = grind (arith, append-nil)
-
--- ---- lines before others
+  cut_sure ls _ on = grind (arith, append-nil)
 
 eof-append : (end : ℕ) (ls : List (List ℕ)) (bytes : List ℕ) → AreLines end ls
     → complete_lines end (unlines end ls ++ bytes) ≡ ls ++ complete_lines end bytes
@@ -297,6 +271,11 @@ free_prefix d n [] free = grind usual
 free_prefix d zero (b ∷ bytes) free = tt
 free_prefix d (suc n) (b ∷ bytes) free = (free.0, free_prefix d n _ free.1)
 
+free_before : (d : ℕ) (bytes : List ℕ) (r : Option ℕ) → IsFirstByte (is_byte d) bytes r
+    → IsLine d (take (unwrap_or r (length bytes)) bytes)
+free_before d bytes None none = grind (arith, take_all, line_if_not_found)
+free_before d bytes (Some at) first = line_before_terminator d _ at first
+
 free_lines : (d end : ℕ) (bytes : List ℕ) → IsLine d bytes → AreLines d (complete_lines end bytes)
 free_lines d end [] free = tt
 free_lines d end (b ∷ bytes) free = grind (arith, free_lines d end bytes free.1)
@@ -310,14 +289,12 @@ module _ (job : Cut) (by_fields : job.fields ≡ true) where
   lines_dropped only [] free = refl
   lines_dropped only (l ∷ ls) free = search (lines_dropped only ls free.1, of_none, none_of)
 
--- ---- the first lines of a block
-
 module _ (job : Cut) (by_fields : job.fields ≡ true) {end : ℕ} (same : end ≡ job.terminator) (bytes : List ℕ) (to : ℕ)
     (first : IsFirstByte (is_byte end) bytes (Some to)) where
   -- all complete lines before `size`, none of which has the delimiter
   module _ {size up_to : ℕ} (high : to < size) (fits : size ≤ length bytes) (eof : get_or bytes (size - 1) 0 ≡ end)
-      (near : (size ≡ to + 1) ⊎ (size ≤ up_to)) (past : to ≤ up_to)
-      (free : IsLine job.delimiter (take up_to bytes)) where
+      (near : (size ≡ to + 1) ⊎ (size ≤ up_to)) (past : to ≤ up_to) (r : Option ℕ)
+      (before : up_to ≡ unwrap_or r (length bytes)) (found : IsFirstByte (is_byte job.delimiter) bytes r) where
     abbrev front : List (List ℕ)
     front = complete_lines end (take size bytes)
 
@@ -328,19 +305,14 @@ module _ (job : Cut) (by_fields : job.fields ≡ true) {end : ℕ} (same : end �
     texts = grind (arith, is_ended, text_of_ended)
 
     lines_are : complete_lines end bytes ≡ front ++ complete_lines end (drop size bytes)
-    lines_are =
-        cc (
-          take-append-drop size bytes,
-          texts,
-          eof-append end _ _
-              (line_split end _).whole,
-        )
+    lines_are = cc (take-append-drop size bytes, texts, eof-append end _ _ (line_split end _).whole)
 
     free_up_to : {n : ℕ} → n ≤ up_to → IsLine job.delimiter (take n bytes)
-    free_up_to {n} le = rw (take-take n up_to bytes le) at (free_prefix _ n _ free)
+    free_up_to {n} le = 
+        rw (take-take n up_to bytes le) at (free_prefix _ n _ (rw (← before) at (free_before _ bytes r found)))
 
     are_free : ((size ≡ to + 1) ⊎ (size ≤ up_to)) → AreLines job.delimiter front
-    are_free (inl one) = grind (usual, complete_lines_cons, line_before_terminator)
+    are_free (inl one) = grind (usual, complete_lines_cons, line_before_terminator, free_up_to past)
     are_free (inr le) = search (free_lines, free_up_to)
 
     pub puts_kept : {old new : List ℕ} → job.only ≡ false → new ≡ old ++ take size bytes
@@ -349,11 +321,6 @@ module _ (job : Cut) (by_fields : job.fields ≡ true) {end : ℕ} (same : end �
 
     pub puts_dropped : {old : List ℕ} → job.only ≡ true → CopyLinesPost job end bytes size old old
     puts_dropped {old} only = grind (usual, texts, lines_are, lines_dropped, are_free)
-
-pub free_before : (d : ℕ) (bytes : List ℕ) (r : Option ℕ) → IsFirstByte (is_byte d) bytes r
-    → IsLine d (take (unwrap_or r (length bytes)) bytes)
-free_before d bytes None none = grind (arith, take_all, line_if_not_found)
-free_before d bytes (Some at) first = line_before_terminator d _ at first
 
 pub cut_of_parts : CutOfParts
 cut_of_parts job a b whole = grind (usual, the_lines_of_parts)

@@ -11,6 +11,7 @@ pub use proofs.PasteLemmas.Replaced.{counted, replaced-append, replaced_line}
 pub use Rattle.ptflow.specs.declared.simd.replace.Cycle.{Cycle}
 pub use Rows.*
 pub use Rattle.ptflow.specs.Private.Paste.SharedInput.{IsWholeRows, IsSharedCycle}
+use Rattle.std.proofs.Common.{arith, rules}
 
 pub sound_after_consume : {b r : Reader} → IsSound b → IsConsumed b r → IsSound r
 sound_after_consume s step = grind usual

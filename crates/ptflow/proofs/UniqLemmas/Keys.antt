@@ -1,12 +1,12 @@
--- The key of a line, in one pass: skipping n fields, each of them blanks and then other bytes, leads to the byte after
--- the n-th field end. In a window of bytes these ends are the bits of one mask: a byte that is not a blank, before one
--- that is. If the n-th one is the last byte of the line or after it, the key is empty.
+-- The key of a line: skipping n fields leads to the byte after the n-th field end. In a window of bytes these ends are
+-- the bits of one mask: a byte that is not a blank, before one that is. If the n-th one is the last byte of the line or
+-- after it, the key is empty.
 use Rattle.ptflow.proofs
 use proofs.Common.{◌≡◌, ℕ, zero, suc, ◌+◌, ◌-◌, ◌/◌, ◌^◌, ◌<◌, ◌≤◌, Bool, true, false, cond, min, not, List, [], ◌∷◌}
 use proofs.Common.{length, map, take, drop, refl, sym, ◌∙◌, ap, arith, usual, slice_get, option_map_or, drop-drop}
-use proofs.Common.{is_blank, ends_word, word_ends, after_fields, ◌==◌, IsNth, count_by, from_bool, mask_l, chunk, get_or, count_ones, ones-mask_l, sum_by-cons}
-use proofs.Common.{bit_and, mask_l-lt, length-map, length-chunk}
-use proofs.Common.{rules, cases_lt, ⊎_elim, drop_all}
+use proofs.Common.{is_blank, ends_word, word_ends, after_fields, ◌==◌, IsNth, count_by, from_bool, mask_l, chunk}
+use proofs.Common.{get_or, count_ones, ones-mask_l, sum_by-cons, bit_and, mask_l-lt, length-map, length-chunk, rules}
+use proofs.Common.{cases_lt, drop_all}
 use proofs.CutLemmas.CutBytes.{rest_of}
 use Rattle.ptflow.specs.Private.Uniq.FieldEnds.{field_ends}
 use lib.Bits.{and_step, and_zero_r}
@@ -22,7 +22,7 @@ suffix_none = grind arith
 
 pub suffix_zero : (bytes : List ℕ) → suffix_at 0 bytes ≡ bytes
 suffix_zero [] = refl
-suffix_zero (b ∷ bytes) = refl
+suffix_zero _ = refl
 
 -- the rest of `line` after the n-th field end of `bytes`, which begin at index i
 from_end : List ℕ → List ℕ → ℕ → ℕ → List ℕ
@@ -30,7 +30,7 @@ from_end line bytes i n = option_map_or (λ end. drop (end + 1) line) (slice_get
 
 from_end_is : (line bytes : List ℕ) (i n : ℕ) → drop i line ≡ bytes → from_end line bytes i n ≡ suffix_at (suc n) bytes
 unfolding from_end
-from_end_is line [] i n is = refl
+from_end_is _ [] i n is = refl
 from_end_is line (b ∷ bytes) i n is = by_test (ends_word b bytes) n (λ m. from_end_is line _ (i + 1) m next)
   where
     next : drop (i + 1) line ≡ bytes
@@ -40,7 +40,7 @@ from_end_is line (b ∷ bytes) i n is = by_test (ends_word b bytes) n (λ m. fro
         → option_map_or (λ end. drop (end + 1) line)
         (slice_get (cond t (i ∷ word_ends (i + 1) bytes) (word_ends (i + 1) bytes)) n) []
         ≡ cond t (suffix_at n bytes) (suffix_at (suc n) bytes)
-    by_test true zero later = next ∙ sym (suffix_zero bytes)
+    by_test true zero later = next ∙ sym (suffix_zero _)
     by_test true (suc n) later = later n
     by_test false n later = later n
 
@@ -48,21 +48,18 @@ pub suffix_is : (n : ℕ) (line : List ℕ) → suffix_at n line ≡ after_field
 unfolding from_end
 suffix_is = grind (arith, suffix_zero, from_end_is)
 
--- ---- byte by byte
-
 pub next_byte : (rest : List ℕ) (left : ℕ) → 0 < left → 0 < length rest
     → suffix_at left rest ≡ cond (ends_word (get_or rest 0 0) (drop 1 rest)) (suffix_at (left - 1) (drop 1 rest))
     (suffix_at left (drop 1 rest))
 next_byte [] left some more = absurd (omega arith)
 next_byte (b ∷ bytes) zero some more = absurd (omega arith)
-next_byte (b ∷ bytes) (suc n) some more = grind arith
+next_byte _ _ some more = grind arith
 
 -- ---- the ends of fields in a window of bytes
 
 abbrev numbers : List Bool → List ℕ
 numbers flags = map from_bool flags
 
--- the test of a number
 abbrev pub is_set : ℕ → Bool
 is_set b = b == 1
 
@@ -80,12 +77,12 @@ as_flags n bytes = decoded (field_ends n bytes)
 
 pub length-ends_in : (n : ℕ) (bytes : List ℕ) → length (ends_in n bytes) ≤ n
 length-ends_in zero bytes = omega arith
-length-ends_in (suc n) [] = omega arith
+length-ends_in _ [] = omega arith
 length-ends_in (suc n) (b ∷ bytes) = grind (arith, length-ends_in n bytes)
 
 counted_one : (t : Bool) (xs : List ℕ) → count_by is_set (from_bool t ∷ xs) ≡ cond t 1 0 + count_by is_set xs
-counted_one true xs = sum_by-cons (λ b. cond (is_set b) 1 0) 1 xs
-counted_one false xs = sum_by-cons (λ b. cond (is_set b) 1 0) 0 xs
+counted_one true xs = sum_by-cons _ 1 xs
+counted_one false xs = sum_by-cons _ 0 xs
 
 -- one byte of a line before another one
 step : (n m : ℕ) (rest : List ℕ) (t : Bool) → n ≡ cond t 1 0 + m
@@ -103,7 +100,8 @@ nth_end (suc j) (suc (suc m)) n k (b ∷ []) h = grind (arith, suffix_none)
 nth_end (suc j) (suc (suc m)) n zero (b ∷ c ∷ bytes) (within, passes, counted) = grind arith
 nth_end (suc j) (suc (suc m)) n (suc k) (b ∷ c ∷ bytes) (within, passes, counted) =
     let m' = count_by is_set (take k (ends_in j (c ∷ bytes))) in
-    step n m' (c ∷ take m bytes) (ends_word b (c ∷ bytes)) (sym counted ∙ counted_one _ (take k (ends_in j (c ∷ bytes))))
+    step n m' (c ∷ take m bytes) _
+    (sym counted ∙ counted_one (ends_word b (c ∷ bytes)) (take k (ends_in j (c ∷ bytes))))
     ∙ nth_end j (suc m) m' k (c ∷ bytes) (omega arith, passes, refl)
 
 none_after : (t : Bool) (n : ℕ) → cond t (suffix_at n []) (suffix_at (suc n) []) ≡ []
@@ -114,42 +112,30 @@ skip_ends : (j m n : ℕ) (bytes : List ℕ) → count_by is_set (ends_in j byte
     → suffix_at (suc n) (take m bytes) ≡ suffix_at (suc (n - count_by is_set (ends_in j bytes))) (drop j (take m bytes))
 skip_ends zero m n bytes few = grind arith
 skip_ends (suc j) zero n bytes few = refl
-skip_ends (suc j) (suc m) n [] few = refl
-skip_ends (suc j) (suc zero) n (b ∷ bytes) few = none_after (ends_word b []) n
-    ∙ sym (ap (suffix_at (suc (n - count_by is_set (ends_in (suc j) (b ∷ bytes))))) (drop_all j [] (omega arith)))
-skip_ends (suc j) (suc (suc m)) n (b ∷ []) few = none_after (ends_word b []) n
-    ∙ sym (ap (suffix_at (suc (n - count_by is_set (ends_in (suc j) (b ∷ []))))) (drop_all j [] (omega arith)))
+skip_ends _ _ n [] few = refl
+skip_ends (suc j) (suc zero) n (b ∷ bytes) few = cc (none_after (ends_word b []) n, drop_all {X = ℕ} j [] (omega arith))
+skip_ends (suc j) (suc (suc m)) n (b ∷ []) few = cc (none_after (ends_word b []) n, drop_all {X = ℕ} j [] (omega arith))
 skip_ends (suc j) (suc (suc m)) n (b ∷ c ∷ bytes) few =
     let t = ends_word b (c ∷ bytes) in
     let rest = count_by is_set (ends_in j (c ∷ bytes)) in
-    let counted : count_by is_set (ends_in (suc j) (b ∷ c ∷ bytes)) ≡ cond t 1 0 + rest =
-    counted_one t (ends_in j (c ∷ bytes)) in
-    let enough : cond t 1 0 + rest ≤ n = omega (arith, counted) in
+    let counted = counted_one t (ends_in j (c ∷ bytes)) in
     let same : n - cond t 1 0 - rest ≡ n - count_by is_set (ends_in (suc j) (b ∷ c ∷ bytes)) = omega arith in
-    step n (n - cond t 1 0) (c ∷ take m bytes) t (omega arith)
-    ∙ skip_ends j (suc m) (n - cond t 1 0) (c ∷ bytes) (omega arith)
-    ∙ ap (λ i. suffix_at (suc i) (drop j (c ∷ take m bytes))) same
+    cc (
+      step n (n - cond t 1 0) (c ∷ take m bytes) t (omega arith),
+      skip_ends j (suc m) (n - cond t 1 0) (c ∷ bytes) (omega arith),
+    )
 
 -- the range from an index that may be after its end
 range_from : (bytes : List ℕ) (at to : ℕ) → take (to - min at to) (drop (min at to) bytes)
     ≡ take (to - at) (drop at bytes)
-range_from bytes at to = ⊎_elim
-    (λ less. let same : min at to ≡ at = omega arith in ap (λ i. take (to - i) (drop i bytes)) same)
-    (λ more.
-    let same : min at to ≡ to = omega arith in
-    let none : to - to ≡ 0 = omega arith in
-    let none_left : to - at ≡ 0 = omega arith in
-    ap (λ i. take (to - i) (drop i bytes)) same ∙ ap (λ i. take i (drop to bytes)) none
-    ∙ sym (ap (λ i. take i (drop at bytes)) none_left)) (cases_lt at to)
-
--- ---- by the mask of a window
+range_from _ at to = grind (arith, cases_lt at to)
 
 module _ (bytes : List ℕ) {ends : ℕ} (is : ends ≡ mask_l (field_ends 31 bytes)) where
   as_numbers : ends ≡ mask_l (map is_set (ends_in 31 bytes))
-  as_numbers = is ∙ ap mask_l (sym (as_flags 31 bytes))
+  as_numbers = is ∙ ap mask_l (sym (as_flags 31 _))
 
   pub ends_counted : {count : ℕ} → count ≡ count_ones ends → count ≡ count_by is_set (ends_in 31 bytes)
-  ends_counted count_is = count_is ∙ ap count_ones as_numbers ∙ ones-mask_l is_set (ends_in 31 bytes)
+  ends_counted count_is = count_is ∙ ap count_ones as_numbers ∙ ones-mask_l is_set _
 
   pub nth_in_window : {count left k : ℕ} → count ≡ count_ones ends → 0 < left → left ≤ count
       → ((test : ℕ → Bool) (xs : List ℕ) → length xs ≤ 64 → ends ≡ mask_l (map test xs) → left - 1 < count_by test xs
@@ -170,13 +156,12 @@ module _ (bytes : List ℕ) (at to : ℕ) {left : ℕ} (some : 0 < left) where
       let n : left ≡ suc (left - 1) = omega arith in
       let size : to - at - suc k ≡ to - (at + suc k) = omega arith in
       let start : min (at + suc k) to ≡ from = omega arith in
-      ap (λ i. suffix_at i (take (to - at) (drop at bytes))) n
-      ∙ nth_end 31 (to - at) (left - 1) k (drop at bytes) h
-      ∙ rest_of (suc k) (to - at) (drop at bytes)
-      ∙ ap (take (to - at - suc k)) (drop-drop (suc k) at bytes)
-      ∙ ap (λ i. take i (drop (at + suc k) bytes)) size
-      ∙ sym (range_from bytes (at + suc k) to)
-      ∙ ap (λ i. take (to - i) (drop i bytes)) start
+      cc (
+        nth_end 31 (to - at) (left - 1) k (drop at bytes) h,
+        rest_of (suc k) (to - at) (drop at bytes),
+        drop-drop (suc k) at bytes,
+        range_from bytes (at + suc k) to,
+      )
 
   pub key_after_window : count_by is_set (ends_in 31 (drop at bytes)) < left
       → suffix_at (left - count_by is_set (ends_in 31 (drop at bytes))) (take (to - (at + 31)) (drop (at + 31) bytes))
@@ -186,12 +171,7 @@ module _ (bytes : List ℕ) (at to : ℕ) {left : ℕ} (some : 0 < left) where
       let n : left ≡ suc (left - 1) = omega arith in
       let next : suc (left - 1 - count) ≡ left - count = omega arith in
       let size : to - at - 31 ≡ to - (at + 31) = omega arith in
-      let rest = rest_of 31 (to - at) (drop at bytes) ∙ ap (take (to - at - 31)) (drop-drop 31 at bytes)
-      ∙ ap (λ i. take i (drop (at + 31) bytes)) size in
-      sym (ap (λ i. suffix_at i (take (to - at) (drop at bytes))) n
-      ∙ skip_ends 31 (to - at) (left - 1) (drop at bytes) (omega arith)
-      ∙ ap (λ i. suffix_at i (drop 31 (take (to - at) (drop at bytes)))) next
-      ∙ ap (suffix_at (left - count)) rest)
+      cc (skip_ends 31 (to - at) (left - 1) (drop at bytes) (omega arith), rest_of 31 _ _, drop-drop 31 at bytes)
 
 -- ---- the mask of a window
 
@@ -215,14 +195,13 @@ module _ (bytes : List ℕ) (at : ℕ) (room : at + 32 ≤ length bytes) {blanks
   where
     pub blanks_fit : blanks ≤ 4294967295
     blanks_fit =
-        let long = length-map (chunk at 32 bytes) is_blank ∙ length-chunk at 32 bytes room in
-        let low : mask_l (map is_blank (chunk at 32 bytes)) < 2 ^ 32 = rw long at (mask_l-lt (map is_blank (chunk at 32 bytes))) in
-        omega arith
+        let v = chunk at 32 bytes in
+        omega (arith, rw (length-map v is_blank ∙ length-chunk at 32 bytes room) at (mask_l-lt (map is_blank v)))
 
     pub ends_mask : bit_and (4294967295 - blanks) (blanks / 2) ≡ mask_l (field_ends 31 (drop at bytes))
     ends_mask =
         let v = chunk at 32 bytes in
         let all : mask_l (map is_word v) + mask_l (map is_blank v) + 1 ≡ 2 ^ 32 =
-        rw (length-chunk at 32 bytes room) at (word_mask v) in
+        rw (length-chunk at 32 _ room) at (word_mask v) in
         let words : 4294967295 - blanks ≡ mask_l (map is_word v) = omega arith in
-        rw (words, is) (and_ends 31 (drop at bytes) (grind usual))
+        rw (words, is) (and_ends 31 _ (grind usual))

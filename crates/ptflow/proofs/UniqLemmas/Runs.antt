@@ -1,21 +1,19 @@
--- The runs of lines, from the first line on, and in a block line by line, with the invariant of the loop over its
--- lines. A line, or many copies of it at once, adds to the count of the current run, or ends it. Output that is
--- contiguous in the block is deferred, so the output so far is the pushed bytes and then the deferred ones. Last, that
--- `uniq` works line by line, and the laws of inputs in parts (`UniqOfParts`, `UniqByKey`).
+-- The runs of lines, and the loop over the lines of a block. A line, or many copies of it at once, adds to the count of
+-- the current run, or ends it. Output that is contiguous in the block is deferred, so the output so far is the pushed
+-- bytes and then the deferred ones. Last, the laws of inputs in parts.
 use Rattle.ptflow.proofs
 use Rattle.ptflow.specs
-use proofs.Common.{◌≡◌, ℕ, ◌+◌, ◌&&◌, Bool, true, false, cond, List, [], ◌∷◌, ◌++◌, refl, ap, arith, usual, nat_lt}
-use proofs.Common.{append-nil, bytes_eq-Decides, IsPrefix, Uniq, is_same, run_of, ◌-◌, ◌<◌, ◌≤◌, Some, None, Option}
-use proofs.Common.{length, take, drop, subst, append_assoc, length-append, bytes_eq, slice_range, drop_split}
-use proofs.Common.{length-drop, drop_at, IsFirstByte, is_byte, Output, PushEffect, unlines, complete_lines, IsLine}
-use proofs.Common.{unlines_push, complete_lines_none, RunsWritten, bytes_in_range, sym, ◌∙◌, known_lines, line}
+use proofs.Common.{take-append-drop, ◌≡◌, ℕ, ◌+◌, ◌&&◌, Bool, true, false, cond, List, [], ◌∷◌, ◌++◌, refl, ap, arith}
+use proofs.Common.{usual, nat_lt, append-nil, bytes_eq-Decides, IsPrefix, Uniq, is_same, run_of, ◌-◌, ◌<◌, ◌≤◌, Some}
+use proofs.Common.{None, Option, length, take, drop, subst, append_assoc, length-append, bytes_eq, slice_range}
+use proofs.Common.{drop_split, length-drop, drop_at, IsFirstByte, is_byte, Output, PushEffect, unlines, complete_lines}
+use proofs.Common.{IsLine, unlines_push, complete_lines_none, RunsWritten, bytes_in_range, sym, ◌∙◌, known_lines, line}
 use proofs.Common.{first_line, current_run_of, rules, ◌⊎◌, inl, inr, ⊎_elim, filter, AllByRecursion, cases_Bool}
 use proofs.Common.{the_lines_of_parts, lines-unlines, lines_are, BeginsWith, EndsWith, line_before_terminator}
-use proofs.Common.{take_with_terminator, ◌≢◌, zero, suc, IsLineFilter}
+use proofs.Common.{take_with_terminator, ◌≢◌, zero, suc, IsLineFilter, EndRunPre, first_of, repeated, IsRangeOf}
+use proofs.Common.{RunsFailed, IsPending, count_prefix, run_text, count_of, has_output, current_run, run_output}
+use proofs.Common.{runs_after, runs_from}
 use proofs.Passes.Exits.{wrote_then, split_of, ended_next}
-use specs.Private.Uniq.BlockRuns.{EndRunPre, first_of, repeated, IsRangeOf, RunsFailed, IsPending}
-use specs.Private.Uniq.RunsFrom.{count_prefix, run_text, count_of, has_output, current_run, run_output, runs_after}
-use specs.Private.Uniq.RunsFrom.{runs_from}
 use specs.declared.tools.uniq.block_runs.BlockRange.{BlockRange}
 use specs.declared.tools.uniq.CurrentRun.{CurrentRun}
 use specs.Uniqs.{Run, init, output_of, key, cons_run, runs, uniq_tool}
@@ -54,14 +52,10 @@ module _ (job : Uniq) where
   runs_are line [] = refl
   runs_are line (l ∷ ls) = grind (arith, onto_first_run, first, runs_are l ls)
 
-  -- ---- one line more
-
   pub runs_after_next : (run : Run) (line : List ℕ) (more : List (List ℕ))
       → (nat_lt 0 run.count && is_same job run.line line) ≡ false
       → runs_after job run (line ∷ more) ≡ current_run run ++ runs_after job (run_of line 1) more
   runs_after_next run line more turns = grind (arith, runs_are line more)
-
-  -- ---- the output of runs
 
   pub entries-append : (xs ys : List Run) → output_of job (xs ++ ys) ≡ output_of job xs ++ output_of job ys
   entries-append xs ys = grind usual
@@ -69,8 +63,6 @@ module _ (job : Uniq) where
 pub current_run_is : (job : Uniq) (run : Run)
     → output_of job (current_run run) ≡ run_output job.show run.count (run.line ++ job.terminator ∷ [])
 current_run_is job run = grind usual
-
--- ---- all runs but the last
 
 init_push : (rs : List Run) (run : Run) → init (rs ++ run ∷ []) ≡ rs
 init_push [] run = refl
@@ -88,14 +80,10 @@ pub init_current : (job : Uniq) (passed : List Run) (run : Run)
 init_current job passed run = by_test (nat_lt 0 run.count)
   where
     by_test : (t : Bool) → IsPrefix (output_of job (init (passed ++ cond t (run ∷ []) []))) (output_of job passed)
-    by_test false = let (last, split) = init_prefix passed in record {
-      rest = output_of job last;
-      is = cc (entries-append job (init passed) last, append-nil passed);
-    }
-    by_test true = record {
-      rest = [];
-      is = cc (append-nil (output_of job passed), init_push passed run);
-    }
+    by_test false =
+        let (last, split) = init_prefix passed in
+        record { rest = output_of job last; is = cc (entries-append job (init passed) last, append-nil passed) }
+    by_test true = record { rest = []; is = cc (append-nil (output_of job passed), init_push passed run) }
 
 -- ---- lines before the rest of a block
 
@@ -134,8 +122,7 @@ module _ {end : ℕ} {block rest : List ℕ} {front : List (List ℕ)} (lies : B
 ranges_join : {block : List ℕ} {a b : BlockRange} → IsRangeOf block a → IsRangeOf block b → a.to ≡ b.from
     → bytes_in_range block (record { from = a.from; to = b.to }) ≡ bytes_in_range block a ++ bytes_in_range block b
 ranges_join {block} {a} {b} fits next touch =
-    let back = bytes_in_range block b in
-    let split : drop a.from block ≡ ((bytes_in_range block a) ++ back) ++ drop b.to block =
+    let split : drop a.from block ≡ (bytes_in_range block a ++ bytes_in_range block b) ++ drop b.to block =
     grind (usual, drop_split) in
     grind usual
 
@@ -183,12 +170,10 @@ module _ {job : Uniq} {before after : Run} {ls : List (List ℕ)} {passed : List
         → runs_after job before ((ls ++ line ∷ []) ++ more) ≡ passed ++ runs_after job after (line ∷ more)
     one_more more = cc (append_assoc ls (line ∷ []) more, steps.on (line ∷ more))
 
-    -- one line more, of the current run
     pub steps_more : (nat_lt 0 after.count && is_same job after.line line) ≡ true
         → RunSteps job before (run_of after.line (after.count + 1)) (ls ++ line ∷ []) passed
     steps_more same = grind (usual, one_more, steps)
 
-    -- one that ends it
     pub steps_next : (nat_lt 0 after.count && is_same job after.line line) ≡ false
         → RunSteps job before (run_of line 1) (ls ++ line ∷ []) (passed ++ current_run after)
     steps_next other = grind (usual, one_more, runs_after_next)
@@ -235,7 +220,7 @@ pub record RunsInvariant (job : Uniq) (first block rest : List ℕ) (start count
 pub runs_loop_starts : (job : Uniq) (first block : List ℕ) {start : ℕ} → 0 < start → {run_key : List ℕ}
     → run_key ≡ key job first → (was : Output)
     → RunsInvariant job first block block start start None (record { from = 0; to = 0 }) run_key was was
-runs_loop_starts job first _ {start} some run_key_is was = record {
+runs_loop_starts job _ _ {start} some run_key_is was = record {
   front = [];
   lies = record { lines = refl; bytes = refl };
   passed = [];
@@ -303,9 +288,8 @@ module _ {job : Uniq} {first block rest : List ℕ} {start count : ℕ} {line : 
           → is'.write_failed ≡ true
           → RunsFailed job (run_of first start) (complete_lines job.terminator block) was is'
       runs_loop_failed wrote fault = steps_failed steps (search (entries, pending_pushed))
-          (complete_lines job.terminator (drop (at + 1) rest)) (front_more so_far.lies at found).lines fault
+          _ (front_more so_far.lies at found).lines fault
 
-  -- no complete line is left
   module _ (none : IsLine job.terminator rest) {is' : Output}
       (wrote : PushEffect is is' (bytes_in_range block pending)) where
     pub all_lines : complete_lines job.terminator block ≡ so_far.front
@@ -313,10 +297,7 @@ module _ {job : Uniq} {first block rest : List ℕ} {start count : ℕ} {line : 
 
     pub running_unended : is'.write_failed ≡ true
         → RunsFailed job (run_of first start) (complete_lines job.terminator block) was is'
-    running_unended fault =
-        search (steps_failed, rw so_far.waits.all at (wrote_then _ _ _ so_far.waits.wrote wrote))
-
--- ---- the current run
+    running_unended fault = search (steps_failed, rw so_far.waits.all at (wrote_then _ _ _ so_far.waits.wrote wrote))
 
 -- The first of two slots may hold the first line of the current run, which the decided output leaves out.
 pub uniq_line_tool : {S : Type 0} (job : Uniq) (run : S → CurrentRun) (start : S) → (run start).count ≡ 0
@@ -340,41 +321,34 @@ uniq_line_tool job run start none = record {
 
 line_ends : (end : ℕ) (l more : List ℕ) → IsLine end l
     → IsFirstByte (is_byte end) ((l ++ end ∷ []) ++ more) (Some (length l))
-line_ends end l more whole = grind usual
+line_ends end l _ whole = grind usual
 
-module _ {job : Uniq} {first block : List ℕ} {start : ℕ} {line : Option BlockRange} {pending : BlockRange} {run_key : List ℕ}
-    {was is : Output} (l : List ℕ) (whole : IsLine job.terminator l) (key_is : run_key ≡ key job l) where
-  counted_once : (more : List ℕ) {count : ℕ}
-      → RunsInvariant job first block ((l ++ job.terminator ∷ []) ++ more) start count line pending run_key was is
-      → RunsInvariant job first block more start (count + 1) line pending run_key was is
-  counted_once more so_far = grind (usual, bytes_eq-Decides, runs_loop_more, line_ends)
-
-  pub runs_loop_again : (n : ℕ) (rest : List ℕ) {count : ℕ}
+module _ {job : Uniq} {first block : List ℕ} {start : ℕ} {line : Option BlockRange} {pending : BlockRange}
+    {run_key : List ℕ} {was is : Output} where
+  runs_loop_again : (l : List ℕ) → IsLine job.terminator l → run_key ≡ key job l → (n : ℕ) (rest : List ℕ) {count : ℕ}
       → RunsInvariant job first block (repeated n (l ++ job.terminator ∷ []) ++ rest) start count line pending run_key
       was is → RunsInvariant job first block rest start (count + n) line pending run_key was is
-  runs_loop_again zero rest so_far = grind arith
-  runs_loop_again (suc n) rest {count} so_far =
+  runs_loop_again l whole own zero rest so_far = grind arith
+  runs_loop_again l whole own (suc n) rest {count} so_far =
       let bytes = l ++ job.terminator ∷ [] in
-      let once = counted_once _ (rw (append_assoc bytes (repeated n bytes) rest) at so_far) in
-      grind (arith, runs_loop_again n _ once)
+      let once : RunsInvariant _ first block (repeated n bytes ++ rest) start (count + 1) line pending run_key was is =
+      grind (usual, bytes_eq-Decides, runs_loop_more, line_ends) in
+      grind (arith, runs_loop_again l whole own n rest once)
 
-pub runs_loop_repeats : {job : Uniq} {first block rest : List ℕ} {start count : ℕ} {line : Option BlockRange} {pending : BlockRange}
-    {run_key : List ℕ} {was is : Output}
-    → RunsInvariant job first block rest start count line pending run_key was is → {at : ℕ}
-    → IsFirstByte (is_byte job.terminator) rest (Some at) → {next : List ℕ} {same : Bool}
-    → next ≡ key job (take at rest) → same ≡ bytes_eq run_key next → same ≡ true → (n : ℕ) {left : List ℕ}
-    → drop (at + 1) rest ≡ repeated n (take (at + 1) rest) ++ left
-    → RunsInvariant job first block left start (count + (1 + n)) line pending run_key was is
-runs_loop_repeats {job} {rest = rest} {run_key = run_key} so_far {at} found key_is tested is_true n {left} copies =
-    let own : run_key ≡ key job (take at rest) = grind (arith, bytes_eq-Decides) in
-    let split : drop (at + 1) rest ≡ repeated n (take at rest ++ job.terminator ∷ []) ++ left =
-    grind (arith, take_with_terminator) in
-    let again = runs_loop_again (take at rest) (line_before_terminator job.terminator rest at found) own n left in
-    grind (arith, again (rw split at (runs_loop_more so_far found key_is tested is_true)))
+  pub runs_loop_repeats : {rest : List ℕ} {count : ℕ}
+      → RunsInvariant job first block rest start count line pending run_key was is → {at : ℕ}
+      → IsFirstByte (is_byte job.terminator) rest (Some at) → {next : List ℕ} {same : Bool}
+      → next ≡ key job (take at rest) → same ≡ bytes_eq run_key next → same ≡ true → (n : ℕ) {left : List ℕ}
+      → drop (at + 1) rest ≡ repeated n (take (at + 1) rest) ++ left
+      → RunsInvariant job first block left start (count + (1 + n)) line pending run_key was is
+  runs_loop_repeats {rest} so_far {at} found key_is tested is_true n {left} copies =
+      let own : run_key ≡ key job (take at rest) = grind (arith, bytes_eq-Decides) in
+      let split : rest ≡ repeated (1 + n) (take at rest ++ job.terminator ∷ []) ++ left =
+      grind (arith, take_with_terminator, take-append-drop (at + 1) rest, append_assoc) in
+      runs_loop_again _ (line_before_terminator _ _ at found) own _ _
+      (rw split at so_far)
 
--- ---- inputs in parts
-
--- Lines with different keys are in different runs, so no run is cut or merged.
+-- ---- inputs in parts: lines with different keys are in different runs, so no run is cut or merged
 
 module _ (job : Uniq) where
   other_key : (a b : List ℕ) → key job a ≢ key job b → is_same job a b ≡ false
@@ -406,8 +380,6 @@ module _ (job : Uniq) where
 pub uniq_of_parts : UniqOfParts
 uniq_of_parts job a b whole change = simp (the_lines_of_parts, runs-append, entries-append)
 
--- ---- lines that are distributed by their keys
-
 all_filter : {X : Type 0} (P : X → Type 0) (test : X → Bool) (xs : List X) → AllByRecursion P xs
     → AllByRecursion P (filter test xs)
 all_filter P test [] all = tt
@@ -425,7 +397,6 @@ module _ (job : Uniq) (taken : List ℕ → Bool) where
   all_runs P [] all = tt
   all_runs P (x ∷ ls) (first, others) = grind (arith, all_runs P ls others)
 
-  -- a line whose key is not in the part
   onto_dropped : (x : List ℕ) (rs : List Run) → line_taken x ≡ false
       → filter run_taken (cons_run job x rs) ≡ filter run_taken rs
   onto_dropped = grind (arith, bytes_eq-Decides)

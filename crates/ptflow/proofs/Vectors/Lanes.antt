@@ -1,21 +1,19 @@
--- Vector operations. Each is a `map` over the lanes, so facts about one byte carry over: for bytes that are mapped,
--- ranges that are shifted, sets of bytes, and tables of images. A flag of a byte set is one bit of one entry: the low
--- nibble of a byte gives the entry, the high one the table and the bit. Images are looked up in every row of a table;
--- then each step halves the rows, and the lowest bit of a lane's row picks one of two vectors.
+-- Vector operations. Each is a `map` over the lanes, so facts about one byte carry over. A flag of a byte set is one
+-- bit of one entry: the low nibble of a byte gives the entry, the high one the table and the bit. Images are looked up
+-- in every row of a table; then each step halves the rows, and the lowest bit of a lane's row picks one of two vectors.
 use Rattle.ptflow.proofs
 use Rattle.ptflow.specs
 use Rattle.std.proofs.lemmas
-use proofs.Common.{is_byte}
-use proofs.Common.{usual, ◌≡◌, ℕ, ◌+◌, ◌<◌, ◌≤◌, ◌%◌, Bool, false, List, [], ◌∷◌, ◌++◌, Option, map, take, drop}
-use proofs.Common.{length, get_or, replicate, cond, refl, sym, ◌∙◌, ap, arith, w8, Fits, sum_by, zero, suc, slice_get}
-use proofs.Common.{option_map, sel_l, zip2, top, Each1, take-add, false≢true, map-append, tops_compared, zip2_splat}
-use proofs.Common.{zip2_of_maps, splat_is_map, Each1-from_get_or, stretch_delta, pos, negsuc, filter, mask_of}
+use proofs.Common.{is_byte, usual, ◌≡◌, ℕ, ◌+◌, ◌<◌, ◌≤◌, ◌%◌, Bool, false, List, [], ◌∷◌, ◌++◌, Option, map, take}
+use proofs.Common.{drop, length, get_or, replicate, cond, refl, sym, ◌∙◌, ap, arith, w8, Fits, sum_by, zero, suc}
+use proofs.Common.{slice_get, option_map, sel_l, zip2, top, Each1, take-add, false≢true, map-append, tops_compared}
+use proofs.Common.{zip2_splat, zip2_of_maps, splat_is_map, Each1-from_get_or, stretch_delta, filter, mask_of}
 use proofs.Common.{cast_unsigned, true, set, take_more_set, take-set, append-nil, add-one, sum_by-append, sum_by-cons}
-use proofs.Common.{range_delta, shift_by_ranges, ◌*◌, ◌/◌, ◌^◌, ◌&&◌, ◌||◌, ltb, eqb, ◌≢◌, ⊎_elim, bit_or, bit_and}
-use proofs.Common.{cast_signed, bit_at, from_bool, swz_l, SwzOk, SwzOk-from_below, pick_l, get_or-drop, ◌-◌, map-map}
-use proofs.Common.{and_mask, lt-ltb, le-ltb, cases_eq, cases_lt, pow_pos, length-map, set-get_or, get_or-set_same}
-use proofs.Common.{table_has, set_has, IsSetOf, All, not, length-set, get_or-chunk, get_or-map, chunk, ext_get_or}
-use proofs.Common.{get_or_default, get_or_past, min, rules, is_some}
+use proofs.Common.{range_delta, ◌*◌, ◌/◌, ◌^◌, ◌&&◌, ◌||◌, ltb, eqb, ◌≢◌, ⊎_elim, bit_or, bit_and, cast_signed, bit_at}
+use proofs.Common.{from_bool, swz_l, SwzOk, SwzOk-from_below, pick_l, get_or-drop, ◌-◌, map-map, and_mask, lt-ltb}
+use proofs.Common.{le-ltb, cases_eq, cases_lt, pow_pos, length-map, set-get_or, get_or-set_same, table_has, set_has}
+use proofs.Common.{IsSetOf, All, not, length-set, get_or-chunk, get_or-map, chunk, ext_get_or, get_or_default}
+use proofs.Common.{get_or_past, min, rules, is_some}
 use specs.declared.simd.shift.ShiftRange.{ShiftRange}
 use Rattle.ptlangs.specs.declared.tr.shifts.Stretch.{Stretch}
 use lemmas.Nat.Bits.{and_pow, bit_at_set_same, bit_at_set_other}
@@ -40,8 +38,8 @@ sel_maps p f g v em ex ey = cc (sel_map p f g v)
 
 pub tests_are : (t : ℕ → ℕ → Bool) (f : ℕ → ℕ) (v : List ℕ) {xs : List ℕ} {n : ℕ} (y : ℕ) → length v ≡ n → xs ≡ map f v
     → map (top 7) (zip2 (λ a b. cond (t a b) 255 0) xs (replicate n y)) ≡ map (λ b. t (f b) y) v
-tests_are t f v {xs} {n} y long is = tops_compared w8 t xs (replicate n y)
-    ∙ zip2_of_maps t f (λ _. y) v is (splat_is_map v n y long)
+tests_are t f v {xs} {n} y long is = tops_compared w8 t xs _
+    ∙ zip2_of_maps t f _ v is (splat_is_map v n y long)
 
 one_tested : (y : ℕ) (v : List ℕ) → map (λ a. cast_signed w8 (cond (eqb a y) 255 0)) v ≡ mask_of (is_byte y) v
 one_tested y [] = refl
@@ -58,7 +56,7 @@ compared_with y v {n} long = ap (map (cast_signed w8)) (zip2_splat (λ a b. cond
 pub mapped_more : (map_byte : ℕ → ℕ) (at next n : ℕ) (from to new : List ℕ) → next ≡ at + n
     → take at to ≡ map map_byte (take at from) → take (at + n) new ≡ take at to ++ map map_byte (take n (drop at from))
     → take next new ≡ map map_byte (take next from)
-mapped_more map_byte at next n from to new is begun more = grind (arith, map-append, take-add)
+mapped_more _ at _ n _ to new is begun more = grind (arith, map-append, take-add)
 
 pub bytes_same : {X : Type 0} (f g : ℕ → X) → ((b : ℕ) → b < 256 → f b ≡ g b) → (v : List ℕ) → Each1 (Fits w8) v
     → map f v ≡ map g v
@@ -99,19 +97,12 @@ pub one_stretch_more : (ranges : List ShiftRange) (ss : List Stretch) (i : ℕ) 
     → i < length ranges → range_sum (take i ranges) b ≡ stretch_sum (take i ss) b
     → range_delta range b ≡ stretch_delta (stretch_at ss i) b
     → range_sum (take (i + 1) (set ranges i range)) b ≡ stretch_sum (take (i + 1) ss) b
-one_stretch_more ranges ss i range b room before is = grind (usual, sum_by-append, add-one, stretch_taken)
+one_stretch_more _ ss i _ b room before is = grind (usual, sum_by-append, add-one, stretch_taken)
 
 pub all_stretches : (n : ℕ) (ss : List Stretch) → is_some (stretch_at ss n) ≡ false → length ss ≤ n
 all_stretches n [] none = omega arith
 all_stretches zero (s ∷ ss) none = absurd (false≢true (sym none))
 all_stretches (suc n) (s ∷ ss) none = grind (arith, all_stretches n ss none)
-
-pub one_range_more : (ranges : List ShiftRange) (i : ℕ) (default : ShiftRange) (v : List ℕ) {images deltas : List ℕ}
-    → i < length ranges
-    → images ≡ map (shift_by_ranges (take i ranges)) v → deltas ≡ map (range_delta (get_or ranges i default)) v
-    → zip2 (λ a b. (a + b) % 256) images deltas ≡ map (shift_by_ranges (take (i + 1) ranges)) v
-one_range_more ranges i default v room before is =
-    zip2_of_maps (λ a b. (a + b) % 256) _ _ v before is ∙ grind usual
 
 -- ---- masks of lanes
 
@@ -119,7 +110,7 @@ abbrev pub lanes_of : List Bool → List ℕ
 lanes_of flags = map (λ t. cond t 255 0) flags
 
 pub lanes_of_mask : (test : ℕ → Bool) (v : List ℕ) → map (cast_unsigned w8) (mask_of test v) ≡ lanes_of (map test v)
-lanes_of_mask test [] = refl
+lanes_of_mask _ [] = refl
 lanes_of_mask test (b ∷ v) = grind (arith, lanes_of_mask test v)
 
 pub tops_of_lanes : (fs : List Bool) → map (top 7) (lanes_of fs) ≡ fs
@@ -131,11 +122,10 @@ tops_of_lanes (f ∷ fs) = grind (arith, tops_of_lanes fs)
 pub stored_more : (flag : Bool) (row : List ℕ) (count place : ℕ) → count < length row
     → take (count + cond flag 1 0) (set row count place) ≡ take count row ++ cond flag (place ∷ []) []
 stored_more true row count place room = take_more_set row count place room
-stored_more false row count place room = grind (arith, take-set, append-nil)
+stored_more _ row _ _ room = grind (arith, take-set, append-nil)
 
 -- ---- a table of 16 entries, indexed by a nibble of each byte
 
--- lanes at indices below 16
 pub shuffle_result : (v : List ℕ) (i : ℕ) (row : List ℕ) → i + length row ≤ 16 → Each1 (λ place. place < 16) row
     → swz_l w8 16 v i row ≡ pick_l 0 v row
 shuffle_result v i [] room lanes = refl
@@ -149,18 +139,16 @@ module _ (half : ℕ → ℕ) (small : (b : ℕ) → b < 256 → half b < 16) wh
   module _ {js : List ℕ} (v : List ℕ) (is : js ≡ map half v) (fit : (length v ≡ 16) × Each1 (Fits w8) v) where
     pub nibbles_ok : SwzOk w8 16 16 0 js
     nibbles_ok =
-        rw is (SwzOk-from_below w8 16 1 16 0 (map half v) refl (omega (arith, length-map v half))
+        rw is (SwzOk-from_below w8 16 1 16 0 _ refl (omega (arith, length-map v half))
         (halves_small v fit.1))
 
     pub looked_up : (table : List ℕ) → swz_l w8 16 table 0 js ≡ map (λ b. get_or table (half b) 0) v
-    looked_up table =
-        rw is (shuffle_result table 0 (map half v) (omega (arith, length-map v half)) (halves_small v fit.1)
+    looked_up _ =
+        rw is (shuffle_result _ 0 _ (omega (arith, length-map v half)) (halves_small v fit.1)
         ∙ map-map _ half v)
 
 pub low_nibbles : (v : List ℕ) → length v ≡ 16 → zip2 bit_and v (replicate 16 15) ≡ map (λ b. b % 16) v
 low_nibbles v long = zip2_splat bit_and v 16 15 long ∙ (λ i. map (λ b. and_mask b 4 i) v)
-
--- ---- the test
 
 abbrev pub bits_in_order : List ℕ
 bits_in_order = 1 ∷ 2 ∷ 4 ∷ 8 ∷ 16 ∷ 32 ∷ 64 ∷ 128 ∷ 1 ∷ 2 ∷ 4 ∷ 8 ∷ 16 ∷ 32 ∷ 64 ∷ 128 ∷ []
@@ -171,14 +159,6 @@ bit_of {half} small = grind arith
 all_or_none : (row k : ℕ) → eqb (bit_and row (2 ^ k)) (2 ^ k) ≡ eqb (bit_at row k) 1
 all_or_none row k = grind (arith, and_pow, pow_pos)
 
-byte_tested : (set : ByteSet) (b : ℕ) → b < 256
-    → cast_signed w8
-    (cond
-    (eqb (bit_and (cond (ltb b 128) (get_or set.low (b % 16) 0) (get_or set.high (b % 16) 0))
-    (get_or bits_in_order (b / 16) 0)) (get_or bits_in_order (b / 16) 0)) 255 0)
-    ≡ cond (set_has set b) (negsuc 0) (pos 0)
-byte_tested set b byte = grind (arith, bit_of, all_or_none)
-
 pub tested : (set : ByteSet) (v : List ℕ) {low high bit : List ℕ} → length v ≡ 16 → Each1 (Fits w8) v
     → low ≡ map (λ b. get_or set.low (b % 16) 0) v → high ≡ map (λ b. get_or set.high (b % 16) 0) v
     → bit ≡ map (λ b. get_or bits_in_order (b / 16) 0) v
@@ -186,10 +166,10 @@ pub tested : (set : ByteSet) (v : List ℕ) {low high bit : List ℕ} → length
     (zip2 bit_and (sel_l (map (top 7) (zip2 (λ a b. cond (ltb a b) 255 0) v (replicate 16 128))) low high) bit) bit)
     ≡ mask_of (set_has set) v
 tested set v long fit el eh eb =
-    let rows = sel_maps _ _ _ v (tests_are ltb (λ b. b) v 128 long (sym (map-id v))) el eh in
+    let rows = sel_maps _ _ _ v (tests_are ltb _ v 128 long (sym (map-id v))) el eh in
     ap (map (cast_signed w8)) (zip2_of_maps (λ a b. cond (eqb a b) 255 0) _ _ v (zip2_of_maps bit_and _ _ v rows eb) eb)
     ∙ map-map (cast_signed w8) _ v
-    ∙ bytes_same _ _ (byte_tested set) v fit
+    ∙ bytes_same _ _ (λ b byte. grind (arith, bit_of, all_or_none)) v fit
 
 -- ---- a table that is filled flag by flag
 
@@ -207,22 +187,24 @@ module _ (table : List ℕ) {n : ℕ} (long : length table ≡ 16) (within : n <
   abbrev put : ℕ
   put = bit_or old (1 * 2 ^ (n / 16) % 256)
 
-  set_here : table_has (flags_set table n 1) n ≡ true
-  set_here =
-      cc (get_or-set_same table (n % 16) put 0 (omega arith), same_bit, bit_at_set_same w8 old (n / 16) (omega arith))
-
   set_there : {b : ℕ} → b < 128 → b ≢ n → table_has (flags_set table n 1) b ≡ table_has table b
-  set_there {b} byte other = ⊎_elim
-      (λ row. cc (
-        get_or-set_same table (n % 16) put 0 (omega arith),
-        bit_at_set_other w8 old (n / 16) (omega arith) (b / 16 % 8) (grind arith),
-      ))
-      (grind usual) (cases_eq (b % 16) (n % 16))
+  set_there {b} byte other = grind (
+    usual,
+    cases_eq (b % 16) (n % 16),
+    get_or-set_same table (n % 16) put 0 (omega arith),
+    bit_at_set_other w8 old (n / 16) (omega arith) (b / 16 % 8),
+  )
 
   filled_is : (flag : Bool) {b : ℕ} → b < 128
       → table_has (flags_set table n (from_bool flag)) b
       ≡ cond (eqb b n) (flag || table_has table n) (table_has table b)
-  filled_is true {b} byte = grind (arith, set_here, set_there)
+  filled_is true {b} byte = grind (
+    arith,
+    set_there,
+    get_or-set_same table (n % 16) put 0 (omega arith),
+    same_bit,
+    bit_at_set_same w8 old (n / 16) (omega arith),
+  )
   filled_is false {b} byte = grind (arith, or_zero_r, set-get_or)
 
 -- the table has the flags of the first n bytes
@@ -262,8 +244,7 @@ pub record IsFilledTo (n : ℕ) (f : ℕ → List ℕ) (index : ℕ) (kept : Lis
 
 pub filled_next : {n : ℕ} {f : ℕ → List ℕ} {index : ℕ} {kept : List (List ℕ)} {v : List ℕ} → IsFilledTo n f index kept
     → index < n → v ≡ f index → length (f index) ≡ 16 → IsFilledTo n f (index + 1) (set kept index v)
-filled_next {f = f} {index} {kept} {v} filled room is size =
-    grind (usual, length-set, get_or-set_same, cases_eq)
+filled_next {f = f} {index} {kept} {v} filled room is size = grind (usual, length-set, get_or-set_same, cases_eq)
 
 module _ (rows : List ℕ) (found : List (List ℕ)) (count : ℕ) where
   abbrev pub odd : ℕ → ℕ
@@ -277,25 +258,19 @@ module _ (rows : List ℕ) (found : List (List ℕ)) (count : ℕ) where
     bits_long : length (map (λ row. not (eqb (bit_and row 1) 0)) rows) ≡ 16
     bits_long = length-map rows (λ row. not (eqb (bit_and row 1) 0)) ∙ long
 
-    halved_long : (i : ℕ) → 2 * i < count → length (halved i) ≡ 16
-    halved_long i within =
-        let first = lanes (2 * i) [] (omega arith) in
-        grind (arith, length-sel_l, bits_long)
-
     pub halved_next : {n i second : ℕ} {kept : List (List ℕ)} → IsFilledTo n halved i kept → i < n → 2 * i < count
         → second ≡ odd i → IsFilledTo n halved (i + 1) (set kept i
         (sel_l (map (top 7) (zip2 (λ a b. cond (not (eqb a b)) 255 0) (zip2 bit_and rows (replicate 16 1))
         (replicate 16 0))) (get_or found second []) (get_or found (2 * i) [])))
     halved_next filled room within is =
         let bits = tests_are (λ a b. not (eqb a b)) _ rows 0 long (zip2_splat bit_and rows 16 1 long) in
-        filled_next filled room (cc is) (halved_long _ within)
+        filled_next filled room (cc is) (grind (arith, length-sel_l, bits_long))
 
     pub halved_lane : (lane : ℕ) → lane < 16 → get_or rows lane 0 < count
         → get_or (halved (get_or rows lane 0 / 2)) lane 0 ≡ lane_of found rows lane
     halved_lane lane low within =
         let row = get_or rows lane 0 in
         let bit = and_mask row 1 in
-        let a = lanes (2 * (row / 2)) [] (omega arith) in
         let b = lanes (odd (row / 2)) [] (omega arith) in
         grind (arith, get_or-sel_l, get_or-map, bits_long)
 
@@ -304,7 +279,6 @@ module _ (rows : List ℕ) (found : List (List ℕ)) (count : ℕ) where
 module _ (first n : ℕ) (table : List (List ℕ)) (within : first + 16 * n ≤ 256) (size : length table ≡ n)
     (lanes : All (λ row. length row ≡ 16) table)
   where
-    -- a byte out of the rows is its own image
     pub image_is : {moved : MovedRange} {images : List ℕ} → HasMoved moved images → first ≤ moved.first
         → moved.last < first + 16 * n → ((i : ℕ) → i < n → get_or table i [] ≡ chunk (first + 16 * i) 16 images)
         → length images ≡ 256 → (b : ℕ) → b < 256 → image_from first table b ≡ get_or images b 0
@@ -319,7 +293,6 @@ module _ (first n : ℕ) (table : List (List ℕ)) (within : first + 16 * n ≤ 
           has.others b byte,
         )
 
-    -- the distance from the first byte
     abbrev pub offset : ℕ → ℕ
     offset b = (b + (256 - first)) % 256
 

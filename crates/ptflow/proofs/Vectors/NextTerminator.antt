@@ -2,12 +2,9 @@
 use Rattle.ptflow.proofs
 use proofs.Common.{◌≡◌, ℕ, ◌+◌, ◌-◌, ◌<◌, ◌≤◌, Bool, true, Some, List, [], ◌∷◌, length, map, take, drop, get_or, refl}
 use proofs.Common.{sym, ◌∙◌, arith, usual, count_ones, count_by, count_by_more_yes, mask_l, chunk, take-add}
-use proofs.Common.{ones-mask_l, get_or-chunk, length-chunk, IsFirstByte, NoneBefore, Passes, is_byte}
-use proofs.Common.{IsLine, byte_ne, IsTerminatorMask}
-use Rattle.ptlines.proofs.MatchWindows.{after_set, count_in_prefix, first_is, near, without}
+use proofs.Common.{ones-mask_l, get_or-chunk, length-chunk, IsFirstByte, NoneBefore, Passes, is_byte, IsLine, byte_ne}
+use proofs.Common.{IsTerminatorMask, after_set, count_in_prefix, first_is, near, without}
 use lib.Count.{count_trailing_zeros}
-
--- ---- lines without a byte
 
 pub none_counted : (d : ℕ) (bytes : List ℕ) → IsLine d bytes → count_by (is_byte d) bytes ≡ 0
 none_counted d [] free = refl
@@ -17,7 +14,7 @@ none_counted d (b ∷ bytes) (differs, free) = grind (arith, none_counted d byte
 module _ (p : ℕ → Bool) (bytes : List ℕ) (start end : ℕ) (fits : end < length bytes)
     (is : p (get_or bytes end 0) ≡ true) (same : count_by p (take end bytes) ≡ count_by p (take start bytes)) where
   pub one_after : count_by p (take (end + 1) bytes) ≡ count_by p (take end bytes) + 1
-  one_after = count_by_more_yes p bytes end 0 fits is
+  one_after = count_by_more_yes p _ end 0 fits is
 
   pub in_order : start ≤ end
   in_order = grind usual
@@ -41,10 +38,10 @@ module _ {d : ℕ} {block : List ℕ} {from all marked : ℕ} (n start : ℕ) (h
   pub next_terminator : NextTerminator d block from n (count_trailing_zeros 64 marked) start
   next_terminator =
       let p = is_byte d in
-      let v = chunk from 64 block in
       let bit = count_trailing_zeros 64 marked in
       let room : from + 64 ≤ length block = omega arith in
-      let nth = after_set p v n (omega (arith, length-chunk from 64 block room)) (grind (arith, ones-mask_l)) bits in
+      let nth = after_set p (chunk from 64 block) n (omega (arith, length-chunk _ 64 _ room))
+      (grind (arith, ones-mask_l)) bits in
       let close = near p block 64 from n bit room nth in
       let fits : from + bit < length block = omega arith in
       let (_, passes, _) = nth in

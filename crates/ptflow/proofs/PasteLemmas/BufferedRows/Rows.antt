@@ -15,6 +15,7 @@ pub use proofs.Passes.Exits.{lines_none, lines_are_given, lines_more, eof_gives_
 pub use Rattle.std.proofs.Math.Bool.{or-true, or-false}
 use Rattle.std.proofs.lemmas.List.Sums.{sum_by-take-drop}
 pub use Grid.*
+use Rattle.std.proofs.Common.{arith}
 
 pub AreLines-append : (end : ℕ) (xs ys : Lines) → AreLines end xs → AreLines end ys → AreLines end (xs ++ ys)
 AreLines-append end [] ys p q = q

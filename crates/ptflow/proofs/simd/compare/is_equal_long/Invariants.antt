@@ -1,5 +1,4 @@
--- The loop over 16 bytes at a time: both slices are equal up to the index, which is at most their length. The bytes
--- after it get fewer.
+-- Both slices are equal up to the index.
 use Rattle.ptflow.proofs
 use proofs.Common.{◌≡◌, ◌≤◌, ◌-◌, length, take}
 use proofs.simd.compare.is_equal_long.Given as goal

@@ -1,4 +1,4 @@
--- If the first and the last `N` bytes are equal, both slices are, since the last bytes reach back to the first ones.
+-- If the first and the last `N` bytes are equal, both slices are, since the last ones reach back to the first.
 use Rattle.ptflow.proofs
 use proofs.Common.{arith, usual}
 use proofs.Vectors.Equal.{ended}

@@ -3,8 +3,8 @@ use Rattle.ptflow.proofs
 use Rattle.std.proofs.lemmas
 use proofs.Common.{◌≡◌, ◌<◌, ◌≤◌, ℕ, ◌+◌, ◌^◌, Bool, true, false, cond, zero, suc, List, [], ◌∷◌, length, take, get_or}
 use proofs.Common.{refl, ◌∙◌, arith, eqb, eqb-true, nat_tests, mask_l, mask_l-mod, mask_l-lt, zip2, length-zip2}
-use proofs.Common.{bit_mask_l, tops_compared, w8, take-take, length-take-le, bytes_eq-Decides, usual}
-use Rattle.std.specs.Int.{w64, trailing_ones}
+use proofs.Common.{bit_mask_l, tops_compared, w8, take-take, length-take-le, bytes_eq-Decides, usual, w64}
+use proofs.Common.{trailing_ones}
 use lemmas.Nat.Bits.{bit_at-trailing_ones}
 use proofs.simd.compare.same_start.Goals as goal
 
@@ -16,7 +16,7 @@ same_before : (n : ℕ) (xs ys : List ℕ) → length xs ≡ length ys → n ≤
     → ((i : ℕ) → i < n → get_or (zip2 eqb xs ys) i false ≡ true) → take n xs ≡ take n ys
 same_before zero xs ys long few same = refl
 same_before (suc n) [] ys long few same = grind arith
-same_before (suc n) (x ∷ xs) [] long few same = cc
+same_before _ _ [] long few same = cc
 same_before (suc n) (x ∷ xs) (y ∷ ys) long few same = cc (
   eqb-true x y (same 0 (omega arith)),
   same_before n xs ys (omega arith) (omega arith) (λ i low. same (suc i) (omega arith)),

@@ -1,4 +1,4 @@
--- The loop over the bits of a mask: the row has the indices of the set bits so far (`RowPrefix`).
+-- The row has the indices of the set bits so far.
 use Rattle.ptflow.proofs
 use proofs.Vectors.Compress.{RowPrefix}
 use proofs.simd.compress.compress_row.Given as goal

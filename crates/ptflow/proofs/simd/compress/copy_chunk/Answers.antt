@@ -1,9 +1,9 @@
--- The 64 bytes that were stored after the first `count` are the chunk, so they are appended to these.
+-- The 64 bytes are stored after the first `count`.
 use Rattle.ptflow.proofs
-use proofs.Common.{◌+◌, arith, chunk, take_more_put_chunk, length-chunk}
+use proofs.Common.{arith, take_more_put_chunk, length-chunk}
 use proofs.simd.compress.copy_chunk.Goals as goal
 
 pub returns-clause-copied : goal.returns-clause-copied
 returns-clause-copied c =
-    take_more_put_chunk c.args.count c.args.into.now (chunk c.args.at 64 c.args.from.now) (c.args.count + 64)
-    (omega (arith, length-chunk c.args.at 64 c.args.from.now c.requires.lanes)) (omega arith)
+    take_more_put_chunk _ _ _ _
+    (omega (arith, length-chunk _ 64 _ c.requires.lanes)) (omega arith)

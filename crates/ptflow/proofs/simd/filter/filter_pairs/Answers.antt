@@ -1,4 +1,4 @@
--- Each iteration appends what is kept of 64 bytes more, and that is at most 64 bytes.
+-- Each iteration appends what is kept of 64 bytes more.
 use Rattle.ptflow.proofs
 use proofs.Common.{arith}
 use proofs.Vectors.Compress.{filter_piece}

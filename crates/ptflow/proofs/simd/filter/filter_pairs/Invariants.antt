@@ -1,5 +1,4 @@
--- The loop over chunks of 64 bytes: what was stored, and then what is kept of the rest, is the whole output
--- (`FilterInvariant`). No more bytes were stored than were read, and the rest gets shorter.
+-- What was stored, and then what is kept of the rest, is the whole output. It is not longer than what was read.
 use Rattle.ptflow.proofs
 use proofs.Common.{◌≤◌, ◌+◌, ◌-◌, ◌++◌, length, take, kept_bytes}
 use proofs.Vectors.Compress.{FilterInvariant}

@@ -1,4 +1,4 @@
--- At the end of the loop no byte is left, so what was stored is all that is kept.
+-- At the end no byte is left, so what was stored is all that is kept.
 use Rattle.ptflow.proofs
 use proofs.Common.{arith}
 use proofs.Vectors.Compress.{filter_done}

@@ -1,5 +1,4 @@
--- The loop over the bytes from `start` on, one by one: what was stored, and then what is kept of the rest, is the
--- whole output (`FilterInvariant`), and each byte adds at most one.
+-- As in `filter_pairs`, but byte by byte, from `start` on.
 use Rattle.ptflow.proofs
 use proofs.Common.{◌≤◌, ◌+◌, ◌++◌, take, drop, kept_bytes}
 use proofs.Vectors.Compress.{FilterInvariant}

@@ -5,4 +5,4 @@ use proofs.Vectors.Compress.{kept_self}
 use proofs.simd.filter.remove.Goals as goal
 
 pub returns-clause-kept : goal.returns-clause-kept
-returns-clause-kept g c = c.filter_pairs-count.ensures.kept ∙ kept_self (g.T.ByteTest.has c.args.by.now.set) c.args.from.now
+returns-clause-kept g c = c.filter_pairs-count.ensures.kept ∙ kept_self (g.T.ByteTest.has c.args.by.now.set) _

@@ -1,4 +1,4 @@
--- The loop over the bytes that `map_chunks` left: one more image is stored.
+-- One more image is stored.
 use Rattle.ptflow.proofs
 use proofs.Common.{usual}
 use proofs.simd.shift.map_bytes.Goals as goal

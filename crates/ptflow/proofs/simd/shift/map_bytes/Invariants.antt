@@ -1,5 +1,4 @@
--- The loop over the last bytes, one by one: those before the index were mapped (`IsMappedTo`), and those after it get
--- fewer.
+-- The bytes before the index were mapped.
 use Rattle.ptflow.proofs
 use proofs.Common.{length, ◌-◌, IsMappedTo}
 use proofs.simd.shift.map_bytes.Given as goal

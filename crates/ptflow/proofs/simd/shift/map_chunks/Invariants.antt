@@ -1,4 +1,4 @@
--- The loop over 32 bytes at a time: those before the index were mapped (`IsMappedTo`), and fewer are left.
+-- The bytes before the index were mapped.
 use Rattle.ptflow.proofs
 use proofs.Common.{length, ◌-◌, IsMappedTo}
 use proofs.simd.shift.map_chunks.Given as goal

@@ -1,5 +1,4 @@
--- Each iteration picks the lanes of one vector out of two, by the lowest bit of their rows. So a lane has in half its
--- row what it had in its row before.
+-- The lowest bit of a lane's row picks one of two vectors, so a lane has in half its row what it had in its row before.
 use Rattle.ptflow.proofs
 use proofs.Common.{◌/◌, arith, get_or}
 use proofs.Vectors.Lanes.{halved_next, halved_lane}
@@ -17,4 +16,4 @@ loop-index-preserved g c =
 pub returns-clause-kept : goal.returns-clause-kept
 returns-clause-kept g c lane low within =
     rw (c.loop-index.invariant.filled.made (get_or c.args.rows lane 0 / 2) (omega arith))
-    (halved_lane _ _ c.args.count c.fits-rows.0 c.requires.lanes (omega arith) lane low within)
+    (halved_lane _ _ c.args.count c.fits-rows.0 c.requires.lanes (omega arith) _ low within)

@@ -1,5 +1,4 @@
--- The loop over pairs of vectors: of each pair before the index, the lanes were picked by the lowest bits of their
--- rows (`halved`).
+-- Of each pair before the index, the lanes were picked.
 use Rattle.ptflow.proofs
 use proofs.Common.{◌≡◌, length}
 use proofs.Vectors.Lanes.{IsFilledTo, halved}

@@ -1,5 +1,4 @@
--- The loop over the rows of a table: in those so far, the entries at the low nibbles of the bytes were found
--- (`IsFilledTo`).
+-- In the rows so far, the entries at the low nibbles were found.
 use Rattle.ptflow.proofs
 use proofs.Common.{[], ◌%◌, map, slice_index, slice_index_or}
 use proofs.Vectors.Lanes.{IsFilledTo}

@@ -1,5 +1,4 @@
--- The loop that halves the vectors: `count` of them, which decreases, are left, of 16 lanes each. Each lane has in its
--- row what was found in its row at the start.
+-- `count` vectors are left, and a lane has in its row what was found in its row at the start.
 use Rattle.ptflow.proofs
 use proofs.Common.{◌≡◌, ◌≤◌, ◌<◌, ℕ, All, length, slice_index}
 use Rattle.ptflow.specs.Private.Vectors.Tables.{lane_of}

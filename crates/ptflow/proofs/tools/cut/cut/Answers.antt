@@ -1,7 +1,6 @@
--- `cut` by fields is a line tool, and `cut` by bytes a block tool. Setting the terminator does not change the input,
--- so the contract of each loop carries over. If the output has failed before, nothing is done.
+-- A line tool by fields, a block tool by bytes. Setting the terminator does not change the input.
 use Rattle.ptflow.proofs
-use proofs.Common.{◌++◌, refl, sym, ◌∙◌, ap, cond, cut_job, cut_tool, cut_list_from, Reader, arith}
+use proofs.Common.{refl, sym, ◌∙◌, ap, cond, cut_job, cut_tool, Reader, arith}
 use proofs.CutLemmas.CutBytes.{rest_is_decided, made_is, rest_of_all}
 use proofs.Passes.Exits.{pass_unchanged, pass_set, ready_set}
 use proofs.tools.cut.cut.Goals as goal
@@ -11,7 +10,7 @@ pub returns-in_err-terminator : goal.returns-in_err-terminator
 returns-in_err-terminator g c = grind (arith, pass_unchanged)
 
 pub run_lines-requires-clause-tool : goal.run_lines-requires-clause-tool
-run_lines-requires-clause-tool g c = grind (arith, (cut_sure (cut_job c.new.result.selection.job.now)))
+run_lines-requires-clause-tool g c = grind (arith, cut_sure (cut_job c.new.result.selection.job.now))
 
 pub returns-then-job : goal.returns-then-job
 returns-then-job g c =
@@ -24,15 +23,11 @@ returns g c =
     let begun = c.in_ok-terminator.ensures in
     let end = c.new-2.ensures.terminator ∙ begun.set.0 in
     let list = c.new-2.ensures.selected in
-    let start = c.new-2.ensures.start in
     let pass = c.run_blocks.ensures (cut_tool job)
     (record {
-      text = λ bytes. (λ i. cut_list_from (end i) (list i) (start i) bytes) ∙
-          (simp (rest_of_all, (made_is job c.if-job.false)));
+      text = λ bytes. rw (end, list, c.new-2.ensures.start) (simp (rest_of_all, made_is job c.if-job.false));
       decided = λ given pushed now holds on.
-          rest_is_decided job c.if-job.false given pushed now.line_offset
-          (λ rest. (λ i. cut_list_from (sym end i) (sym list i) (sym start i) (given ++ rest)) ∙ on rest
-          ∙ (λ i. pushed ++ cut_list_from ((holds.1 ∙ end) i) ((holds.0 ∙ list) i) now.line_offset rest));
+          rest_is_decided job c.if-job.false given pushed now.line_offset (λ rest. cc (on rest, holds.0, holds.1));
       holds = (refl, refl);
       slots = ap (λ b. cond b 1 0) c.if-job.false;
     })

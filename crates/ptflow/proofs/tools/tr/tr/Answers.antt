@@ -1,8 +1,6 @@
--- For `tr`, the engine: it is a block tool, all of whose output is decided at once, so `run_blocks` is a pass of it.
--- A call on an output that has failed before does nothing. The store is never used, so `Memory` is never returned.
+-- All output of a block is decided at once, so `run_blocks` is a pass. The store is never used.
 use Rattle.ptflow.proofs
-use proofs.Common.{◌++◌, None, refl, sym, ◌∙◌, ap, no_store, tr_tool, tr_from}
-use Rattle.ptlangs.specs.TrTables.{byte_map_of}
+use proofs.Common.{refl, no_store, tr_tool, byte_map_of}
 use proofs.Passes.Exits.{pass_unchanged, never_memory}
 use proofs.TrLemmas.TrFrom.{rest_decided}
 use proofs.tools.tr.tr.Goals as goal
@@ -16,10 +14,8 @@ returns-clause-pass g c =
     λ store ready.
     c.run_blocks.ensures (tr_tool t)
     (record {
-      text = λ bytes. ap (λ p. tr_from (byte_map_of p) None bytes) c.new.ensures;
-      decided = λ given pushed now holds on. rest_decided t _ _ _
-          (λ rest. sym (ap (λ p. tr_from (byte_map_of p) None (given ++ rest)) c.new.ensures) ∙ on rest
-          ∙ ap (λ p. pushed ++ tr_from (byte_map_of p) now.last rest) (holds ∙ c.new.ensures));
+      text = λ bytes. rw c.new.ensures;
+      decided = λ given pushed now holds on. rest_decided t _ _ _ (λ rest. rw (holds, c.new.ensures) at (on rest));
       holds = refl;
       slots = refl;
     })

@@ -1,5 +1,4 @@
--- For `uniq`, the engine: it is a line tool, as `run_lines` requires. Setting the terminator does not change the
--- input, so the contract of `run_lines` is that of the call. A call on an output that has failed before does nothing.
+-- `uniq` is a line tool. Setting the terminator does not change the input, so the contract of `run_lines` carries over.
 use Rattle.ptflow.proofs
 use proofs.Common.{arith, refl, uniq_job}
 use proofs.Passes.Exits.{pass_unchanged, pass_set}

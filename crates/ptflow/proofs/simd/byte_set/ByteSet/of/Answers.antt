@@ -1,5 +1,4 @@
--- Each iteration stores the flag of a byte below 128, and of the byte 128 after it. So at the end the two tables are
--- the set of the flags.
+-- Each iteration stores the flags of two bytes, which are 128 apart. At the end the tables have all flags.
 use Rattle.ptflow.proofs
 use proofs.Common.{false, sym, ap, ◌∙◌, arith, from_bool, get_or-drop}
 use proofs.Vectors.Lanes.{set_of_nibbles, one_more_flag}

@@ -1,5 +1,4 @@
--- The loop over the bytes below 128: `low` has the flags of those so far, and `high` the flags of the bytes 128 after
--- them.
+-- `low` has the flags of the bytes so far, and `high` those of the bytes 128 after them.
 use Rattle.ptflow.proofs
 use proofs.Common.{drop}
 use proofs.Vectors.Lanes.{HasFlags}

@@ -1,9 +1,8 @@
--- The lane mask of the bytes in a set of two tables: what was looked up by the nibbles of each byte is its test, by
--- the lemma `tested`.
+-- What was looked up by the nibbles of a byte is its test (`tested`).
 use Rattle.ptflow.proofs
+use proofs.Common.{rules}
 use proofs.Vectors.Lanes.{tested}
 use proofs.simd.byte_set.ByteSetByteTest.test.Goals as goal
 
 pub returns : goal.returns
-returns c = let (long, fits) = c.fits-v in
-    tested c.args.self c.args.v long fits c.by_low_nibble.ensures c.by_low_nibble-2.ensures c.by_high_nibble-bit.ensures
+returns c = search (rules, tested)

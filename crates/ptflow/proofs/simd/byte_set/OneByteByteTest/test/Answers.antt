@@ -1,7 +1,7 @@
--- The lane mask of the bytes in a set of one byte: a comparison of all lanes with it.
+-- A set of one byte: a comparison of all lanes with it.
 use Rattle.ptflow.proofs
 use proofs.Vectors.Lanes.{compared_with}
 use proofs.simd.byte_set.OneByteByteTest.test.Goals as goal
 
 pub returns : goal.returns
-returns c = compared_with c.args.self.byte c.args.v c.fits-v.0
+returns c = compared_with _ _ c.fits-v.0

@@ -1,16 +1,14 @@
--- The row of the mask has indices below 16, so the shuffle by it is defined. It moves the selected lanes to the front,
--- so these are the first of the bytes that are stored.
+-- A row has indices below 16, so the shuffle is defined. It moves the selected lanes to the front of what is stored.
 use Rattle.ptflow.proofs
-use proofs.Common.{◌∙◌, ◌++◌, [], ap, take, refl, slice_index_or, get_or, arith, w8, swz_l, length-swz_l}
-use proofs.Common.{SwzOk-from_below}
+use proofs.Common.{◌∙◌, ◌++◌, [], ap, take, refl, slice_index_or, arith, w8, length-swz_l, SwzOk-from_below}
+use proofs.Common.{IsCompressRow}
 use proofs.Vectors.Compress.{few_in_row, length-flags_of, row_lanes, row_of_mask, row_selects, selected_stored}
-use Rattle.ptflow.specs.Private.Vectors.Compress.{IsCompressRow}
 use proofs.simd.compress.CompressTable.compress8.Goals as goal
 
 pub swizzle : goal.swizzle
 swizzle c =
-    let is = row_of_mask c.args.self.now.rows c.from.result c.args.self.now.is_table (omega arith) in
-    SwzOk-from_below w8 16 1 16 0 _ refl (omega arith) (row_lanes _ is.lanes)
+    SwzOk-from_below w8 16 1 16 0 _ refl (omega arith)
+    (row_lanes _ (row_of_mask _ _ c.args.self.now.is_table (omega arith)).lanes)
 
 pub returns-clause-packed : goal.returns-clause-packed
 returns-clause-packed c flags long masked =
@@ -18,9 +16,9 @@ returns-clause-packed c flags long masked =
     let row = slice_index_or c.args.self.now.rows c.from.result [] in
     let is : IsCompressRow flags row = rw (c.from.ensures, masked) (c.args.self.now.is_table flags long) in
     rw c.from-count.ensures (
-    selected_stored c.args.at (get_or row 15 0) c.args.into.now (swz_l w8 16 v 0 row)
-    (length-swz_l w8 16 v 0 row ∙ is.long) (omega (arith, few_in_row flags row is)) (omega arith)
-    ∙ ap (λ kept. take c.args.at c.args.into.now ++ kept) (row_selects flags row v c.fits-v.0 long is)
+    selected_stored _ _ _ _
+    (length-swz_l w8 16 v 0 row ∙ is.long) (omega (arith, few_in_row _ row is)) (omega arith)
+    ∙ ap (λ kept. take c.args.at c.args.into.now ++ kept) (row_selects _ row v c.fits-v.0 long is)
     )
 
 pub returns-clause-end : goal.returns-clause-end

@@ -1,4 +1,4 @@
--- Each row of the new table is what `compress_row` makes of its mask, so it is a table for all masks.
+-- Each row is what `compress_row` makes of its mask.
 use Rattle.ptflow.proofs
 use proofs.Common.{[], refl, mask_l}
 use proofs.Vectors.Compress.{mask_below}
@@ -7,6 +7,6 @@ use proofs.simd.compress.CompressTable.new.Goals as goal
 pub invariant_of-result : goal.invariant_of-result
 invariant_of-result c = record {
   is_table = λ flags long.
-      let made = c.from_fn.ensures.items.at (mask_l flags) [] (mask_below flags long) in
+      let made = c.from_fn.ensures.items.at (mask_l flags) [] (mask_below _ long) in
       made.2.met flags long refl;
 }

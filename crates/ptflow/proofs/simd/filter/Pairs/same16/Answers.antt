@@ -1,13 +1,12 @@
--- The mask of the bytes among 16 that are equal to what they are compared with, from the lanes of the comparison.
+-- The mask of the lanes that are equal to what they are compared with.
 use Rattle.ptflow.proofs
-use proofs.Common.{chunk, eqb, arith, mask_l-mod, tops_compared, w8, zip2}
+use proofs.Common.{chunk, eqb, arith, mask_l-mod, tops_compared, w8}
 use proofs.Vectors.Compress.{pairs_long}
 use proofs.simd.filter.Pairs.same16.Goals as goal
 
 pub returns : goal.returns
 returns c =
     let pairs = c.args.self in
-    let before = chunk c.args.at 16 pairs.before.now in
     let bytes = chunk c.args.at 16 pairs.bytes.now in
-    rw (tops_compared w8 eqb before bytes)
-    (mask_l-mod (zip2 eqb before bytes) 64 (omega (arith, pairs_long eqb _ _ pairs.paired c.args.at c.requires)))
+    rw (tops_compared w8 eqb _ _)
+    (mask_l-mod _ 64 (omega (arith, pairs_long eqb _ _ pairs.paired _ 16 c.requires)))

@@ -1,20 +1,16 @@
--- The new cycle is unrolled: the entry at an index is the one at the index modulo the length. So it repeats the given
--- bytes.
+-- The entry at an index is the one at the index modulo the length, so the cycle repeats the given bytes.
 use Rattle.ptflow.proofs
-use proofs.Common.{◌%◌, [], ◌∷◌, length, ap, sym, ◌∙◌, arith, mod-lt, mod-eq_of_lt}
+use proofs.Common.{◌%◌, [], ◌∷◌, length, ap, arith, mod-lt, mod-eq_of_lt}
 use proofs.simd.replace.Cycle.new.Goals as goal
 
 pub invariant_of-result : goal.invariant_of-result
 invariant_of-result c =
-    let len = length c.args.bytes.now in
     let at = c.loop-number.invariant.at in
     record {
       is_unrolled = record {
         some = c.requires.0;
         few = c.requires.1;
-        at = λ number low.
-            at number (omega arith)
-            ∙ sym (rw (mod-eq_of_lt (mod-lt number c.requires.0)) at (at (number % len) (omega arith)));
+        at = λ number low. grind (arith, mod-eq_of_lt, mod-lt, at number, at (number % length c.args.bytes.now));
       };
     }
 

@@ -1,5 +1,4 @@
--- The loop that unrolls a cycle: each entry before `number` is the byte at its index modulo the length. The array
--- keeps its length.
+-- Each entry before `number` is the byte at its index modulo the length.
 use Rattle.ptflow.proofs
 use proofs.Common.{◌≡◌, ◌<◌, ◌%◌, ℕ, length, slice_index_or}
 use proofs.simd.replace.Cycle.new.Given as goal

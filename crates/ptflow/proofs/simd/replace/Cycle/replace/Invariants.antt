@@ -1,5 +1,4 @@
--- The loop over single bytes: the bytes before the index were copied with their terminators replaced (`IsReplacedTo`),
--- and those after it get fewer.
+-- The bytes before the index were copied with their terminators replaced.
 use Rattle.ptflow.proofs
 use proofs.Common.{◌-◌, length, IsReplacedTo}
 use proofs.simd.replace.Cycle.replace.Given as goal

@@ -1,6 +1,6 @@
 -- Each iteration adds the 64 bytes that `replace_chunk` copied.
 use Rattle.ptflow.proofs
-use Rattle.std.proofs.Common.{arith}
+use proofs.Common.{arith}
 use proofs.PasteLemmas.Replaced.{replaced_more}
 use proofs.simd.replace.Cycle.replace_chunks.Goals as goal
 

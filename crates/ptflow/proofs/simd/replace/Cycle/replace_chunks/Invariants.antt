@@ -1,5 +1,4 @@
--- The loop over chunks of 64 bytes: those before the index were copied with their terminators replaced
--- (`IsReplacedTo`), and the rest gets shorter.
+-- The bytes before the index were copied with their terminators replaced.
 use Rattle.ptflow.proofs
 use proofs.Common.{◌-◌, length, IsReplacedTo}
 use proofs.simd.replace.Cycle.replace_chunks.Given as goal

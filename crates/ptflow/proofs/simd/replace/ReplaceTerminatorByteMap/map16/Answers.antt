@@ -1,5 +1,4 @@
--- The map that replaces the terminator, in 16 lanes: each has the new byte if it is equal to the terminator, and is
--- unchanged if not.
+-- A lane that is equal to the terminator gets the new byte, and the others are unchanged.
 use Rattle.ptflow.proofs
 use proofs.Common.{sym, eqb, splat_is_map}
 use proofs.Vectors.Lanes.{sel_maps, tests_are, map-id}
@@ -9,6 +8,5 @@ pub returns : goal.returns
 returns c =
     let v = c.args.v in
     let (long, _) = c.fits-v in
-    let by = c.args.self in
-    sel_maps _ _ _ v (tests_are eqb (λ b. b) v by.terminator long (sym (map-id v))) (splat_is_map v 16 by.byte long)
+    sel_maps _ _ _ v (tests_are eqb _ v _ long (sym (map-id v))) (splat_is_map v 16 _ long)
     (sym (map-id v))

@@ -1,6 +1,6 @@
 -- Each iteration adds the range of one more stretch. At the end the ranges add to each byte what the stretches add.
 use Rattle.ptflow.proofs
-use proofs.Common.{usual, length-set, arith, ap, ◌∙◌, stretch_delta}
+use proofs.Common.{usual, length-set, arith}
 use proofs.Vectors.Lanes.{one_stretch_more}
 use proofs.simd.shift.ShiftRanges.of.Goals as goal
 
@@ -10,8 +10,7 @@ loop-index-preserved g c =
       long = simp length-set loop.invariant.long;
       added = λ b byte.
           one_stretch_more loop.ranges c.args.shifts.now loop.index _ b (omega arith)
-          (loop.invariant.added b byte) (c.of.ensures b byte
-          ∙ ap (λ range. stretch_delta range b) c.stretch.ensures.found);
+          (loop.invariant.added b byte) (cc (c.of.ensures b byte));
     }
 
 pub returns : goal.returns

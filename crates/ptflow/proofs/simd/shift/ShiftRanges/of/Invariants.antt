@@ -1,5 +1,4 @@
--- The loop over the `N` ranges: those before the index add to each byte what the first stretches add. Past the last
--- stretch a range adds nothing.
+-- The ranges before the index add to each byte what the first stretches add. A range past the last one adds nothing.
 use Rattle.ptflow.proofs
 use proofs.Common.{◌≡◌, ◌<◌, ℕ, length, take}
 use proofs.Vectors.Lanes.{range_sum, stretch_sum}

@@ -1,4 +1,4 @@
--- The loop over the ranges: the images so far are the bytes shifted by the ranges before the index.
+-- The images so far are the bytes shifted by the ranges before the index.
 use Rattle.ptflow.proofs
 use proofs.Common.{◌≡◌, map, take, shift_by_ranges}
 use proofs.simd.shift.ShiftRangesByteMap.map16.Given as goal

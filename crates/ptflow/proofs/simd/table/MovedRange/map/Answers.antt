@@ -1,5 +1,4 @@
--- The loop that fills the rows: none is filled at the start, and each iteration stores the images of 16 bytes. At the
--- end the map by these rows has the image of each byte; a byte out of them is its own image.
+-- Each iteration stores the images of 16 bytes. A byte out of the rows is its own image.
 use Rattle.ptflow.proofs
 use proofs.Common.{usual, ◌*◌, ◌+◌, arith, length-chunk, refl}
 use proofs.Vectors.Lanes.{filled_next, image_is}

@@ -1,5 +1,4 @@
--- The loop over the rows of a map: those so far are the images of 16 bytes each, from the first byte on
--- (`IsFilledTo`).
+-- The rows so far are the images of 16 bytes each, from the first byte on.
 use Rattle.ptflow.proofs
 use proofs.Common.{◌*◌, ◌+◌, chunk}
 use proofs.Vectors.Lanes.{IsFilledTo}

@@ -1,8 +1,7 @@
--- The loop over the slices of a line: what was copied, and then the output from the cursor on, are its selected
--- fields. The copy is not longer than the line, and each slice takes an interval.
+-- What was copied, and then the output from the cursor on, are the selected fields, and not longer than the line.
 use Rattle.ptflow.proofs
 use proofs.Common.{◌≡◌, ◌+◌, ◌≤◌, ◌++◌, length, take, cut_job, cut_fields, IsFieldCursor, output_from_cursor}
-use Rattle.ptflow.specs.Private.Cut.FieldSlices.{IsLineWindow}
+use proofs.Common.{IsLineWindow}
 use proofs.tools.cut.fields.copy_fields.Given as goal
 
 abbrev pub invariant-slices : goal.invariant-slices

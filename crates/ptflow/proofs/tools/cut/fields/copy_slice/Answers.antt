@@ -1,7 +1,6 @@
--- Answers for `copy_slice`: the vector that is stored begins with the slice.
+-- The vector that is stored begins with the slice.
 use Rattle.ptflow.proofs
-use proofs.Common.{arith, length-chunk, take_more_put_chunk}
-use Rattle.ptlines.proofs.CopyFacts.{copied_prefix}
+use proofs.Common.{arith, length-chunk, take_more_put_chunk, copied_prefix}
 use proofs.tools.cut.fields.copy_slice.Goals as goal
 
 pub returns-then-bytes-start-ge32-clause-copied : goal.returns-then-bytes-start-ge32-clause-copied

@@ -1,5 +1,4 @@
--- Field n starts after the n-th delimiter. If there are fewer, the index is after the end of the line. No index
--- overflows.
+-- Field n starts after the n-th delimiter. If there are fewer, the index is after the end of the line.
 use Rattle.ptflow.proofs
 use proofs.Common.{◌≡◌, ◌+◌, ◌-◌, arith, min}
 use proofs.CutLemmas.Fields.{offset_start, offset_later, offset_of_window}

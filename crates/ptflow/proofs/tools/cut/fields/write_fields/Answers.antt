@@ -1,5 +1,4 @@
--- The loop over the slices of a line: its invariant at the start and after the push of one more slice (`next`). If a
--- push fails, the pushed bytes are a prefix of the selected fields.
+-- Each iteration pushes one more slice (`next`). If a push fails, a prefix of the selected fields was pushed.
 use Rattle.ptflow.proofs
 use proofs.Common.{◌≡◌, ◌-◌, ◌++◌, take, drop, length, ◌∙◌, ap, arith, take_all, is_selected, cut_job}
 use proofs.Common.{output_from_cursor}
@@ -13,10 +12,10 @@ pub slices-init : goal.slices-init
 slices-init g c =
     let line = c.args.delimiters.now.bytes.now in
     let of = c.new-cursor.ensures in
-    let kept = ap is_selected (of.left ∙ c.intervals.ensures.kept) in
     let all = take_all (length line) line (omega arith) in record {
       front = prefix_starts (rw all
-          (selected_remaining c.new-cursor.result of.passed (cut_job c.args.job.now) line c.requires kept));
+          (selected_remaining c.new-cursor.result of.passed (cut_job c.args.job.now) line c.requires
+          (ap is_selected (of.left ∙ c.intervals.ensures.kept))));
       cursor = grind (arith, offset_start);
       window = λ near. of.window;
       clean = λ clean. clean;
@@ -28,10 +27,7 @@ next : (g : given.Over) (c : In-Some g) → let line = c.args.delimiters.now.byt
     ++ output_from_cursor c.args.delimiters.now.needle (take (length line) line) c.next_slice.new.self
 next g c =
     let line = c.args.delimiters.now.bytes.now in
-    c.in-Some.ensures.next.output
-    ∙ ap (λ bytes. take (c.in-Some.slice.end - c.in-Some.slice.start) (drop c.in-Some.slice.start bytes)
-    ++ output_from_cursor c.args.delimiters.now.needle (take (length line) line) c.next_slice.new.self)
-    (take_all (length line) line (omega arith))
+    cc (c.in-Some.ensures.next.output, take_all (length line) line (omega arith))
 
 pub returns-in_err-push-clause-wrote : goal.returns-in_err-push-clause-wrote
 returns-in_err-push-clause-wrote g c =

@@ -1,9 +1,7 @@
--- The loop over the slices of a line: the pushed bytes, and then the output from the cursor on, are its selected
--- fields (`WrittenPrefix`). No write has failed, and each slice takes an interval.
+-- The pushed bytes, and then the output from the cursor on, are the selected fields.
 use Rattle.ptflow.proofs
-use proofs.Common.{◌≡◌, false, length, take, cut_job, cut_fields, IsFieldCursor, output_from_cursor}
+use proofs.Common.{◌≡◌, false, length, take, cut_job, cut_fields, IsFieldCursor, output_from_cursor, IsLineWindow}
 use proofs.Passes.Exits.{WrittenPrefix}
-use Rattle.ptflow.specs.Private.Cut.FieldSlices.{IsLineWindow}
 use proofs.tools.cut.fields.write_fields.Given as goal
 
 abbrev pub invariant-slices : goal.invariant-slices

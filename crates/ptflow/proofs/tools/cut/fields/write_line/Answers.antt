@@ -45,5 +45,5 @@ returns-clause-wrote g c =
     let job = cut_job c.args.selection.now.job.now in
     let line = c.args.line.now in
     let none = has g (goal.at.returns-clause-wrote g c).After-is_some ∙ c.if-is_some.false in
-    rw (line_written job line line (of_line job c.args.selection.now.by_fields line none c.if-selection.false))
+    rw (line_written job line _ (of_line job c.args.selection.now.by_fields line none c.if-selection.false))
     (rw c.args.selection.now.ends at c.push_line.ensures.pushed.wrote)

@@ -1,5 +1,4 @@
--- The invariant of the loop of `FilterSet::of` (`IsCounted`): `count` of the flags so far are set, and `last` is the
--- index of the last of them.
+-- `count` of the flags so far are set, and `last` is the index of the last of them.
 use Rattle.ptflow.proofs
 use proofs.TrLemmas.FilterSet.{IsCounted}
 use proofs.tools.tr.FilterSet.of.Given as goal

@@ -1,4 +1,4 @@
--- For `Translation::kept`: if the set of deleted bytes is empty, all bytes are kept.
+-- If the set of deleted bytes is empty, all bytes are kept.
 use Rattle.ptflow.proofs
 use proofs.Common.{sym}
 use proofs.TrLemmas.TrFrom.{filter_all}

@@ -1,5 +1,4 @@
--- For `Translation::mapped`: the map kind has the images of the plan. With `Identity` these are the bytes themselves,
--- so the bytes are returned as they are.
+-- The map kind has the images of the plan. With `Identity` these are the bytes themselves.
 use Rattle.ptflow.proofs
 use proofs.Common.{sym, ◌∙◌, rules}
 use proofs.Vectors.Lanes.{map-id, images_same}

@@ -1,10 +1,9 @@
--- For `LineUniq::is_same_run`: the keys are compared of slices up to their lengths, which are the whole lines.
+-- The keys are compared of slices up to their lengths, which are the whole lines.
 use Rattle.ptflow.proofs
 use proofs.Common.{arith, length, take_all, usual}
 use proofs.tools.uniq.LineUniq.is_same_run.Goals as goal
 
 pub returns-then-self-gt0 : goal.returns-then-self-gt0
 returns-then-self-gt0 c =
-    let first = take_all (length c.args.first.now) c.args.first.now (omega arith) in
     let line = take_all (length c.args.line.now) c.args.line.now (omega arith) in
-    grind (usual, first, line)
+    grind (usual, line)

@@ -1,9 +1,7 @@
--- For `skip_repeats`, the step of its loop: the rest begins with one more copy of the line. Lemmas about a repeated
--- line: a copy after the others is one more (`one_more`), and so is one at the start of the rest (`copied`).
+-- A copy after the others is one more (`one_more`), and so is one at the start of the rest (`copied`).
 use Rattle.ptflow.proofs
 use proofs.Common.{◌≡◌, ℕ, ◌+◌, List, ◌++◌, zero, suc, take, drop, arith, usual, append_assoc, append-nil}
-use proofs.Common.{take-append-drop}
-use Rattle.ptflow.specs.Private.Uniq.BlockRuns.{repeated}
+use proofs.Common.{take-append-drop, repeated}
 use proofs.tools.uniq.block_runs.skip_repeats.Goals as goal
 
 one_more : (n : ℕ) (bytes : List ℕ) → repeated n bytes ++ bytes ≡ repeated (n + 1) bytes

@@ -1,8 +1,6 @@
--- The invariant of the loop of `skip_repeats`: after the line come `count` copies of it, and then `rest`; so the
--- count is at most the number of bytes. Each iteration makes `rest` shorter.
+-- After the line come `count` copies of it, and then `rest`.
 use Rattle.ptflow.proofs
-use proofs.Common.{◌≡◌, ◌≤◌, ◌+◌, ◌++◌, length, take, drop}
-use Rattle.ptflow.specs.Private.Uniq.BlockRuns.{repeated}
+use proofs.Common.{◌≡◌, ◌≤◌, ◌+◌, ◌++◌, length, take, drop, repeated}
 use proofs.tools.uniq.block_runs.skip_repeats.Given as goal
 
 abbrev pub invariant-loop-count : goal.invariant-loop-count

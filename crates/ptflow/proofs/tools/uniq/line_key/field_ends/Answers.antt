@@ -1,5 +1,4 @@
--- For `field_ends`: the mask of the blanks has at most 32 bits, so the subtraction does not overflow; and a bit is
--- left for each byte that ends a field.
+-- The mask of the blanks has at most 32 bits. A bit is left for each byte that ends a field.
 use Rattle.ptflow.proofs
 use proofs.Common.{arith}
 use proofs.UniqLemmas.Keys.{blanks_fit, ends_mask}

@@ -1,5 +1,4 @@
--- The invariant of the loop of `skip_fields_cold`: `left` field ends are still to be skipped in the line from index
--- `at` on, which gives the result for the whole line. Each iteration leaves fewer bytes.
+-- Skipping `left` more fields from index `at` on gives the result for the whole line.
 use Rattle.ptflow.proofs
 use proofs.Common.{◌≡◌, ◌<◌, ◌≤◌, ◌-◌, length, take, drop}
 use proofs.UniqLemmas.Keys.{suffix_at}

@@ -1,23 +1,15 @@
--- For `skip_fields_short`: the result if no field is left to be skipped, the step of its loop at a byte that ends a
--- field, and the result at the end of the line, where nothing is left.
+-- If no field is left to be skipped, the rest is the result. At the end of the line it is empty.
 use Rattle.ptflow.proofs
 use proofs.Common.{arith, nil_from_length, usual}
 use proofs.UniqLemmas.Keys.{next_byte, suffix_is, suffix_none, suffix_zero}
 use proofs.tools.uniq.line_key.skip_fields_short.Goals as goal
 
 pub returns-then-left-eq0 : goal.returns-then-left-eq0
-returns-then-left-eq0 c = cc (
-  suffix_zero c.bytes.rest.now,
-  c.if-left-eq0.true,
-  c.bytes.invariant,
-  suffix_is c.args.fields c.args.line.now,
-)
+returns-then-left-eq0 c = cc (suffix_zero c.bytes.rest.now, suffix_is c.args.fields c.args.line.now)
 
 pub bytes-preserved-then-ends_word : goal.bytes-preserved-then-ends_word
 bytes-preserved-then-ends_word c =
     grind (usual, next_byte c.bytes.rest.now c.bytes.left (omega arith) (omega arith), c.bytes.invariant)
 
 pub returns : goal.returns
-returns c =
-    let none = nil_from_length c.bytes.rest.now (omega arith) in
-    cc (none, suffix_none c.bytes.left, c.bytes.invariant, suffix_is c.args.fields c.args.line.now)
+returns c = cc (nil_from_length c.bytes.rest.now (omega arith), suffix_none _, c.bytes.invariant, suffix_is _ _)

@@ -1,7 +1,6 @@
--- The invariant of the loop of `skip_fields_short`: skipping `left` more fields in `rest` gives the result for the
--- whole line. Each iteration takes a byte from `rest`.
+-- Skipping `left` more fields in `rest` gives the result for the whole line.
 use Rattle.ptflow.proofs
-use Rattle.std.proofs.Common.{◌≡◌, length}
+use proofs.Common.{◌≡◌, length}
 use proofs.UniqLemmas.Keys.{suffix_at}
 use proofs.tools.uniq.line_key.skip_fields_short.Given as goal
 

@@ -1,8 +1,6 @@
--- A shuffle moves the selected bytes of a piece to the front. Its indices are below 16, and it selects no more bytes
--- than the piece has.
+-- The indices of a shuffle are below 16, and it selects no more bytes than the piece has.
 use Rattle.ptflow.proofs
-use proofs.Common.{refl, arith, w8, SwzOk-from_below}
-use Rattle.ptflow.specs.Private.Cut.ShortLines.{piece_at}
+use proofs.Common.{refl, arith, w8, SwzOk-from_below, piece_at}
 use proofs.CutLemmas.CutBytes.{piece_copied, shuffle_few}
 use proofs.Vectors.Compress.{row_lanes}
 use proofs.tools.cut.bytes.Selection.copy16.Goals as goal

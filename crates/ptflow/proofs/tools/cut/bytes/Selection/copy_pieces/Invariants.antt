@@ -1,5 +1,4 @@
--- The loop over pieces of 16 bytes: the selected bytes of those before `index` were copied, and they are not more than
--- the pieces have; `rest` has the number of bytes after these.
+-- The selected bytes of the pieces before `index` were copied; `rest` is the number of bytes after these.
 use Rattle.ptflow.proofs
 use proofs.Common.{◌≡◌, ◌≤◌, ◌+◌, ◌*◌, ◌++◌, take, select_from, is_selected}
 use proofs.tools.cut.bytes.Selection.copy_pieces.Given as goal

@@ -1,29 +1,23 @@
--- The loop over the intervals: the invariant at the start and after one more interval, and the bounds of indices. An
--- interval that reaches the end of the piece is the last one; if no interval is left, nothing more is selected.
+-- An interval that reaches the end of the piece is the last one. If none is left, nothing more is selected.
 use Rattle.ptflow.proofs
-use proofs.Common.{arith, usual, ◌≤◌, drop, length, length-drop, take_rest, ℕ, ◌∙◌, ap, min, append-nil}
-use proofs.Common.{drop_all}
+use proofs.Common.{arith, usual, length-drop, take_rest, ℕ, append-nil, drop_all}
 use proofs.CutLemmas.CutBytes.{copied_ends, copied_more, copied_none, select_none}
 use proofs.tools.cut.bytes.Selection.copy_selected.Goals as goal
-use Rattle.ptflow.proofs.tools.cut.bytes.Selection.copy_selected.Goals.{Start}
-
-fits : (c : Start) → c.args.count ≤ length (drop c.args.line.start c.args.block.now)
-fits c = omega (arith, length-drop c.args.line.start c.args.block.now)
 
 pub returns-then-last-interval-clause-copied : goal.returns-then-last-interval-clause-copied
 returns-then-last-interval-clause-copied c =
-    copied_ends _ (fits (goal.at.returns-then-last-interval-clause-copied c).Start) c.loop-interval.invariant
-    c.loop-interval-test.true _ (c.min-from.ensures ∙ ap (λ (f : ℕ). min f c.args.count) c.saturating_sub-from.ensures)
+    copied_ends _ (omega (arith, length-drop {A = ℕ})) c.loop-interval.invariant
+    c.loop-interval-test.true _ (cc)
     c.if-last-interval.true (rw take_rest at c.copy_short.ensures.copied)
 
 pub loop-interval-preserved-then-interval-line : goal.loop-interval-preserved-then-interval-line
 loop-interval-preserved-then-interval-line c =
-    copied_none _ (fits (goal.at.loop-interval-preserved-then-interval-line c).Start) c.loop-interval.invariant
+    copied_none _ (omega (arith, length-drop {A = ℕ})) c.loop-interval.invariant
     c.loop-interval-test.true c.if-interval-line.true
 
 pub loop-interval-preserved : goal.loop-interval-preserved
 loop-interval-preserved c =
-    copied_more _ (fits (goal.at.loop-interval-preserved c).Start) c.loop-interval.invariant
+    copied_more _ (omega (arith, length-drop {A = ℕ})) c.loop-interval.invariant
     c.loop-interval-test.true _ c.saturating_sub-from.ensures c.saturating_sub-to.ensures
     c.if-last-interval.false (rw take_rest at c.copy_short-in-loop-interval.ensures.copied)
 

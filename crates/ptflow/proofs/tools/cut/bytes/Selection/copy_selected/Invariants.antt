@@ -1,7 +1,6 @@
--- The loop over the intervals: what those so far select of the piece was copied, and the others are left
--- (`CopyInvariant`).
+-- What the intervals so far select of the piece was copied, and the others are left.
 use Rattle.ptflow.proofs
-use Rattle.std.proofs.Common.{take, drop}
+use proofs.Common.{take, drop}
 use proofs.CutLemmas.CutBytes.{CopyInvariant}
 use proofs.tools.cut.bytes.Selection.copy_selected.Given as goal
 

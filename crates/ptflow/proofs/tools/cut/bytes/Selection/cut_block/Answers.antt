@@ -1,17 +1,14 @@
--- The loop over chunks of 64 bytes: the lines that end in one are cut by `cut_chunk`. In a chunk without a terminator
--- the line continues.
+-- The lines that end in a chunk are cut by `cut_chunk`. In a chunk without a terminator the line continues.
 use Rattle.ptflow.proofs
-use proofs.Common.{[], ap, arith, ◌∙◌, count_ones, ones-mask_l, is_byte}
-use Rattle.ptlines.proofs.MatchWindows.{count_chunk}
+use proofs.Common.{[], ap, arith, ◌∙◌, count_ones, ones-mask_l, is_byte, count_chunk}
 use proofs.tools.cut.bytes.Selection.cut_block.Goals as goal
-use proofs.tools.cut.bytes.Selection.cut_block.Goals.{then-mask-ne0, else-mask-ne0}
 
 pub loop-from-preserved : goal.loop-from-preserved
 loop-from-preserved c =
     let p = is_byte c.args.self.now.terminator in
     let loop = c.loop-from in
     elim c.if-mask-ne0.branch [
-      | then-mask-ne0 w ↦
+      | goal.then-mask-ne0 w ↦
           let cut = w.cut_chunk-line.ensures in
           rw (w.into-is, w.line-is) (record {
             within = omega arith;
@@ -20,7 +17,7 @@ loop-from-preserved c =
             bound = omega arith;
             near = cut.on.near;
           })
-      | else-mask-ne0 w ↦
+      | goal.else-mask-ne0 w ↦
           let none = ap count_ones w.if-mask-ne0.false ∙ ones-mask_l p [] in
           let counted = ap count_ones c.mask_at-mask.ensures ∙ ones-mask_l p _ in
           rw (w.into-is, w.line-is) (record {

@@ -1,5 +1,4 @@
--- The loop over chunks of 64 bytes: the output of the lines that ended was copied (`IsCutPart`), and no terminator is
--- between the start of the line and this chunk. The rest of the block gets shorter.
+-- The lines that ended were cut, and no terminator is between the start of the line and this chunk.
 use Rattle.ptflow.proofs
 use proofs.Common.{◌-◌, ◌≤◌, length, take, drop, IsCutPart, IsSameLine}
 use proofs.tools.cut.bytes.Selection.cut_block.Given as goal

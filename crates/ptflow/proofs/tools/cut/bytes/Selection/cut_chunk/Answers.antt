@@ -2,22 +2,21 @@
 -- the line up to it is cut. Each set bit has one iteration, so none is left at the end.
 use Rattle.ptflow.proofs
 use proofs.Common.{◌≡◌, ◌+◌, suc, map, refl, ◌∙◌, ap, arith, count_ones, chunk, length-chunk, take_more_put_chunk}
-use proofs.Common.{ones-mask_l, is_byte}
+use proofs.Common.{ones-mask_l, is_byte, cleared, count_chunk}
 use lib.Count.{count_trailing_zeros}
 use proofs.CutLemmas.CutBytes.{line_cut, terminators_next, cut_next}
 use proofs.Vectors.NextTerminator.{NextTerminator, next_terminator}
-use Rattle.ptlines.proofs.MatchWindows.{cleared, count_chunk}
 use proofs.tools.cut.bytes.Selection.cut_chunk.Goals as goal
 use Rattle.ptflow.proofs.tools.cut.bytes.Selection.cut_chunk.Goals.{In-loop-end}
 
 pub returns-then-line-eq0-clause-on : goal.returns-then-line-eq0-clause-on
 returns-then-line-eq0-clause-on c =
     let end = c.args.self.now.terminator in
-    let block = c.args.block.now in
     let line = c.args.line in
     record {
       cut = cut_next end _ _ _ _ _ _ _ _ _ _ (λ start bytes so_far. so_far)
-          (take_more_put_chunk _ _ _ _ (omega (arith, length-chunk line.start 64 block (omega arith))) (omega arith))
+          (take_more_put_chunk _ _ _ _ (omega (arith, length-chunk line.start 64 c.args.block.now (omega arith)))
+          (omega arith))
           (terminators_next end _ _ (omega arith) c.if-line-from.true c.if-line-eq0.true
           c.requires.ends.is c.if-mask-eq18446744073709551615.true);
       bound = omega arith;
@@ -47,6 +46,5 @@ loop-end-preserved c =
 pub returns-clause-same : goal.returns-clause-same
 returns-clause-same c =
     let p = is_byte c.args.self.now.terminator in
-    let block = c.args.block.now in
-    let same = count_chunk p block c.args.from in
+    let same = count_chunk p c.args.block.now c.args.from in
     (c.loop-end.invariant.within, omega (arith, same, (ap count_ones c.requires.ends.is ∙ ones-mask_l p _)))

@@ -1,7 +1,6 @@
 -- The set bits are the terminators that are left, and the lines before the current one were cut.
 use Rattle.ptflow.proofs
-use proofs.Common.{◌≡◌, ◌+◌, ◌≤◌, map, take, count_by, mask_l, chunk, is_byte, CutPost}
-use Rattle.ptlines.proofs.MatchWindows.{without}
+use proofs.Common.{◌≡◌, ◌+◌, ◌≤◌, map, take, count_by, mask_l, chunk, is_byte, CutPost, without}
 use proofs.tools.cut.bytes.Selection.cut_chunk.Given as goal
 
 abbrev pub invariant-loop-end : goal.invariant-loop-end

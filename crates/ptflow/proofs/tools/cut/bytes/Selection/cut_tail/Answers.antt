@@ -1,5 +1,4 @@
--- The last bytes of a block: each iteration cuts a line. The bytes after the last terminator are a piece of an
--- unfinished line.
+-- Each iteration cuts a line. The bytes after the last terminator are a piece of an unfinished line.
 use Rattle.ptflow.proofs
 use proofs.Common.{◌+◌, ◌-◌, ◌<◌, [], length, take, drop, refl, arith, length-drop, take_all, take_rest, usual}
 use proofs.Common.{is_selected, line_if_not_found, select_from}
@@ -21,7 +20,6 @@ lines-preserved c =
 pub returns-clause-cut : goal.returns-clause-cut
 returns-clause-cut c =
     let end = c.args.self.now.terminator in
-    let list = c.args.self.now.selected.now in
     let line = c.lines.line in
     let rest = drop line.start c.args.block.now in
     let count = length c.args.block.now - line.start in
@@ -29,5 +27,5 @@ returns-clause-cut c =
     let long = length-drop line.start c.args.block.now in
     let free = line_if_not_found end _ (rw take_rest at c.in_default.ensures) in
     cut_next end _ _ _ _ _ _ [] _ (take line.at c.lines.into)
-    (select_from (is_selected list) (line.line_offset + 1) rest) c.lines.invariant.on.cut
+    (select_from (is_selected c.args.self.now.selected.now) (line.line_offset + 1) rest) c.lines.invariant.on.cut
     (rw all at c.copy_selected-at.ensures.copied) (rw (← long) (λ more. rest_piece end _ _ _ _ free))

@@ -1,5 +1,4 @@
--- The loop over the lines in the last bytes of a block: the output of those so far was copied (`CutPost`), and the
--- bytes from the next line on get fewer.
+-- The lines so far were cut.
 use Rattle.ptflow.proofs
 use proofs.Common.{◌-◌, ◌≤◌, length, take, CutPost}
 use proofs.tools.cut.bytes.Selection.cut_tail.Given as goal

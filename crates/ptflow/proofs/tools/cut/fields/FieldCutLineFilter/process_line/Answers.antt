@@ -1,5 +1,4 @@
--- If a write of the line fails, what was pushed is a prefix of its output, and so of the output for it and any lines
--- after it: no state is carried from line to line.
+-- No state is carried from line to line, so what a failed write leaves is a prefix for any lines after it, too.
 use Rattle.ptflow.proofs
 use proofs.Common.{◌∷◌, [], line, cut_job, cut_lines, usual, Result, Ok, Err, OnErr}
 use proofs.tools.cut.fields.FieldCutLineFilter.process_line.Goals as goal

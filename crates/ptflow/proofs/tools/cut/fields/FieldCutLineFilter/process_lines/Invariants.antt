@@ -1,10 +1,8 @@
--- The loop over the lines of a block: the buffer has the output for those so far, and is not longer than they are. The
--- selection stays the same, and the rest of the block gets shorter.
+-- The buffer has the output for the lines so far, and is not longer than they are.
 use Rattle.ptflow.proofs
-use proofs.Common.{◌≡◌, ◌+◌, ◌≤◌, ◌++◌, ℕ, List, length, take, complete_lines, cut_job, cut_lines}
+use proofs.Common.{◌≡◌, ◌+◌, ◌≤◌, ◌++◌, ℕ, List, length, take, complete_lines, cut_job, cut_lines, PADDED}
 use proofs.Passes.Exits.{IsAfterLines}
 use proofs.tools.cut.fields.FieldCutLineFilter.process_lines.Given as goal
-use Rattle.ptlines.specs.declared.sizes.TheConstants.{PADDED}
 
 abbrev pub invariant-lines : goal.invariant-lines
 invariant-lines g l =

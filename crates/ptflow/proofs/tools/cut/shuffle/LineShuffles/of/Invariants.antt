@@ -1,8 +1,6 @@
--- The loop over the pieces of a line: each of those so far has the shuffle of its 16 bytes. The array keeps its
--- length.
+-- Each of the pieces so far has the shuffle of its 16 bytes.
 use Rattle.ptflow.proofs
-use proofs.Common.{◌≡◌, ◌<◌, ◌*◌, ℕ, length, is_selected}
-use Rattle.ptflow.specs.Private.Cut.ShortLines.{IsPieceShuffle, piece_at, selected_after}
+use proofs.Common.{◌≡◌, ◌<◌, ◌*◌, ℕ, length, is_selected, IsPieceShuffle, piece_at, selected_after}
 use proofs.tools.cut.shuffle.LineShuffles.of.Given as goal
 
 abbrev pub invariant-loop-index : goal.invariant-loop-index

@@ -1,6 +1,6 @@
 -- The next entry of the counts is the number of selected indices so far.
 use Rattle.ptflow.proofs
-use proofs.Common.{◌≡◌, ◌+◌, set, ◌∙◌, ap, arith, is_selected}
+use proofs.Common.{◌∙◌, ap, ◌≡◌, ◌+◌, arith, is_selected}
 use mir.Val.{bool_byte}
 use proofs.CutLemmas.CutBytes.{shuffle_next}
 use proofs.tools.cut.shuffle.PieceShuffle.of.Goals as goal
@@ -11,6 +11,4 @@ loop-index-preserved g c =
     let loop = c.loop-index in
     let position : start + c.from.result + 1 ≡ start + (loop.index + 1) = omega arith in
     shuffle_next _ (omega arith) loop.invariant
-    (c.from-count.ensures ∙ ap bool_byte c.contains.ensures ∙ ap (λ n. bool_byte ((is_selected c.args.list.now) n))
-    position)
-    (ap (λ n. set loop.counts (n + 1) (loop.count + c.from-count.result)) c.from-in-loop-index.ensures)
+    (c.from-count.ensures ∙ ap bool_byte (c.contains.ensures ∙ ap (is_selected c.args.list.now) position)) (cc)

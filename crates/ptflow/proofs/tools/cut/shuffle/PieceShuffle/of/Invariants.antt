@@ -1,8 +1,6 @@
--- The loop over the 16 bytes of a piece: the row has the selected indices so far, and the counts say how many there
--- are in each length (`PickBegun`).
+-- The row has the selected indices so far, and the counts say how many there are in each length.
 use Rattle.ptflow.proofs
-use Rattle.ptlangs.specs.CutLists.{is_selected}
-use Rattle.ptflow.specs.Private.Cut.ShortLines.{selected_after}
+use proofs.Common.{is_selected, selected_after}
 use proofs.CutLemmas.CutBytes.{PickBegun}
 use proofs.tools.cut.shuffle.PieceShuffle.of.Given as goal
 

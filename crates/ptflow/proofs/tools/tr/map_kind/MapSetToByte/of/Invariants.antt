@@ -1,5 +1,4 @@
--- The invariant of the loop of `MapSetToByte::of`: each byte so far has its image by the flags, which is `byte` if
--- its flag is set, and the byte itself if not.
+-- Each byte so far has its image by the flags: `byte` if its flag is set, and else the byte itself.
 use Rattle.ptflow.proofs
 use proofs.Common.{◌≡◌, ◌<◌, ℕ, false, get_or, if◌then◌else◌, length}
 use proofs.tools.tr.map_kind.MapSetToByte.of.Given as goal

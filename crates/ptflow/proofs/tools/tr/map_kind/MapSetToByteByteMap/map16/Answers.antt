@@ -1,5 +1,4 @@
--- For `map16` of `MapSetToByte`: selecting the one byte in the lanes that are in the set, and the lane itself in the
--- others, gives the images of all lanes.
+-- The lanes in the set get the one byte, and the others are unchanged.
 use Rattle.ptflow.proofs
 use proofs.Common.{sym, splat_is_map, set_has, map}
 use proofs.Vectors.Lanes.{sel_maps, map-id, lanes_of_mask, tops_of_lanes}

@@ -1,5 +1,4 @@
--- The invariant of the loop of `RunWriter::write_runs` (`RunsInvariant`): the lines before `rest` were processed, and
--- the output of the runs that ended was pushed, but for the deferred part. Each iteration makes `rest` shorter.
+-- The lines before `rest` were processed, and the output of the runs that ended was pushed, but for the deferred part.
 use Rattle.ptflow.proofs
 use proofs.Common.{length, uniq_job}
 use proofs.UniqLemmas.Runs.{RunsInvariant}
