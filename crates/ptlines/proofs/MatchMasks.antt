@@ -155,9 +155,9 @@ pub either_mask : (test : ℕ → Bool) (a b : ℕ) (v : List ℕ) (n : ℕ) →
     → length v ≡ n → n ≤ 64 → mask_l (map (top 7) (zip2 bit_or (zip2 (λ x y. cond (eqb x y) 255 0) v (replicate n a))
     (zip2 (λ x y. cond (eqb x y) 255 0) v (replicate n b)))) % 2 ^ 64 ≡ mask_l (map test v)
 either_mask test a b v n is long few =
-    let lanes = λ (byte : ℕ). zip2_splat (λ x y. cond (eqb x y) 255 0) v n byte long in
-    ap (λ ms. mask_l ms % 2 ^ 64)
-    (ap (map (top 7)) (zip2_of_maps bit_or _ _ v (lanes a) (lanes b)) ∙ map-map (top 7) _ v
+    let first = zip2_splat (λ x y. cond (eqb x y) 255 0) v n a long in
+    let second = zip2_splat (λ x y. cond (eqb x y) 255 0) v n b long in
+    ap (λ ms. mask_l ms % 2 ^ 64) (ap (map (top 7)) (zip2_of_maps bit_or _ _ v first second) ∙ map-map (top 7) _ v
     ∙ (λ i. map (λ x. (either_top (eqb x a) (eqb x b) ∙ sym (is x)) i) v))
     ∙ mask_l-mod (map test v) 64 (omega (arith, length-map v test))
 
