@@ -220,14 +220,15 @@ module _ {job : Paste} {cells : List ℕ} {old set : List Reader} {was : Output}
       → CallPost (inputs_at cells) (paste_engine job cells) (call_state (reader_at set) was first) new end
       → CallPost (inputs_at cells) (paste_engine job cells) (call_state (reader_at old) was first) new end
   since_set = call_set _ _ refl (call_state (reader_at old) was first) (call_state (reader_at set) was first) _ s.writable
-      refl refl (λ p named. (s.are_set p).set (is_in_used _ p named)) (λ p other. (s.are_set p).left (not_in _ p other))
+      refl refl (λ p named. (s.are_set p).set (is_in_used _ p named))
+      (λ p other. (s.are_set p).left (not_in _ p other))
 
   pub paste_without_slots : {store : Slots} → AddedSlots first store (length cells) → store.peak ≡ first.peak
       → store.denied ≡ true → length store.lines < length cells → {result : Result (Unit {0}) FlowFault}
       → result ≡ Err Memory → PastePost job cells old set was was first store result
   paste_without_slots adds same denied missing is =
-      rw (is, paste_end) (since_set (call_without_slots _ _ _ _ s.writable refl (λ p named. refl) (grind (arith, is_in_used))
-      (λ p other. refl) (λ p named. (s.are_set p).sound (is_in_used _ p named)) never_failed denied same
+      rw (is, paste_end) (since_set (call_without_slots _ _ _ _ s.writable refl (λ p named. refl)
+      (grind (arith, is_in_used)) (λ p other. refl) (λ p named. (s.are_set p).sound (is_in_used _ p named)) never_failed denied same
       adds.least missing (λ texts. omega arith) (λ p named. let some = is_in_used _ p named in
       begins_earlier job cells (λ q. received_with [] (reader_at set q)) []
       (rows (columns cells (λ q. known_lines job.terminator (received_with [] (reader_at set q))))) refl refl p some

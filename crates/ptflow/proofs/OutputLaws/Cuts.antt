@@ -69,7 +69,8 @@ none_selected test m i same (x ∷ row) below = grind (arith, nat_tests, same i,
 selected_field : (test : ℕ → Bool) (n i : ℕ) → ((k : ℕ) → test k ≡ (k == n + i)) → (row : List (List ℕ))
     → n < length row → select_from test i row ≡ slice_index_or row n [] ∷ []
 selected_field test n i same [] low = absurd (omega arith)
-selected_field test zero i same (x ∷ row) low = grind (arith, nat_tests, same i, none_selected test (0 + i) (i + 1) same row)
+selected_field test zero i same (x ∷ row) low =
+    grind (arith, nat_tests, same i, none_selected test (0 + i) (i + 1) same row)
 selected_field test (suc n) i same (x ∷ row) low =
     let number : suc n + i ≡ n + (i + 1) = omega arith in
     grind (arith, nat_tests, same i, selected_field test n (i + 1) (λ k. same k ∙ ap (λ m. k == m) number) row)

@@ -41,7 +41,8 @@ field_in_buffer end {b} {r} before after true clean sound p =
 field_in_buffer end {b} before after false clean sound p =
     let done : IsDone b = grind arith in
     let taken : LinesTaken end b b 1 [] =
-    taken_by (advance_ok_take b b 0 clean (omega arith) refl) clean sound (lines_none end b) (inr (done, omega arith)) (λ none. cc) in
+    taken_by (advance_ok_take b b 0 clean (omega arith) refl) clean sound (lines_none end b)
+    (inr (done, omega arith)) (λ none. cc) in
     ([], cc (append-nil before), rw p.same (taken, refl, omega arith), rw p.same (record { size = 0; is = refl }))
 
 pub consumed_none : {old : List Reader} → AreConsumed old old

@@ -5,4 +5,5 @@ use proofs.tools.paste.buffered_rows.copy_16.Goals as goal
 
 pub returns-clause-copied : goal.returns-clause-copied
 returns-clause-copied c =
-    take_more_put_chunk _ _ _ _ (omega (arith, length-chunk c.args.from 16 c.args.bytes.now (omega arith))) (omega arith)
+    take_more_put_chunk _ _ _ _ (omega (arith, length-chunk c.args.from 16 c.args.bytes.now (omega arith)))
+    (omega arith)

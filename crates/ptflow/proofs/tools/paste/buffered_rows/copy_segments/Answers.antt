@@ -20,9 +20,9 @@ module _ (g : given.Over) (c : In-len1-up g) where
   segment = get_or c.segments.rest.now 0 (record { input = 0; count = 0; len = 0; bytes = [] })
 
   first : IsSegment (shape_of c.args.row) c.args.readers.now c.segments.begun.0 segment
-      × AreSegments (shape_of c.args.row) c.args.readers.now (c.segments.begun.0 + segment.count) (drop 1 c.segments.rest.now)
-  first = first_segment (shape_of c.args.row) _ _ _ _
-      c.in-len1-up.len_at_least c.segments.invariant.are
+      × AreSegments (shape_of c.args.row) c.args.readers.now (c.segments.begun.0 + segment.count)
+      (drop 1 c.segments.rest.now)
+  first = first_segment (shape_of c.args.row) _ _ _ _ c.in-len1-up.len_at_least c.segments.invariant.are
 
   low : segment.input < length c.args.readers.now
   low = let (is, _) = first in has_reader c.requires.readable is
@@ -32,7 +32,8 @@ offset_bounds-readers-segment g c =
     let within = low g (goal.at.offset_bounds-readers-segment g c).In-len1-up in search scaled_Fits
 
 pub bounds-readers-segment : goal.bounds-readers-segment
-bounds-readers-segment g c = omega (arith, low g (goal.at.bounds-readers-segment g c).In-len1-up, c.segments.auto.readers)
+bounds-readers-segment g c =
+    omega (arith, low g (goal.at.bounds-readers-segment g c).In-len1-up, c.segments.auto.readers)
 
 pub returns-in_default-copy_cell-clause-cells : goal.returns-in_default-copy_cell-clause-cells
 returns-in_default-copy_cell-clause-cells g c =
@@ -45,7 +46,8 @@ segments-preserved g c =
     record {
       copied = segment_copied c.segments.invariant.copied c.requires.readable is _ _ c.in-Some.ensures.was_sound _ _
           c.in-Some.ensures.cell c.copy_bytes.ensures.copied;
-      are = subst (AreSegments (shape_of c.args.row) c.args.readers.now _) (sym (take_all _ _ (omega (arith, length-drop 1 c.segments.rest.now)))) are;
+      are = subst (AreSegments (shape_of c.args.row) c.args.readers.now _)
+          (sym (take_all _ _ (omega (arith, length-drop 1 c.segments.rest.now)))) are;
       within = is.within;
       grows = omega (arith, c.in-Some.ensures.size_bound, c.copy_bytes.ensures.end);
       size_bound = omega (arith, c.in-Some.ensures.size_bound, c.copy_bytes.ensures.end, is.few);
