@@ -8,7 +8,7 @@ use Rattle.std.proofs.lemmas.Cmp.{nat_list_cmp_total, tied_itself}
 use Rattle.std.specs.Int.{w8, w32, w64, from_be_bytes}
 use Rattle.std.specs.Ordering.{nat_cmp, ordering_then}
 use Rattle.std.specs.declared.cmp.Ordering.{Ordering}
-use Rattle.std.specs.declared.cmp.Ordering.TheVariants.{Less, Equal}
+use Rattle.std.specs.declared.cmp.Ordering.TheVariants.{Equal}
 use Rattle.ptlines.specs.ByteOrder.{byte_cmp}
 use Rattle.ptlines.specs.Private.ByteOrder.{byte_cmp_equal}
 
@@ -22,9 +22,6 @@ number_lt p q [] [] long fit less = less
 number_lt p q (x ∷ xs) (y ∷ ys) long (first, fit) less =
     number_lt (p * 256 + x) (q * 256 + y) xs ys (omega arith) fit (omega arith)
 number_lt p q _ _ long fit less = absurd (omega arith)
-
-nat_cmp_less : (x y : ℕ) → x < y → nat_cmp x y ≡ Less
-nat_cmp_less = grind arith
 
 nat_cmp_equal : (x : ℕ) → nat_cmp x x ≡ Equal
 nat_cmp_equal x = grind arith

@@ -123,7 +123,6 @@ module _ {job : Comm} {cmp : Cmp} {key : Side → Key} {old now : MergeState} {o
 
       module _ {one2 two2 : Sorted} {reader : Reader} {after : Slots}
           (h : Advances First one2 two2 reader after mid) {new : Output} (written_out : PushEffect mid new []) where
-
         pub second_fails : EndsIfFails tool old (state_by_side (both reader (now.reader Second)) new after) Second two2
             new
         second_fails _ _ _ k =
@@ -140,7 +139,10 @@ module _ {job : Comm} {cmp : Cmp} {key : Side → Key} {old now : MergeState} {o
               w = w;
               whole_line_keys = whole_line_keys;
               loop_invariant = rw k.continues.others (runs_on (advance_ok lines_before First step.first h.came) Second
-                  step.second (rw h.continues.others at k.came) (search (rules, goes_merging,
-                  (wrote_both (wrote_and_sent _ _ _ _ h.continues.clean wrote written_out)).0)));
+                  step.second (rw h.continues.others at k.came) (search (
+                    rules,
+                    goes_merging,
+                    (wrote_both (wrote_and_sent _ _ _ _ h.continues.clean wrote written_out)).0,
+                  )));
               between = between_next (between_next between First h.continues) Second k.continues;
             }

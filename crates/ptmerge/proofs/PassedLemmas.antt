@@ -237,8 +237,11 @@ module _ {tool : MergeTool} {old : MergeState} {w : IsOpenMerge tool old} {reade
             keeps = group_store_line s (exchange (cursor s)) (exchanged s (cursor s) slots) x a.keeps
                 (side_extends s ls (up m)) (rw put_same (omega (arith, max_length-append (p s ++ q) (x ∷ []))))
                 on.store;
-            reads = rw used (omega (arith, length-drop (length (reader s).buffered - length now.rest.now)
-                (reader s).buffered));
+            reads = rw used (omega (
+              arith,
+              length-drop (length (reader s).buffered - length now.rest.now)
+                  (reader s).buffered,
+            ));
           }
 
       has_passed : HasPassed next is after now q

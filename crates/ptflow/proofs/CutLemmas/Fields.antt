@@ -308,7 +308,7 @@ module _ (job : Cut) (by_fields : job.fields ≡ true) {end : ℕ} (same : end �
     lines_are = cc (take-append-drop size bytes, texts, eof-append end _ _ (line_split end _).whole)
 
     free_up_to : {n : ℕ} → n ≤ up_to → IsLine job.delimiter (take n bytes)
-    free_up_to {n} le = 
+    free_up_to {n} le =
         rw (take-take n up_to bytes le) at (free_prefix _ n _ (rw (← before) at (free_before _ bytes r found)))
 
     are_free : ((size ≡ to + 1) ⊎ (size ≤ up_to)) → AreLines job.delimiter front

@@ -95,8 +95,12 @@ module _ {was now new : Output} {all next pushed : List ℕ} (row left piece res
     (a : PartialWrite was now all (row ++ next)) (is : next ≡ piece ++ rest) (split : row ++ piece ≡ pushed ++ left)
     (wrote : PushEffect now new pushed) where
   pub piece_added : (now.write_failed ≡ false → new.write_failed ≡ false) → PartialWrite was new all (left ++ rest)
-  piece_added clean = grind (arith, row_whole row left piece rest next pushed is split, append_assoc a.done pushed,
-      wrote_then a.clean a.wrote wrote)
+  piece_added clean = grind (
+    arith,
+    row_whole row left piece rest next pushed is split,
+    append_assoc a.done pushed,
+    wrote_then a.clean a.wrote wrote,
+  )
 
   pub piece_fails : new.write_failed ≡ true → {E : Type 0} {r : Result (Unit {0}) E} (P : E → Type 0) → IsErrAnd r P
       → WriteBytesPost was new all r

@@ -89,8 +89,15 @@ module _ (cmp : Cmp) (o : IsKeyOrder cmp) where
   inserts_swap : (x y : List ℕ) (ks : Lines)
       → insert_key cmp x (insert_key cmp y ks) ≡ insert_key cmp y (insert_key cmp x ks)
   inserts_swap x y [] = grind (arith, o.exact, tied_itself o.total, greater_flips cmp o, less_flips cmp o)
-  inserts_swap x y (k ∷ ks) = grind (arith, o.exact, tied_itself o.total, greater_flips cmp o, less_flips cmp o,
-    at_most_trans cmp o, inserts_swap x y ks)
+  inserts_swap x y (k ∷ ks) = grind (
+    arith,
+    o.exact,
+    tied_itself o.total,
+    greater_flips cmp o,
+    less_flips cmp o,
+    at_most_trans cmp o,
+    inserts_swap x y ks,
+  )
 
   one_inserted : (x : List ℕ) (xs ys : Lines)
       → distinct_keys cmp (xs ++ x ∷ ys) ≡ insert_key cmp x (distinct_keys cmp (xs ++ ys))

@@ -21,7 +21,6 @@ use lemmas.Cmp.{back_total, nat_list_cmp_total, upto}
 pub use lemmas.List.Elements.{filter-append}
 pub use Rattle.std.specs.declared.cmp.Ordering.{Ordering}
 
-
 pub record IsKeyOrder (cmp : Cmp) : Type 0 where
   pub total : IsTotalOrder cmp
   pub exact : (a b : List ℕ) → cmp a b ≡ Equal → a ≡ b

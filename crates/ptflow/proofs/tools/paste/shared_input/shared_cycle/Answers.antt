@@ -11,8 +11,11 @@ returns c =
     let some : 0 < n = omega (arith, eqb-false n 0 (sym c.if-is_empty.ensures)) in
     let list = c.in_ok-bytes.ensures in
     let long : length c.deref.result.now ≡ n =
-    omega (arith, ap length (c.deref.ensures.0 ∙ c.push.ensures.items),
-    length-append c.in_ok-bytes.bytes.items (row.terminator ∷ [])) in
+    omega (
+      arith,
+      ap length (c.deref.ensures.0 ∙ c.push.ensures.items),
+      length-append c.in_ok-bytes.bytes.items (row.terminator ∷ []),
+    ) in
     record {
       some = some;
       same = All-from_get_or (λ p. p ≡ get_or row.cells 0 0) _ 0

@@ -13,4 +13,3 @@ returns-clause-moves g c =
     (rw c.in-Ok-true.field-0-test at (c.in-Ok-true.ensures.fills clean)) c.fill.ensures.is_sound c.line-2.ensures
     c.key-last.ensures c.line-3.ensures c.key-head.ensures c.cmp-ordering.ensures
     (rw c.is_gt.ensures at c.status_at-self.ensures) c.is_eq-self.ensures)
-
