@@ -66,7 +66,7 @@ fn copy_by_16(terminator: u8, bytes: &[u8], into: &mut PaddedBlock, at: usize) -
 }
 
 // Copies the line at the start of `bytes` like `copy_by_16`, near the end of these or of the block. Returns its length;
-// `None` if it is not complete or does not fit.
+// `None` if it is not complete or does not fit. Out of line, since few lines are there.
 #[inline(never)]
 fn copy_near_end(terminator: u8, bytes: &[u8], into: &mut PaddedBlock, at: usize) -> Option<usize>
     ensures line { IfSome result (IsLineCopied terminator bytes.now at into.old into.new) }
@@ -93,7 +93,7 @@ fn copy_line(terminator: u8, bytes: &[u8], into: &mut PaddedBlock, at: usize) ->
 }
 
 // Copies the next line of a reader to `at` and consumes it; `None` if it is not complete in the buffer or does not fit.
-// For lines near the end of the buffer or the block. Out of line, so that the loop over columns is short (`paste` of 2
+// For lines near the end of the buffer or the block. Out of line, so that the loop over columns is short (`paste` of 8
 // files).
 #[inline(never)]
 fn copy_cell_near_end<S: Source, R: Source>(
@@ -263,8 +263,8 @@ fn consume_two<S: Source, R: Source>(
     readers[two].consume(of_two);
 }
 
-// Copies rows like `copy_rows`, of two columns with inputs of their own. They are consumed at the end, so that what was
-// copied of each is in a register until then (`paste` of 2 files).
+// Copies rows like `copy_rows`, of two columns with inputs of their own. These are consumed at the end, and the positions
+// in their buffers are in registers until then (`paste` of 2 files); so that they are, it is out of line.
 #[inline(never)]
 fn copy_rows_of_two<S: Source, R: Source>(
     row: RowFormat,
@@ -345,8 +345,8 @@ fn copy_rows_by<S: Source, R: Source>(
 }
 
 // Copies rows while all of their lines are complete in the buffers and fit, and the first columns of the next row. If
-// all readers have ended, the begun row has all columns and no line. (Segments are made only if an input has ended,
-// since rows of few columns are copied faster without them.)
+// all readers had ended before, the begun row has all columns and no line. (Segments are made only if an input has
+// ended, since rows of live columns are copied faster without them.)
 pub(crate) fn copy_rows<S: Source, R: Source>(
     row: RowFormat,
     readers: &mut [LineReader<S, R>],
