@@ -114,13 +114,19 @@ pub(crate) fn run_lines<T: LineFilter, A: Allocator + Copy, S: Source, R: Source
     'reading: loop {
         reader.write_out_before_blocking(out)?;
         match reader.fill(store, slots - 1) {
-            Ok(true) => tool.process_line(store, out)?,
+            Ok(true) => {}
             Ok(false) => {
                 tool.finish(store, out)?;
                 return Ok(());
             }
             Err(LineFault::Read) => return Err(FlowFault::Read(0)),
             Err(LineFault::Memory) => return Err(FlowFault::Memory),
+        }
+        // After a line as long as what is left of its block, the next one seldom ends there.
+        let is_long = store.line(slots - 1).len() >= reader.buffered().len();
+        tool.process_line(store, out)?;
+        if is_long {
+            continue;
         }
         let passed = tool.process_lines(reader.buffered(), store, out)?;
         reader.consume(passed);

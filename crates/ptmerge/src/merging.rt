@@ -212,6 +212,21 @@ impl<K: KeyOrder> Merge<K> {
         }
     }
 
+    // Checks whether the current line of an input is at least as long as what follows it in its block, where the next
+    // one seldom ends then. (If the input has ended, both are empty.)
+    #[inline(always)]
+    pub(crate) fn is_longer_than_rest<A: Allocator + Copy, S: Source, R: Source>(
+        &self,
+        side: Side,
+        reader: &LineReader<S, R>,
+        store: &Store<A>,
+    ) -> bool
+        requires { AreValidCursors (K.key_of self.now.order) self.now.first self.now.second store.now }
+    {
+        let slot = self.cursor(side).current_slot;
+        store.line(slot).len() >= reader.buffered().len()
+    }
+
     // Makes the lines reached in both blocks the current ones, and consumes the bytes up to them.
     #[inline(always)]
     pub(crate) fn resume_both<A: Allocator + Copy, S: Source, R: Source>(

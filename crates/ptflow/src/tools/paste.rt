@@ -205,9 +205,10 @@ pub fn paste<A: Allocator + Copy, B: Allocator + Copy, S: Source, R: Source, W: 
     let row = row_format(job, cells);
     let cycle = shared_cycle(row);
     let mut buffer = [0; PADDED];
+    let mut after_long = false;
     'rows: loop {
         write_shared_rows(&cycle, row, readers, &mut buffer, out)?;
-        let copied = copy_rows(row, readers, &mut buffer);
+        let copied = copy_rows(row, readers, &mut buffer, after_long);
         out.push(&buffer[..copied.end])?;
         let begun = move_to_front(copied, &mut buffer);
         let filled = fill_row(row, begun, readers, &mut buffer, store, out)?;
@@ -216,5 +217,6 @@ pub fn paste<A: Allocator + Copy, B: Allocator + Copy, S: Source, R: Source, W: 
             return Ok(());
         }
         write_row(row, filled, &buffer, store, out)?;
+        after_long = filled.count < row.cells.len();
     }
 }

@@ -7,7 +7,7 @@ use proofs.Passes.LineLoop.{run_block_halts, bounds_start}
 use proofs.Passes.Exits.{is_fault}
 use proofs.line_loop.run_lines.Given as given
 use proofs.line_loop.run_lines.Goals as goal
-use Rattle.ptflow.proofs.line_loop.run_lines.Goals.{After-fill, In-Ok-true, In_ok-process_line-in-Ok-true}
+use Rattle.ptflow.proofs.line_loop.run_lines.Goals.{After-fill, In-Ok-true, In_ok-process_line}
 use proofs.Common.{refl, rules, arith, usual, ◌∙◌, ◌-◌, FillLine}
 
 -- the state after the write
@@ -25,14 +25,14 @@ line_read g c = rw (c.in-Ok-true.field-0-test, c.requires.slots) at
     (c.in-Ok-true.ensures.fills c.reading.invariant.run.reached.advance_ok.fault)
 
 -- the state after the line in the last slot
-line_taken : (g : given.Over) (c : In_ok-process_line-in-Ok-true g)
+line_taken : (g : given.Over) (c : In_ok-process_line g)
     → Run c.requires.tool c.args.reader.now c.fill.new.self c.args.out.now c.process_line.new.out c.args.store.now
     c.process_line.new.store (g.T.LineFilter.model c.process_line.new.self c.process_line.new.store)
 line_taken g c =
-    let r = written_out g (goal.at.In_ok-process_line-in-Ok-true g c).After-fill in
-    let e = line_read g (goal.at.In_ok-process_line-in-Ok-true g c).In-Ok-true in
+    let r = written_out g (goal.at.In_ok-process_line g c).After-fill in
+    let e = line_read g (goal.at.In_ok-process_line g c).In-Ok-true in
     run_line c.requires.tool r e {next = g.T.LineFilter.model c.process_line.new.self c.process_line.new.store}
-    (grind arith) c.in_ok-process_line-in-Ok-true.ensures.swapped
+    (grind arith) c.in_ok-process_line.ensures.swapped
 
 pub returns-in_err-ensure_slots : goal.returns-in_err-ensure_slots
 returns-in_err-ensure_slots g c =
@@ -56,11 +56,11 @@ process_line-requires-clause-few g c =
     rw (e.stored, c.requires.tool.stays c.reading.tool c.reading.store e.line (run_room c.requires.tool r))
     (run_count c.requires.tool r c.fill.ensures.was_sound)
 
-pub returns-in_err-process_line-in-Ok-true : goal.returns-in_err-process_line-in-Ok-true
-returns-in_err-process_line-in-Ok-true g c =
-    let r = written_out g (goal.at.returns-in_err-process_line-in-Ok-true g c).After-fill in
-    let e = line_read g (goal.at.returns-in_err-process_line-in-Ok-true g c).In-Ok-true in
-    rw (is_fault c.from_residual-in_err-process_line-in-Ok-true.ensures, c.in_err-process_line-in-Ok-true.ensures.same)
+pub returns-in_err-process_line : goal.returns-in_err-process_line
+returns-in_err-process_line g c =
+    let r = written_out g (goal.at.returns-in_err-process_line g c).After-fill in
+    let e = line_read g (goal.at.returns-in_err-process_line g c).In-Ok-true in
+    rw (is_fault c.from_residual-in_err-process_line.ensures, c.in_err-process_line.ensures.same)
     (run_line_halts c.requires.tool r e c.fill.ensures.was_sound c.fill.ensures.is_sound (grind arith))
 
 pub returns-in_err-finish-in-Ok-false : goal.returns-in_err-finish-in-Ok-false
@@ -95,23 +95,29 @@ returns-in-Err-Memory g c =
 pub reading-smaller : goal.reading-smaller
 reading-smaller g c = grind usual
 
+pub reading-preserved-then-is_long : goal.reading-preserved-then-is_long
+reading-preserved-then-is_long g c = record {
+  same_job = c.process_line.ensures.same_job ∙ c.reading.invariant.same_job;
+  run = line_taken g (goal.at.reading-preserved-then-is_long g c).In_ok-process_line;
+}
+
 pub process_lines-requires-clause-buffered : goal.process_lines-requires-clause-buffered
 process_lines-requires-clause-buffered g c =
-    let v = line_taken g (goal.at.process_lines-requires-clause-buffered g c).In_ok-process_line-in-Ok-true in
+    let v = line_taken g (goal.at.process_lines-requires-clause-buffered g c).In_ok-process_line in
     record {
       few = run_count c.requires.tool v c.fill.ensures.is_sound;
-      waits = c.in_ok-process_line-in-Ok-true.ensures.continues.some (omega arith);
+      waits = c.in_ok-process_line.ensures.continues.some (omega arith);
       short = grind usual;
     }
 
 pub returns-in_err-passed : goal.returns-in_err-passed
 returns-in_err-passed g c =
-    let v = line_taken g (goal.at.returns-in_err-passed g c).In_ok-process_line-in-Ok-true in
+    let v = line_taken g (goal.at.returns-in_err-passed g c).In_ok-process_line in
     rw (is_fault c.from_residual-in_err-passed.ensures)
     (run_block_halts c.requires.tool v c.fill.ensures.is_sound c.buffered.ensures.buffered (grind arith))
 
 pub reading-preserved : goal.reading-preserved
 reading-preserved g c =
-    let v = line_taken g (goal.at.reading-preserved g c).In_ok-process_line-in-Ok-true in
+    let v = line_taken g (goal.at.reading-preserved g c).In_ok-process_line in
     let same = c.process_line.ensures.same_job ∙ c.reading.invariant.same_job in
     record { same_job = c.process_lines.ensures.same_job ∙ same; run = grind (arith, run_block) }

@@ -10,7 +10,7 @@ ghost use Rattle.ptlines.specs.Readers.{Reader, reader_at};
 ghost use Rattle.ptlines.specs.Calls.Readers.{IsSound};
 ghost use Rattle.ptflow.specs.Private.Paste.RowCells.{after_cell, begun_after, begun_in, shape_of};
 ghost use Rattle.ptflow.specs.Private.Paste.BufferedRows.{BufferedRowsPre, CopyCellPost, CopyColumnsPost, CopyRowsPost};
-ghost use Rattle.ptflow.specs.Private.Paste.BufferedRows.{AreConsumed, IsLineCopied, LineCopied, RowsTaken, after_two};
+ghost use Rattle.ptflow.specs.Private.Paste.BufferedRows.{AreConsumed, IsLineCopied, LineCopied, RowsTaken, after_both};
 ghost use Rattle.ptflow.specs.Private.Paste.Segments.{AreSegments};
 ghost use Rattle.ptlines.specs.declared.sizes.TheConstants.{PADDED};
 
@@ -246,21 +246,21 @@ fn copy_rows_of_one<S: Source, R: Source>(
 }
 
 // Consumes the first bytes of two readers.
-fn consume_two<S: Source, R: Source>(
+fn consume_both<S: Source, R: Source>(
     readers: &mut [LineReader<S, R>],
-    one: usize,
-    of_one: usize,
-    two: usize,
-    of_two: usize,
+    first: usize,
+    first_count: usize,
+    second: usize,
+    second_count: usize,
 )
-    requires apart { one ≢ two }
-    requires within { (one < length readers.old) × (two < length readers.old) }
-    requires first { of_one ≤ length (reader_at readers.old one).buffered }
-    requires second { of_two ≤ length (reader_at readers.old two).buffered }
-    ensures { readers.new ≡ after_two readers.old one of_one two of_two }
+    requires apart { first ≢ second }
+    requires within { (first < length readers.old) × (second < length readers.old) }
+    requires first_count { first_count ≤ length (reader_at readers.old first).buffered }
+    requires second_count { second_count ≤ length (reader_at readers.old second).buffered }
+    ensures { readers.new ≡ after_both readers.old first first_count second second_count }
 {
-    readers[one].consume(of_one);
-    readers[two].consume(of_two);
+    readers[first].consume(first_count);
+    readers[second].consume(second_count);
 }
 
 // Copies rows like `copy_rows`, of two columns with inputs of their own. These are consumed at the end, and the positions
@@ -278,17 +278,18 @@ fn copy_rows_of_two<S: Source, R: Source>(
         (begun_after readers.new result into.new) }
     ensures within { result.begun.count ≤ length row.entry.cells.now }
 {
-    let one = row.cells[0];
-    let two = row.cells[1];
-    let left = readers[one].buffered();
-    let right = readers[two].buffered();
+    let first = row.cells[0];
+    let second = row.cells[1];
+    let first_bytes = readers[first].buffered();
+    let second_bytes = readers[second].buffered();
     let delim = row.byte_after(0);
-    let mut of_one = 0;
-    let mut of_two = 0;
+    let mut first_count = 0;
+    let mut second_count = 0;
     let mut end = 0;
     'rows: loop {
-        let Some(first) = copy_line(row.terminator, &left[of_one..], into, end) else {
-            consume_two(readers, one, of_one, two, of_two);
+        let Some(first_size) = copy_line(row.terminator, &first_bytes[first_count..], into, end)
+        else {
+            consume_both(readers, first, first_count, second, second_count);
             let begun = BegunRow {
                 count: 0,
                 end,
@@ -296,10 +297,15 @@ fn copy_rows_of_two<S: Source, R: Source>(
             };
             return CopiedRows { end, begun };
         };
-        of_one += first + 1;
-        let middle = copy_option(delim, into, end + first);
-        let Some(second) = copy_line(row.terminator, &right[of_two..], into, middle) else {
-            consume_two(readers, one, of_one, two, of_two);
+        first_count += first_size + 1;
+        let middle = copy_option(delim, into, end + first_size);
+        let Some(second_size) = copy_line(
+            row.terminator,
+            &second_bytes[second_count..],
+            into,
+            middle,
+        ) else {
+            consume_both(readers, first, first_count, second, second_count);
             let begun = BegunRow {
                 count: 1,
                 end: middle,
@@ -307,9 +313,9 @@ fn copy_rows_of_two<S: Source, R: Source>(
             };
             return CopiedRows { end, begun };
         };
-        of_two += second + 1;
-        into[middle + second] = row.terminator;
-        end = middle + second + 1;
+        second_count += second_size + 1;
+        into[middle + second_size] = row.terminator;
+        end = middle + second_size + 1;
     }
 }
 
@@ -346,17 +352,27 @@ fn copy_rows_by<S: Source, R: Source>(
 
 // Copies rows while all of their lines are complete in the buffers and fit, and the first columns of the next row. If
 // all readers had ended before, the begun row has all columns and no line. (Segments are made only if an input has
-// ended, since rows of live columns are copied faster without them.)
+// ended, since rows of live columns are copied faster without them.) After a row that was too long for the block, none is
+// copied: the lines of the next one seldom end in the buffers.
 pub(crate) fn copy_rows<S: Source, R: Source>(
     row: RowFormat,
     readers: &mut [LineReader<S, R>],
     into: &mut PaddedBlock,
+    after_long: bool,
 ) -> CopiedRows
     requires { BufferedRowsPre (shape_of row) readers.old }
     ensures rows { CopyRowsPost (shape_of row.entry) readers.old (take result.end into.new)
         (begun_after readers.new result into.new) }
     ensures within { result.begun.count ≤ length row.entry.cells.now }
 {
+    if after_long {
+        let begun = BegunRow {
+            count: 0,
+            end: 0,
+            any_line: false,
+        };
+        return CopiedRows { end: 0, begun };
+    }
     if has_ended_column(row, readers) {
         return copy_rows_by(row, &segments(row, readers), readers, into);
     }
