@@ -5,7 +5,7 @@ use proofs.Common.{◌≡◌, ℕ, ◌+◌, ◌<◌, ◌≤◌, Bool, List, [], 
 use proofs.Common.{SourceState, PullOk, ◌^◌, false, true, Some, Ok, Err, inr, slice_range, LineFault, Read, Reader}
 use proofs.Common.{ReaderAdvance, length, rules, sym, ◌==◌, ◌∷◌}
 use Rattle.std.proofs.lemmas.Slice.{between_from_start}
-use Rattle.ptlines.specs.Private.Readers.{RefillPost}
+use Rattle.ptlines.specs.Private.Readers.{HasMorePost}
 use Rattle.ptlines.specs.Readers.{reader_of}
 use Rattle.ptlines.specs.declared.sizes.TheConstants.{BLOCK}
 
@@ -31,13 +31,13 @@ module _ {old : Reader} {was : SourceState} (is : SourceState) (block : List ℕ
   filled = search (rules, front)
 
   pub refill_end : n ≡ 0 → PullOk was is (take BLOCK block) n
-      → RefillPost old (reader_of is (slice_range block 0 0) p fault q' end) (Ok false)
+      → HasMorePost old (reader_of is (slice_range block 0 0) p fault q' end) (Ok false)
   refill_end none gives = grind arith
 
   pub refill_more : PullOk was is (take BLOCK block) n → n ≤ BLOCK → 0 < n → p + n < 2 ^ 63
-      → RefillPost old (reader_of is (slice_range block 0 n) (p + n) fault q' end) (Ok true)
+      → HasMorePost old (reader_of is (slice_range block 0 n) (p + n) fault q' end) (Ok true)
   refill_more = grind (arith, front, length-take-le)
 
   pub refill_long : PullOk was is (take BLOCK block) n → n ≤ BLOCK → 2 ^ 63 ≤ p + n
-      → RefillPost old (reader_of is (slice_range block 0 n) (p + n) (Some Read) q' end) (Err Read)
+      → HasMorePost old (reader_of is (slice_range block 0 n) (p + n) (Some Read) q' end) (Err Read)
   refill_long gives small long = (search (rules, filled), inr (long, cc), refl)

@@ -12,7 +12,7 @@ ghost use Rattle.ptlines.specs.Private.InputSource.{input_state};
 ghost use Rattle.ptlines.specs.Private.InputSource.{is_unopened_source};
 ghost use Rattle.ptlines.specs.Sources.{IsFresh, unopened_state};
 ghost use Rattle.ptlines.specs.Private.Sources.{PullPost};
-ghost use Rattle.ptlines.specs.Private.Readers.{RefillPost};
+ghost use Rattle.ptlines.specs.Private.Readers.{HasMorePost};
 ghost use Rattle.ptlines.specs.Calls.Readers.{IsSound};
 ghost use Rattle.ptlines.specs.Readers.{new_reader};
 ghost use Rattle.ptlines.specs.Private.ReadLine.{FillPre, MoveToSlotPre, MoveToSlotPost};
@@ -189,7 +189,7 @@ impl<S: Source, R: Source> LineReader<S, R> {
     // Makes sure that bytes are buffered, by one read if there are none. Returns false at the end of input.
     fn has_more(&mut self) -> Result<bool, LineFault>
         requires { self.old.fault ≡ None }
-        ensures refills { RefillPost self.old self.new result }
+        ensures refills { HasMorePost self.old self.new result }
         ensures buffered { 0 < length self.old.buffered → self.new ≡ self.old }
         ensures sound { IsSound self.new }
     {

@@ -15,7 +15,7 @@ pub record IsValidReader (start end : ℕ) (at_eof : Bool) (r : Reader) : Type 0
   pub sound : IsSound r
 
 -- the effect of `has_more`: `true` if bytes are buffered now, `false` at the end of input
-abbrev pub RefillPost : Reader → Reader → Result Bool LineFault → Type 0
-RefillPost old new (Ok true) = AdvanceOk old new [] × (0 < length new.buffered)
-RefillPost old new (Ok false) = AdvanceOk old new [] × IsDone new
-RefillPost old new (Err fault) = AdvanceErr old new [] Read × HasReadCause old new × (fault ≡ Read)
+abbrev pub HasMorePost : Reader → Reader → Result Bool LineFault → Type 0
+HasMorePost old new (Ok true) = AdvanceOk old new [] × (0 < length new.buffered)
+HasMorePost old new (Ok false) = AdvanceOk old new [] × IsDone new
+HasMorePost old new (Err fault) = AdvanceErr old new [] Read × HasReadCause old new × (fault ≡ Read)
