@@ -17,9 +17,10 @@ use crate::slots::ensure_slots;
 use ptlines::{LineFault, LineReader, Out, Sink, Source, Store, WriteFault};
 use std::alloc::Allocator;
 
-/// A tool that works line by line, together with the state that it carries from line to line. (Lines that it carries are
-/// in the slots of the store.) The next line of a reader is read into the tool's last slot, as it may span several
-/// blocks. The lines after it that end in the same block are processed in place.
+/// A tool that works line by line, together with the state that it carries from line to line. (Lines that it carries
+/// are in the slots of the store.) The next line of a reader is read into the tool's last slot, as it may span several
+/// blocks. The lines after it that end in the same block are processed in place, unless this line is at least as long
+/// as what is left of the block.
 pub(crate) trait LineFilter {
     /// The number of slots that the tool uses.
     ghost SLOTS: { ℕ };
@@ -122,7 +123,8 @@ pub(crate) fn run_lines<T: LineFilter, A: Allocator + Copy, S: Source, R: Source
             Err(LineFault::Read) => return Err(FlowFault::Read(0)),
             Err(LineFault::Memory) => return Err(FlowFault::Memory),
         }
-        // After a line as long as what is left of its block, the next one seldom ends there.
+        // After a line as long as what is left of its block, the next one seldom ends there: it would be searched
+        // twice.
         let is_long = store.line(slots - 1).len() >= reader.buffered().len();
         tool.process_line(store, out)?;
         if is_long {

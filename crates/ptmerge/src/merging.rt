@@ -212,10 +212,10 @@ impl<K: KeyOrder> Merge<K> {
         }
     }
 
-    // Checks whether the current line of an input is at least as long as what follows it in its block, where the next
-    // one seldom ends then. (If the input has ended, both are empty.)
+    // Checks whether the current line of an input is at least as long as what follows it in its block. (If the input
+    // has ended, both are empty.)
     #[inline(always)]
-    pub(crate) fn is_longer_than_rest<A: Allocator + Copy, S: Source, R: Source>(
+    pub(crate) fn is_long<A: Allocator + Copy, S: Source, R: Source>(
         &self,
         side: Side,
         reader: &LineReader<S, R>,

@@ -29,15 +29,15 @@ rows_begun {mid = mid} end further was is more within rows consumed p = record {
 }
 
 module _ (readers : List Reader) (one other : ℕ) (apart : one ≢ other) (within : one < length readers) where
-  consumed : (n m : ℕ) (d : Reader) → get_or (after_both readers one n other m) one d
+  reader_now : (n m : ℕ) (d : Reader) → get_or (after_both readers one n other m) one d
       ≡ record (reader_at readers one) { buffered = drop n (reader_at readers one).buffered }
-  consumed n m d = grind usual
+  reader_now n m d = grind usual
 
   -- more bytes of this reader are consumed
-  consumed_more : (n k m : ℕ) → let b = get_or (after_both readers one n other m) one no_reader in
+  reader_more : (n k m : ℕ) → let b = get_or (after_both readers one n other m) one no_reader in
       set (after_both readers one n other m) one (record b { buffered = drop k b.buffered })
       ≡ after_both readers one (n + k) other m
-  consumed_more n k m = rw (consumed n m no_reader, drop-drop, set_comm _ one other _ _ apart, set-set)
+  reader_more n k m = rw (reader_now n m no_reader, drop-drop, set_comm _ one other _ _ apart, set-set)
       (set_comm readers other one _ _ (λ e. apart (sym e)))
 
 -- the readers after the first n bytes of the first column's, and the first m of the other one's
@@ -69,23 +69,23 @@ pub field_copied : {row : RowShape} {readers : List Reader} → BufferedRowsPre 
       count = k;
       any_line = any_line;
       text = take end was;
-    }) → {r : Reader} → r ≡ get_or readers (get_or row.cells k 0) r → IsSound r → {bytes : List ℕ} → bytes ≡ r.buffered → {size : ℕ}
-    {is : List ℕ} → IsLineCopied row.terminator (take (length bytes - n) (drop n bytes)) end was is size
+    }) → {r : Reader} → r ≡ get_or readers (get_or row.cells k 0) r → IsSound r → {bytes : List ℕ} → bytes ≡ r.buffered
+    → {size : ℕ} {is : List ℕ} → IsLineCopied row.terminator (take (length bytes - n) (drop n bytes)) end was is size
     → {next : List ℕ} → next ≡ take (end + size) is ++ after_cell row k → CopyColumnsPost row start (record {
       readers = after_both readers (get_or row.cells k 0) (n + (size + 1)) other m;
       count = k + 1;
       any_line = any_line || true;
       text = next;
     })
-field_copied {row} {readers} ready k other n m low apart readable {end} p {r} at_one sound {bytes} given {size} {is} line
-    stored =
+field_copied {row} {readers} ready k other n m low apart readable {end} p {r} at_one sound {bytes} given {size} {is}
+    line stored =
     let one = get_or row.cells k 0 in
     let within = ready.within k 0 low in
     let same = at_one ∙ at_index readers _ r within in
     let rest = take_rest bytes n ∙ ap (drop n) (given ∙ ap (λ r. r.buffered) same) in
     let b = get_or (after_both readers one n other m) one no_reader in
-    let is_b = consumed readers one other apart within n m no_reader in
-    rw (consumed_more readers one other apart within n (size + 1) m) at
+    let is_b = reader_now readers one other apart within n m no_reader in
+    rw (reader_more readers one other apart within n (size + 1) m) at
     (columns_more p readable low no_reader (record b { buffered = drop (size + 1) b.buffered })
     (sound_after_consume (rw same at sound) (record { size = n; is = is_b })) true (take (end + size) is)
     (record { at = size; found = rw (is_b, ← rest) line.found; consumed = refl; is = rw (is_b, ← rest) line.is })

@@ -173,9 +173,10 @@ fn clear_slots<A: Allocator + Copy>(cells: &[usize], store: &mut Store<A>)
 ///
 /// Lines that are complete in the buffers of the readers, and fit into the first 8,192 bytes of their row, are copied
 /// from there. Any other line is read into a slot of the store, one for each column, and copied from the slot if those
-/// bytes have room for it. Missing slots are added before anything is read. If at most 128 columns all read one input,
-/// and no delimiter between them is empty, all complete rows in its buffer are written at once, unless the first one
-/// takes more than half of it. Columns whose inputs have ended are copied with the column before them.
+/// bytes have room for it; so is the first line of a row after one that did not fit. Missing slots are added before
+/// anything is read. If at most 128 columns all read one input, and no delimiter between them is empty, all complete
+/// rows in its buffer are written at once, unless the first one takes more than half of it. Columns whose inputs have
+/// ended are copied with the column before them.
 ///
 /// A row is pushed before 16,384 more bytes of any of its inputs are read. Not proved but tested: it is pushed before
 /// anything more is read, nothing of it is pushed before all of its lines are known, and the buffered output is

@@ -237,7 +237,7 @@ fn pass_block<K: KeyOrder, T: MergeWriter, A: Allocator + Copy, S: Source, R: So
 }
 
 // Merges the lines of both blocks, if both inputs are at lines. If one input has ended, this passes those of the other.
-// Nothing is done at lines as long as what follows them, since the search for their ends would be done twice.
+// Nothing is done if the lines of both are long: the next ones seldom end in the blocks, and would be searched twice.
 #[inline(always)]
 pub(crate) fn merge_in_blocks<
     K: KeyOrder,
@@ -264,9 +264,7 @@ pub(crate) fn merge_in_blocks<
     ensures valid_cursors { let key = K.key_of merge.new.order in
         OnOk result (AreValidCursors key merge.new.first merge.new.second store.new) }
 {
-    if merge.is_longer_than_rest(First, first, store)
-        && merge.is_longer_than_rest(Second, second, store)
-    {
+    if merge.is_long(First, first, store) && merge.is_long(Second, second, store) {
         return Ok(());
     }
     match (merge.first.status, merge.second.status) {

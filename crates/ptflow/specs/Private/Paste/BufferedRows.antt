@@ -32,11 +32,11 @@ pub record AreConsumed (old new : List Reader) : Type 0 where
 
 -- The readers after the first n buffered bytes of one of them were consumed, and the first m of another one.
 abbrev pub after_both : List Reader → ℕ → ℕ → ℕ → ℕ → List Reader
-after_both readers first n second m =
-    let one = reader_at readers first in
-    let other = reader_at readers second in
-    slice_set (slice_set readers first (record one { buffered = drop n one.buffered })) second
-    (record other { buffered = drop m other.buffered })
+after_both readers one n other m =
+    let first = reader_at readers one in
+    let second = reader_at readers other in
+    slice_set (slice_set readers one (record first { buffered = drop n first.buffered })) other
+    (record second { buffered = drop m second.buffered })
 
 -- The lines of the next rows were taken from the readers, and these are `taken_rows`.
 pub record AreFirstRows (row : RowShape) (old new : List Reader) (ls : ℕ → List (List ℕ))

@@ -263,8 +263,8 @@ fn consume_both<S: Source, R: Source>(
     readers[second].consume(second_count);
 }
 
-// Copies rows like `copy_rows`, of two columns with inputs of their own. These are consumed at the end, and the positions
-// in their buffers are in registers until then (`paste` of 2 files); so that they are, it is out of line.
+// Copies rows like `copy_rows`, of two columns with inputs of their own. These are consumed at the end, and the
+// positions in their buffers are in registers until then (`paste` of 2 files); so that they are, it is out of line.
 #[inline(never)]
 fn copy_rows_of_two<S: Source, R: Source>(
     row: RowFormat,
@@ -352,8 +352,8 @@ fn copy_rows_by<S: Source, R: Source>(
 
 // Copies rows while all of their lines are complete in the buffers and fit, and the first columns of the next row. If
 // all readers had ended before, the begun row has all columns and no line. (Segments are made only if an input has
-// ended, since rows of live columns are copied faster without them.) After a row that was too long for the block, none is
-// copied: the lines of the next one seldom end in the buffers.
+// ended, since rows of live columns are copied faster without them.) `after_long` says that the row before did not fit;
+// then nothing is copied, since the lines of the next one seldom end in the buffers.
 pub(crate) fn copy_rows<S: Source, R: Source>(
     row: RowFormat,
     readers: &mut [LineReader<S, R>],

@@ -1,8 +1,9 @@
 -- For `copy_rows_of_two`: the first column of a row (`first`), and both, are copied from readers of which all bytes so
 -- far were consumed.
 use Rattle.ptflow.proofs
-use proofs.Common.{◌≡◌, Bool, subst, ◌≤◌, ◌+◌, ◌-◌, ◌∙◌, ◌++◌, ℕ, List, Some, arith, refl, rules, sym, ap, take, drop, length, true, ◌∷◌, []}
-use proofs.Common.{false, length-drop, length-set, take_rest, take_more_set, CopyColumnsPost, shape_of, is_byte}
+use proofs.Common.{◌≡◌, Bool, subst, ◌≤◌, ◌+◌, ◌-◌, ◌∙◌, ◌++◌, ℕ, List, Some, arith, refl, rules, sym, ap, take, drop}
+use proofs.Common.{length, true, ◌∷◌, [], false, length-drop, length-set, take_rest, take_more_set, CopyColumnsPost}
+use proofs.Common.{shape_of, is_byte}
 use Rattle.memchr.specs.Find.{IsFirstByte}
 use Rattle.ptflow.specs.Private.Paste.RowCells.{after_cell}
 use Rattle.ptlines.specs.Readers.{Reader}
@@ -18,13 +19,16 @@ past_line : (end at size : ℕ) (bytes : List ℕ)
 past_line end at size bytes found =
     let (first, _) = rw (take_rest bytes at) at found in omega (arith, first.high, length-drop at bytes)
 
-first : (g : given.Over) (c : After-copy_option-middle g) → CopyColumnsPost (shape_of c.args.row)
-    (begun (shape_of c.args.row) c.args.readers.now c.rows.first_count c.rows.second_count 0 false (take c.rows.end c.rows.into))
-    (begun (shape_of c.args.row) c.args.readers.now (c.rows.first_count + (c.in-Some.first_size + 1)) c.rows.second_count 1 true
+first : (g : given.Over) (c : After-copy_option-middle g) → let row = shape_of c.args.row in
+    let readers = c.args.readers.now in CopyColumnsPost row
+    (begun row readers c.rows.first_count c.rows.second_count 0 false (take c.rows.end c.rows.into))
+    (begun row readers (c.rows.first_count + (c.in-Some.first_size + 1)) c.rows.second_count 1 true
     (take c.copy_option-middle.result c.copy_option-middle.new.into))
 first g c =
     field_copied c.requires.readable 0 _ _ _ (omega (arith, c.requires.two)) c.requires.apart
-    (still_readable c.rows.invariant.consumed c.requires.readable) columns_start c.index-readers-first.is c.buffered-first_bytes.ensures.sound c.buffered-first_bytes.ensures.buffered c.in-Some.ensures.line
+    (still_readable c.rows.invariant.consumed c.requires.readable) columns_start
+    c.index-readers-first.is c.buffered-first_bytes.ensures.sound c.buffered-first_bytes.ensures.buffered
+    c.in-Some.ensures.line
     (c.copy_option-middle.ensures.copied
     ∙ ap (λ after. take (c.rows.end + c.in-Some.first_size) c.copy_line.new.into ++ after) c.byte_after-delim.ensures)
 
