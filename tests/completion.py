@@ -216,8 +216,10 @@ def main():
         for shell in [shell for shell in SHELLS if not shutil.which(shell)]:
             print(f"left out: completion in {shell} (there is no {shell})")
         parts = {shell: list_parts(shell, room) for shell in SHELLS if shutil.which(shell)}
-        # A terminal is mostly waited for, so all are typed into at once.
-        with multiprocessing.get_context("fork").Pool(sum(map(len, parts.values()))) as pool:
+        # A terminal is mostly waited for, so all are typed into at once. (A process of the pool that is ended just when
+        # it begins to wait would not run the handler of the signal, and the pool would wait for it.)
+        settings = {"initializer": signal.signal, "initargs": (signal.SIGTERM, signal.SIG_DFL)}
+        with multiprocessing.get_context("fork").Pool(sum(map(len, parts.values())), **settings) as pool:
             results = {shell: pool.starmap_async(find_wrong_rows, parts[shell], 1) for shell in parts}
             for shell, result in results.items():
                 try:
