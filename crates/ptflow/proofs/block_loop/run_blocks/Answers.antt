@@ -68,3 +68,6 @@ pub reading-preserved : goal.reading-preserved
 reading-preserved g c =
     let (run, _, (refilled, shown, _)) = read g (goal.at.reading-preserved g c).In-Ok in
     record { run = grind (arith, block_taken); counted = grind usual }
+
+pub reading-smaller : goal.reading-smaller
+reading-smaller g c = grind usual

@@ -121,3 +121,6 @@ reading-preserved g c =
     let v = line_taken g (goal.at.reading-preserved g c).In_ok-process_line in
     let same = c.process_line.ensures.same_job ∙ c.reading.invariant.same_job in
     record { same_job = c.process_lines.ensures.same_job ∙ same; run = grind (arith, run_block) }
+
+pub reading-smaller-then-is_long : goal.reading-smaller-then-is_long
+reading-smaller-then-is_long g c = grind usual

@@ -4,6 +4,7 @@ use Rattle.ptflow.proofs
 use proofs.Common.{◌≡◌, ◌+◌, List, [], ◌++◌, length, take, get_or, set, ◌∙◌, arith, PushEffect}
 use proofs.Common.{Reader, Slots, push_nothing, push_trans, ◌||◌, BegunText, BufferedRowsPre, RowFilledTo, after_cell}
 use proofs.Common.{begun_in, shape_of, rules}
+use borrow.Author.Rules.{scaled_Fits}
 use proofs.Passes.Exits.{is_fault}
 use proofs.PasteLemmas.BufferedRows.{next_reader, filled_to_next, filled_to_failed, with_slot, readable_after}
 use proofs.PasteLemmas.BufferedRows.{filled_to_columns, filled_to_copied, still_readable}
@@ -99,3 +100,19 @@ pub returns-clause-fills : goal.returns-clause-fills
 returns-clause-fills g c = λ from first a.
     let all : c.cells.column ≡ length c.args.row.cells.now = omega arith in
     rw all at (c.cells.invariant.filled_to from first a)
+
+pub offset_bounds-row-column : goal.offset_bounds-row-column
+offset_bounds-row-column g c = search scaled_Fits
+
+pub bounds-row-column : goal.bounds-row-column
+bounds-row-column g c = c.cells-test.true
+
+pub offset_bounds-readers-input : goal.offset_bounds-readers-input
+offset_bounds-readers-input g c =
+    let low = c.requires.readable.within c.cells.column 0 c.cells-test.true in search scaled_Fits
+
+pub fill_cell-requires-clause-slot : goal.fill_cell-requires-clause-slot
+fill_cell-requires-clause-slot g c = omega (arith, c.cells-test.true, c.cells.invariant.slots)
+
+pub fill_cell-requires-clause-clean : goal.fill_cell-requires-clause-clean
+fill_cell-requires-clause-clean g c = c.cells.invariant.clean

@@ -149,3 +149,26 @@ rows-preserved g c =
     let here = (goal.at.rows-preserved g c).In_ok-filled in
     invariant_more (sent g here) (filled_to g here) (not-false _ c.if-not-filled.false) c.write_row.ensures.wrote
     c.in_ok-write_row.ensures.clean
+
+pub set_terminators-requires : goal.set_terminators-requires
+set_terminators-requires g c = c.requires.within
+
+pub ensure_slots-requires : goal.ensure_slots-requires
+ensure_slots-requires g c = c.requires.not_denied
+
+pub write_shared_rows-requires-clause-is_cycle : goal.write_shared_rows-requires-clause-is_cycle
+write_shared_rows-requires-clause-is_cycle g c = c.shared_cycle-cycle.ensures
+
+pub write_shared_rows-requires-clause-clean : goal.write_shared_rows-requires-clause-clean
+write_shared_rows-requires-clause-clean g c = c.rows.invariant.clean
+
+pub fill_row-requires-clause-clean : goal.fill_row-requires-clause-clean
+fill_row-requires-clause-clean g c = c.in_ok-push.ensures.pushed.clean
+
+pub write_row-requires-clause-clean : goal.write_row-requires-clause-clean
+write_row-requires-clause-clean g c = c.in_ok-filled.ensures.write_failed
+
+pub slice_bounds-buffer-end : goal.slice_bounds-buffer-end
+slice_bounds-buffer-end g c =
+    let rows = c.copy_rows-copied.result in
+    omega (arith, rows.order, rows.begun.size_bound, c.type_inv.buffer)

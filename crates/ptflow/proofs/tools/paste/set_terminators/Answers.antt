@@ -1,6 +1,7 @@
 -- A reader that several columns use is set more than once, with no further effect.
 use Rattle.ptflow.proofs
 use proofs.Common.{◌≡◌, ◌<◌, Bool, cond, length, get_or, arith, terminator}
+use borrow.Author.Rules.{scaled_Fits}
 use proofs.PasteLemmas.BufferedRows.Rows.{at_index, set_terminator_more}
 use proofs.tools.paste.set_terminators.Goals as goal
 
@@ -18,3 +19,10 @@ loop-input-preserved g c =
 pub bounds-readers-input : goal.bounds-readers-input
 bounds-readers-input g c =
     let low = c.requires c.loop-input.input-index 0 c.loop-input-test.true in omega arith
+
+pub offset_bounds-cells-input-index : goal.offset_bounds-cells-input-index
+offset_bounds-cells-input-index g c = search scaled_Fits
+
+pub offset_bounds-readers-input : goal.offset_bounds-readers-input
+offset_bounds-readers-input g c =
+    let low = c.requires c.loop-input.input-index 0 c.loop-input-test.true in search scaled_Fits

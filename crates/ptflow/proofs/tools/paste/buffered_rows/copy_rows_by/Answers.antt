@@ -51,3 +51,20 @@ rows-preserved g c =
       size_bound = c.copy_columns-begun.result.size_bound;
       buffer_size = omega arith;
     }
+
+pub copy_segments-first-requires-clause-readable : goal.copy_segments-first-requires-clause-readable
+copy_segments-first-requires-clause-readable g c = still_readable c.rows.invariant.consumed c.requires.readable
+
+pub copy_columns-begun-requires-clause-within : goal.copy_columns-begun-requires-clause-within
+copy_columns-begun-requires-clause-within g c = c.copy_segments-first.ensures.within.0
+
+pub returns-then-begun-row-clause-within : goal.returns-then-begun-row-clause-within
+returns-then-begun-row-clause-within g c = c.copy_columns-begun.ensures.within.0
+
+pub invariant_of-start : goal.invariant_of-start
+invariant_of-start g c = record { size_bound = c.rows.invariant.size_bound }
+
+pub invariant_of-result : goal.invariant_of-result
+invariant_of-result g c =
+    let columns = c.copy_columns-begun.ensures in
+    record { order = omega (arith, c.copy_segments-first.ensures.within, columns.within) }

@@ -1,7 +1,7 @@
 -- A line and the bytes of the segment are a copy of a row (`copied`). If the segment is no row, none is taken.
 use Rattle.ptflow.proofs
 use proofs.Common.{◌+◌, ◌||◌, ◌∷◌, [], take, set, get_or, arith, false, true, refl, rules, shape_of, CopyColumnsPost}
-use proofs.Common.{List}
+use proofs.Common.{List, set-get_or}
 use borrow.Author.Rules.{scaled_Fits}
 use proofs.PasteLemmas.BufferedRows.{columns_start, consumed_none, consumed_trans, fill_starts, rows_taken_none}
 use proofs.PasteLemmas.BufferedRows.{still_readable}
@@ -77,3 +77,37 @@ lines-preserved g c =
       size_bound = omega (arith, c.in-Some.ensures.line.fits, c.copy_bytes-end.ensures.end, one.few);
       buffer_size = c.copy_bytes-end.array_long;
     }
+
+pub returns-in_default-clause-consumed : goal.returns-in_default-clause-consumed
+returns-in_default-clause-consumed g c = consumed_none
+
+pub returns-in_default-2-clause-consumed : goal.returns-in_default-2-clause-consumed
+returns-in_default-2-clause-consumed g c = consumed_none
+
+pub bounds-readers-segment : goal.bounds-readers-segment
+bounds-readers-segment g c =
+    let low = has_reader c.requires.readable (is g (goal.at.bounds-readers-segment g c).In-len1-up) in
+    omega (arith, low, c.lines.auto.readers)
+
+pub copy_bytes-end-requires-clause-few : goal.copy_bytes-end-requires-clause-few
+copy_bytes-end-requires-clause-few g c = (is g (goal.at.copy_bytes-end-requires-clause-few g c).In-len1-up).few
+
+pub copy_bytes-end-requires-clause-room : goal.copy_bytes-end-requires-clause-room
+copy_bytes-end-requires-clause-room g c = c.in-Some.ensures.line.fits
+
+pub overflow_add-count : goal.overflow_add-count
+overflow_add-count g c = omega (arith, c.in-Some.ensures.line.fits)
+
+pub overflow_add-end : goal.overflow_add-end
+overflow_add-end g c = omega (arith, c.in-Some.ensures.line.fits)
+
+pub consume-requires : goal.consume-requires
+consume-requires g c =
+    let (first, _) = (rw c.buffered.ensures.buffered at c.in-Some.ensures.line).found in omega (arith, first.high)
+
+pub returns-in_default-copy_by_16-clause-rows : goal.returns-in_default-copy_by_16-clause-rows
+returns-in_default-copy_by_16-clause-rows g c =
+    rw (set-get_or, c.in_default-copy_by_16.ensures.none) c.lines.invariant.rows
+
+pub returns-in_default-copy_by_16-clause-consumed : goal.returns-in_default-copy_by_16-clause-consumed
+returns-in_default-copy_by_16-clause-consumed g c = rw set-get_or c.lines.invariant.consumed

@@ -10,6 +10,7 @@ use Rattle.ptlines.specs.Readers.{Reader}
 use proofs.PasteLemmas.BufferedRows.{columns_start, consumed_none, consumed_trans, rows_taken_none, still_readable}
 use proofs.PasteLemmas.Segments.{row_more}
 use proofs.PasteLemmas.TwoColumns.{none_yet, rows_begun, field_copied, both_in, begun, exchanged}
+use borrow.Author.Rules.{scaled_Fits}
 use proofs.tools.paste.buffered_rows.copy_rows_of_two.Given as given
 use proofs.tools.paste.buffered_rows.copy_rows_of_two.Goals as goal
 use Rattle.ptflow.proofs.tools.paste.buffered_rows.copy_rows_of_two.Goals.{After-copy_option-middle}
@@ -82,3 +83,26 @@ rows-preserved g c =
       size_bound = omega (arith, line.fits);
       buffer_size = length-set _ _ _ ∙ c.copy_line-in-rows.array_long;
     }
+
+-- ---- what is in range
+
+pub bounds-row-0 : goal.bounds-row-0
+bounds-row-0 g c = omega (arith, c.requires.two)
+
+pub byte_after-delim-requires : goal.byte_after-delim-requires
+byte_after-delim-requires g c = omega (arith, c.requires.two)
+
+pub bounds-row-1 : goal.bounds-row-1
+bounds-row-1 g c = omega (arith, c.requires.two)
+
+pub bounds-readers-first : goal.bounds-readers-first
+bounds-readers-first g c = (both_in c.requires.readable c.requires.two).0
+
+pub offset_bounds-readers-first : goal.offset_bounds-readers-first
+offset_bounds-readers-first g c = let (low, _) = both_in c.requires.readable c.requires.two in search scaled_Fits
+
+pub bounds-readers-second : goal.bounds-readers-second
+bounds-readers-second g c = (both_in c.requires.readable c.requires.two).1
+
+pub offset_bounds-readers-second : goal.offset_bounds-readers-second
+offset_bounds-readers-second g c = let (_, low) = both_in c.requires.readable c.requires.two in search scaled_Fits

@@ -53,3 +53,13 @@ segments-preserved g c =
       size_bound = omega (arith, c.in-Some.ensures.size_bound, c.copy_bytes.ensures.end, is.few);
       buffer_size = c.copy_bytes.array_long;
     }
+
+pub overflow_add-begun : goal.overflow_add-begun
+overflow_add-begun g c = let (is, _) = first g (goal.at.overflow_add-begun g c).In-len1-up in omega (arith, is.within)
+
+pub copy_bytes-requires-clause-few : goal.copy_bytes-requires-clause-few
+copy_bytes-requires-clause-few g c =
+    let (is, _) = first g (goal.at.copy_bytes-requires-clause-few g c).In-len1-up in is.few
+
+pub copy_bytes-requires-clause-room : goal.copy_bytes-requires-clause-room
+copy_bytes-requires-clause-room g c = c.in-Some.ensures.size_bound.1

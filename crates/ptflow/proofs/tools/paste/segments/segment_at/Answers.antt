@@ -1,6 +1,7 @@
 -- The bytes after the first column alone, and then those after a column whose input has ended.
 use Rattle.ptflow.proofs
 use proofs.Common.{◌≡◌, ◌+◌, ◌-◌, ◌∙◌, ◌++◌, take, subst, ap, refl, arith, shape_of}
+use borrow.Author.Rules.{scaled_Fits}
 use proofs.PasteLemmas.BufferedRows.{at_index}
 use proofs.PasteLemmas.Segments.{ends_more, ends_one}
 use Rattle.ptflow.specs.Private.Paste.Segments.{EndsWith}
@@ -36,3 +37,21 @@ returns g c =
       ends = subst (λ next. EndsWith (shape_of c.args.row) c.args.readers.now c.args.column next
           (take c.columns.len c.columns.bytes)) number c.columns.invariant.ends;
     }
+
+pub offset_bounds-row-next : goal.offset_bounds-row-next
+offset_bounds-row-next g c = search scaled_Fits
+
+pub bounds-row-next : goal.bounds-row-next
+bounds-row-next g c = c.columns-test.true
+
+pub offset_bounds-readers-row : goal.offset_bounds-readers-row
+offset_bounds-readers-row g c = let low = c.requires.readable.within c.columns.next 0 c.columns-test.true in omega arith
+
+pub bounds-readers-row : goal.bounds-readers-row
+bounds-readers-row g c = c.requires.readable.within c.columns.next 0 c.columns-test.true
+
+pub offset_bounds-row-column : goal.offset_bounds-row-column
+offset_bounds-row-column g c = search scaled_Fits
+
+pub bounds-row-column : goal.bounds-row-column
+bounds-row-column g c = c.requires.low
