@@ -69,7 +69,7 @@ module _ (cmp : Cmp) (key : Key) where
     passed = omega (arith, n.passed, length-append m.middle (now.head.now ∷ n.middle));
   }
 
-  one_moved : {end : ℕ} {now next : BlockLine} → IsNextLine end cmp key now next
+  pub one_moved : {end : ℕ} {now next : BlockLine} → IsNextLine end cmp key now next
       → IsMoved end cmp key now next (now.head.now ∷ [])
   one_moved n = record {
     middle = [];

@@ -66,8 +66,8 @@ module _ {job : Comm} {cmp : Cmp} {key : Side → Key} {old now : MergeState} {o
       AdvanceOkPost key cmp s one two one2 two2 (now.reader s) reader now.store after new
 
   pub write_pre : (s : Side) → (both one two s).status ≡ Head
-      → WriteThenAdvancePre (comm_tool job) key s one two (now.reader s) now.store now.out
-  write_pre s head = record { advance = advance_pre between s head; keys = whole_line_keys; clean = between.clean }
+      → WriteThenAdvancePre (comm_tool job) key s one two (now.reader s) now.store
+  write_pre s head = record { advance = advance_pre between s head; keys = whole_line_keys }
 
   module _ {s : Side} (step : HasOnlyLeastKey cmp key (both one two) now.store s) {new : Output}
       (wrote : PushEffect now.out new (unlines (now.reader s).terminator

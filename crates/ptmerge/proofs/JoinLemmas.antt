@@ -106,8 +106,8 @@ module _ {job : Join} {cmp : Cmp} {key : Side → Key} {old : MergeState}
   }
 
   pub write_pre : (s : Side) → (both one two s).status ≡ Head
-      → WriteThenAdvancePre (join_tool job) key s one two (now.reader s) now.store now.out
-  write_pre s head = record { advance = advance_pre t.between s head; keys = t.keys; clean = t.clean }
+      → WriteThenAdvancePre (join_tool job) key s one two (now.reader s) now.store
+  write_pre s head = record { advance = advance_pre t.between s head; keys = t.keys }
 
 -- the same for the current order of keys, which is the one at the start
 abbrev pub LoopOfJoin : Join → {O : Type 0} → (O → Cmp) → (O → Side → Key) → MergeState

@@ -242,13 +242,14 @@ module _ {tool : MergeTool} {old : MergeState} {w : IsOpenMerge tool old} {now :
         (given w last (read_facts_current a)) (output_of tool p) found
     pushed_all ended stop =
         let exact = exact_output w last (read_facts_current a) m stop in
+        let ok = λ (side : Side). (sides side).lines_read.advance_ok in
         record {
-          out = search rules;
-          disorder = search rules;
-          ended = search rules;
-          fault = search rules;
-          short = search (rules, sides, w.sound);
-          unfailed = search rules;
+          out = λ texts agree. (exact texts agree).0;
+          disorder = λ texts agree. (exact texts agree).1;
+          ended = λ none side read. ended none side;
+          fault = λ side read. (ok side).fault;
+          short = λ side read. (sides side).sound.long (ok side).fault;
+          unfailed = λ side read. (ok side).failed;
           clean = clean;
           not_denied = clear.denied ∙ a.keeps.denied;
           empty = omega (arith, (has_lines_total now.store.lines (λ side. max_length (ls side)) 0 a.keeps.lines).is);

@@ -502,7 +502,6 @@ module _ {tool : MergeTool} {old was : MergeState} {one two : Sorted} {w : IsOpe
     valid_cursors = between.valid_cursors;
     own_reader = between.own_reader;
     terminator = λ side. (loop.sides side).lines_read.terminator ∙ same;
-    clean = between.clean;
   }
 
 -- the invariant of the loop of `comm`, in whatever order

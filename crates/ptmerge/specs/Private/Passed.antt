@@ -90,13 +90,12 @@ AreResumed run cursor next was is before after (Err fault) =
     × (NoneResumed run cursor was is before after ⊎ FirstResumed run cursor was is before after)
 
 -- The precondition of a merge of both blocks, for a tool that merges blocks: the cursors are valid, each reader is that
--- of its input and has the terminator of the tool, and no write has failed.
+-- of its input and has the terminator of the tool.
 pub record BlocksPre (tool : MergeTool) (key : Side → Key) (one two : Sorted) (now : MergeState) : Type 0 where
   pub tool_is : IsBlockTool tool key
   pub valid_cursors : AreValidCursors key one two now.store
   pub own_reader : (side : Side) → IsReaderOf (both one two side) (now.reader side)
   pub terminator : (side : Side) → (now.reader side).terminator ≡ tool.terminator
-  pub clean : now.out.write_failed ≡ false
 
 -- A write failed, and nothing is consumed or stored.
 pub record IsWriteFault (was is : MergeState) (result : Result (Unit {0}) MergeFault) : Type 0 where

@@ -41,12 +41,11 @@ pub record AdvancePre (key : Side → Key) (side : Side) (one two : Sorted) (rea
   pub own_reader : IsReaderOf (both one two side) reader
 
 -- The precondition of a call that writes the output for the current line of the input `side`, and then advances this
--- input: the keys are those of the tool, and no write has failed.
+-- input: the keys are those of the tool.
 pub record WriteThenAdvancePre (tool : MergeTool) (key : Side → Key) (side : Side) (one two : Sorted) (reader : Reader)
-    (store : Slots) (out : Output) : Type 0 where
+    (store : Slots) : Type 0 where
   pub advance : AdvancePre key side one two reader store
   pub keys : (side : Side) (line : List ℕ) → key side line ≡ tool.key side line
-  pub clean : out.write_failed ≡ false
 
 -- The state after the input `side` advanced: the other input is unchanged, and both satisfy the preconditions of the
 -- next call.

@@ -162,6 +162,7 @@ fn merge_blocks<K: KeyOrder, T: MergeWriter, A: Allocator + Copy, S: Source, R: 
 ) -> Result<(), MergeFault>
     requires blocks { let now = merge_state first.old second.old out.old store.old in
         BlocksPre (T.tool tool) (K.key_of merge.old.order) merge.old.first merge.old.second now }
+    requires clean { out.old.write_failed ≡ false }
     requires heads { (side : SideType) → (both merge.old.first merge.old.second side).status ≡ status_is.Head }
     ensures merges { let tool = in_order (T.tool tool) (K.order merge.old.order) (K.key_of merge.old.order) in
         let was = merge_state first.old second.old out.old store.old in
@@ -254,8 +255,9 @@ pub(crate) fn merge_in_blocks<
     store: &mut Store<A>,
     out: &mut Out<W>,
 ) -> Result<(), MergeFault>
-    requires { let now = merge_state first.old second.old out.old store.old in
+    requires blocks { let now = merge_state first.old second.old out.old store.old in
         BlocksPre (T.tool tool) (K.key_of merge.old.order) merge.old.first merge.old.second now }
+    requires clean { out.old.write_failed ≡ false }
     ensures merges { let tool = in_order (T.tool tool) (K.order merge.old.order) (K.key_of merge.old.order) in
         let was = merge_state first.old second.old out.old store.old in
         let is = merge_state first.new second.new out.new store.new in

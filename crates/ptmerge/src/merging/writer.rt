@@ -76,8 +76,9 @@ pub(crate) fn pass_line<
     store: &mut Store<A>,
     out: &mut Out<W>,
 ) -> Result<(), MergeFault>
-    requires { let key = K.key_of merge.old.order in
-        WriteThenAdvancePre (T.tool tool) key side merge.old.first merge.old.second reader.old store.old out.old }
+    requires writes { let key = K.key_of merge.old.order in
+        WriteThenAdvancePre (T.tool tool) key side merge.old.first merge.old.second reader.old store.old }
+    requires clean { out.old.write_failed ≡ false }
     ensures wrote { let current = line store.old (both merge.old.first merge.old.second side).current_slot in
         let entries = entries_alone (T.tool tool).entries side (K.key_of merge.old.order side current) current in
         PushEffect out.old out.new (unlines reader.old.terminator entries) }

@@ -3,7 +3,7 @@
 //! `field_keys` is the order of lines by their join fields, and `key_group` copies the lines of a key. `fields` splits
 //! a line into fields, by `words` if they are words, and `output` writes an output line, which `row` collects.
 
-ghost use Rattle.std.specs.Prelude.{◌≡◌, ℕ, List, ◌∷◌, [], Err, IfErr, IfOk, OnOk};
+ghost use Rattle.std.specs.Prelude.{◌≡◌, ℕ, List, ◌∷◌, [], Err, IfErr, IfOk, OnOk, false};
 ghost use Rattle.ptlangs.specs.Jobs.{join_job};
 ghost use Rattle.ptlines.specs.Calls.Outputs.{PushEffect};
 ghost use Rattle.ptlines.specs.Calls.Slots.{line};
@@ -87,7 +87,8 @@ fn write_pairs<K: KeyOrder, A: Allocator + Copy, B: Allocator, S: Source, R: Sou
 ) -> Result<bool, MergeFault>
     requires writes { let key = K.key_of merge.old.order in
         WriteThenAdvancePre (join_tool (join_job job.now)) key sides.First merge.old.first merge.old.second
-        reader.old store.old out.old }
+        reader.old store.old }
+    requires clean { out.old.write_failed ≡ false }
     requires group { let key = K.key_of merge.old.order sides.First (line store.old merge.old.first.current_slot) in
         IsGroup (join_key (join_job job.now) sides.Second) merge.old.second store.old group.end key }
     ensures wrote { let current = line store.old merge.old.first.current_slot in

@@ -5,20 +5,20 @@ use proofs.merging.block_merge.merge_in_blocks.Goals as goal
 
 pub pass_block-requires-clause-status_is : goal.pass_block-requires-clause-status_is
 pass_block-requires-clause-status_is g c = record {
-  valid_cursors = c.requires.valid_cursors;
+  valid_cursors = c.requires.blocks.valid_cursors;
   head = grind arith;
-  own_reader = c.requires.own_reader First;
+  own_reader = c.requires.blocks.own_reader First;
 }
 
 pub pass_block-requires-clause-ends : goal.pass_block-requires-clause-ends
-pass_block-requires-clause-ends g c = c.requires.terminator First
+pass_block-requires-clause-ends g c = c.requires.blocks.terminator First
 
 pub pass_block-requires-in-Ended-Head-clause-status_is : goal.pass_block-requires-in-Ended-Head-clause-status_is
 pass_block-requires-in-Ended-Head-clause-status_is g c = record {
-  valid_cursors = c.requires.valid_cursors;
+  valid_cursors = c.requires.blocks.valid_cursors;
   head = grind arith;
-  own_reader = c.requires.own_reader Second;
+  own_reader = c.requires.blocks.own_reader Second;
 }
 
 pub pass_block-requires-in-Ended-Head-clause-ends : goal.pass_block-requires-in-Ended-Head-clause-ends
-pass_block-requires-in-Ended-Head-clause-ends g c = c.requires.terminator Second
+pass_block-requires-in-Ended-Head-clause-ends g c = c.requires.blocks.terminator Second

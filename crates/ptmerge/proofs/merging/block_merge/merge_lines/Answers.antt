@@ -3,8 +3,8 @@
 use Rattle.ptmerge.proofs
 use proofs.Common.{sym, ◌∙◌, ap, arith, [], ◌∷◌, inr, is_gt, First, Second, both}
 use proofs.MergeLemmas.{less_flips, IsKeyOrder}
-use proofs.BlockLemmas.{alone_passes, fewer_left, have_keys, merge_starts, one_in_key, pair_passes, pairs_or_new}
-use proofs.BlockLemmas.{run_failed, step_on}
+use proofs.BlockLemmas.{alone_passes, fewer_left, have_keys, merge_starts, one_in_key, one_moved, pair_passes}
+use proofs.BlockLemmas.{pairs_or_new, run_failed, step_on}
 use Rattle.ptmerge.specs.Private.BlockLines.{IsStep, further_lines, in_order, key_lines}
 use proofs.merging.block_merge.merge_lines.Given as given
 use Rattle.ptmerge.proofs.merging.block_merge.merge_lines.Goals.{After-write_both, After-write_rows}
@@ -131,6 +131,20 @@ write_rows-requires-clause-two g c =
     have_keys {l = c.lines.one.key.now} (key_lines c.args.terminator c.in-Some-whole_key-2.seconds.lines)
     c.in-Some-whole_key-2.ensures.passed.own (c.requires.tool.keys Second)
     (sym (g.met.K.KeyOrder.exact c.args.order.now _ _ (grind arith) ∙ c.lines.invariant.key_is Second))
+
+pub lines-smaller-in-Less : goal.lines-smaller-in-Less
+lines-smaller-in-Less g c = omega (arith, fewer_left (one_moved _ _ c.in-Some.ensures))
+
+pub lines-smaller-in-Greater : goal.lines-smaller-in-Greater
+lines-smaller-in-Greater g c = omega (arith, fewer_left (one_moved _ _ c.in-Some-next.ensures))
+
+pub lines-smaller-then-by_pairs : goal.lines-smaller-then-by_pairs
+lines-smaller-then-by_pairs g c =
+    omega (
+      arith,
+      fewer_left (one_moved _ _ c.in-Some-next-2.ensures),
+      fewer_left (one_moved _ _ c.in-Some-next-3.ensures),
+    )
 
 pub lines-smaller : goal.lines-smaller
 lines-smaller g c =

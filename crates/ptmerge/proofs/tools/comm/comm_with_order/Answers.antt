@@ -61,10 +61,13 @@ steps-init g c =
       };
     })
 
-pub merge_in_blocks-requires : goal.merge_in_blocks-requires
-merge_in_blocks-requires g c =
+pub merge_in_blocks-requires-clause-blocks : goal.merge_in_blocks-requires-clause-blocks
+merge_in_blocks-requires-clause-blocks g c =
     let t = c.steps.invariant.iteration in
     blocks_pre t.loop_invariant t.between _ refl t.w.alone t.whole_line_keys
+
+pub merge_in_blocks-requires-clause-clean : goal.merge_in_blocks-requires-clause-clean
+merge_in_blocks-requires-clause-clean g c = c.steps.invariant.iteration.between.clean
 
 pub returns-in_err-merge_in_blocks : goal.returns-in_err-merge_in_blocks
 returns-in_err-merge_in_blocks g c =
@@ -74,14 +77,23 @@ returns-in_err-merge_in_blocks g c =
 
 -- ---- a line of one input
 
-pub pass_line-requires : goal.pass_line-requires
-pass_line-requires g c =
-    write_pre (on_by_blocks g (goal.at.pass_line-requires g c).After-step).iteration First c.in-First.ensures.status_is
+pub pass_line-requires-clause-writes : goal.pass_line-requires-clause-writes
+pass_line-requires-clause-writes g c =
+    let i = on_by_blocks g (goal.at.pass_line-requires-clause-writes g c).After-step in
+    write_pre i.iteration First c.in-First.ensures.status_is
 
-pub pass_line-requires-in-Second : goal.pass_line-requires-in-Second
-pass_line-requires-in-Second g c =
-    write_pre (on_by_blocks g (goal.at.pass_line-requires-in-Second g c).After-step).iteration Second
+pub pass_line-requires-in-Second-clause-writes : goal.pass_line-requires-in-Second-clause-writes
+pass_line-requires-in-Second-clause-writes g c =
+    write_pre (on_by_blocks g (goal.at.pass_line-requires-in-Second-clause-writes g c).After-step).iteration Second
     c.in-Second.ensures.status_is
+
+pub pass_line-requires-clause-clean : goal.pass_line-requires-clause-clean
+pass_line-requires-clause-clean g c =
+    (on_by_blocks g (goal.at.pass_line-requires-clause-clean g c).After-step).iteration.between.clean
+
+pub pass_line-requires-in-Second-clause-clean : goal.pass_line-requires-in-Second-clause-clean
+pass_line-requires-in-Second-clause-clean g c =
+    (on_by_blocks g (goal.at.pass_line-requires-in-Second-clause-clean g c).After-step).iteration.between.clean
 
 pub steps-preserved-in-Continue-branch-3 : goal.steps-preserved-in-Continue-branch-3
 steps-preserved-in-Continue-branch-3 g c =

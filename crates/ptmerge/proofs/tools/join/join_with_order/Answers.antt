@@ -58,10 +58,13 @@ steps-init g c =
       };
     })
 
-pub merge_in_blocks-requires : goal.merge_in_blocks-requires
-merge_in_blocks-requires g c =
+pub merge_in_blocks-requires-clause-blocks : goal.merge_in_blocks-requires-clause-blocks
+merge_in_blocks-requires-clause-blocks g c =
     let t = c.steps.invariant.iteration in
     blocks_pre t.here t.between _ refl t.w.alone t.keys
+
+pub merge_in_blocks-requires-clause-clean : goal.merge_in_blocks-requires-clause-clean
+merge_in_blocks-requires-clause-clean g c = c.steps.invariant.iteration.clean
 
 pub returns-in_err-merge_in_blocks : goal.returns-in_err-merge_in_blocks
 returns-in_err-merge_in_blocks g c =
@@ -73,15 +76,23 @@ returns-in_err-merge_in_blocks g c =
 pub step-requires : goal.step-requires
 step-requires g c = c.in_ok-merge_in_blocks.ensures.valid_cursors
 
-pub pass_line-requires : goal.pass_line-requires
-pass_line-requires g c =
-    let i = on_by_blocks g (goal.at.pass_line-requires g c).After-step in
+pub pass_line-requires-clause-writes : goal.pass_line-requires-clause-writes
+pass_line-requires-clause-writes g c =
+    let i = on_by_blocks g (goal.at.pass_line-requires-clause-writes g c).After-step in
     write_pre i.iteration sides.First c.in-First.ensures.status_is
 
-pub pass_line-requires-in-Second : goal.pass_line-requires-in-Second
-pass_line-requires-in-Second g c =
-    let i = on_by_blocks g (goal.at.pass_line-requires-in-Second g c).After-step in
+pub pass_line-requires-in-Second-clause-writes : goal.pass_line-requires-in-Second-clause-writes
+pass_line-requires-in-Second-clause-writes g c =
+    let i = on_by_blocks g (goal.at.pass_line-requires-in-Second-clause-writes g c).After-step in
     write_pre i.iteration _ c.in-Second.ensures.status_is
+
+pub pass_line-requires-clause-clean : goal.pass_line-requires-clause-clean
+pass_line-requires-clause-clean g c =
+    (on_by_blocks g (goal.at.pass_line-requires-clause-clean g c).After-step).iteration.clean
+
+pub pass_line-requires-in-Second-clause-clean : goal.pass_line-requires-in-Second-clause-clean
+pass_line-requires-in-Second-clause-clean g c =
+    (on_by_blocks g (goal.at.pass_line-requires-in-Second-clause-clean g c).After-step).iteration.clean
 
 pub steps-preserved-in-Continue-branch-3 : goal.steps-preserved-in-Continue-branch-3
 steps-preserved-in-Continue-branch-3 g c =
@@ -194,6 +205,9 @@ pairs-init g c =
 pub write_pairs-requires-clause-writes : goal.write_pairs-requires-clause-writes
 write_pairs-requires-clause-writes g c =
     let t = c.pairs.invariant.kept.iteration in write_pre t _ t.here.head.head
+
+pub write_pairs-requires-clause-clean : goal.write_pairs-requires-clause-clean
+write_pairs-requires-clause-clean g c = c.pairs.invariant.kept.iteration.clean
 
 pub write_pairs-requires-clause-group : goal.write_pairs-requires-clause-group
 write_pairs-requires-clause-group g c = write_pairs_group c.pairs.invariant.kept.iteration
