@@ -8,8 +8,7 @@ import os
 import shlex
 
 from linking import PROGRAM
-from project import ARCHIVES, run, say, write_text
-from proving import Crates, is_in_gate
+from project import ARCHIVES, TOP, run, say, write_text
 
 FOR_JUMPS = "-mbranches-within-32B-boundaries"
 
@@ -32,19 +31,14 @@ def find_toolchain(kit, place, processor):
     return make_toolchain(kit, place, FOR_JUMPS) if processor.name == "x86_64" else f"{kit}/toolchain"
 
 
-def find_crates():
-    """The crates to prove before the program is compiled: all, or those below it if the gate has just proved them."""
-    libraries = Crates(PROGRAM, False)
-    return libraries if is_in_gate(libraries) else Crates(PROGRAM, True)
-
-
 def compile_object(kit, place, room, crates, processor, into, backend="llvm"):
-    """Proves the crate of the program in the room for a processor, and compiles it to an object file."""
+    """Proves the crate of the program for a processor, over the libraries in the room, and compiles it to an object
+    file."""
     words = [*crates.make_words(kit, room, "src/main.rt"), "--target", processor.triple]
-    say(f"proving the crate of the program once more, for {processor.name}, and compiling it: a minute or two")
+    say(f"proving the crate of the program for {processor.name}, and compiling it: a minute or two")
     words += ["--logic-built", f"{kit}/logic_built", "--jobs", "2", "--backend", backend, "-o", into]
     words += ["--toolchain", find_toolchain(kit, place, processor)]
-    run([f"{kit}/bin/rattle", "build", *words], f"{room}/crates/{PROGRAM}")
+    run([f"{kit}/bin/rattle", "build", *words], f"{TOP}/crates/{PROGRAM}")
 
 
 def link_by_toolchain(kit, place, made, into):

@@ -112,7 +112,7 @@ def build(kit, place, processor, _):
     processor.check_compiler("make lib")
     if not shutil.which(f"{processor.prefix}objcopy"):
         raise Failed("make lib needs ar, ld and objcopy (on Debian: apt install binutils)")
-    crates, folder, archive = Crates(CRATE, False), f"{TOP}/{processor.folder}", f"{place}/{CRATE}.a"
+    crates, folder, archive = Crates(CRATE), f"{TOP}/{processor.folder}", f"{place}/{CRATE}.a"
     say(f"proving the {len(crates.names)} crates below {CRATE}, which takes minutes; {describe_kept(crates)}")
     room = prove(crates, place)
     say(f"proving {CRATE} and compiling it: a minute or two, or half a minute where an earlier run kept its proof")

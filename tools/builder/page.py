@@ -366,7 +366,7 @@ def make_package(wasm):
 
 
 def build(kit, place):
-    crates = Crates(CRATE, False)
+    crates = Crates(CRATE)
     say(f"proving the {len(crates.names)} crates below {CRATE}, which takes minutes; {describe_kept(crates)}")
     room = prove(crates, place)
     say(f"proving {CRATE} over the heap of a page, and compiling it: a minute or two")

@@ -1,10 +1,10 @@
 """The program and the libraries that it uses are proved; the program is compiled (compiling.py), linked, and put into
 build/ as ptext, and its object file as ptext.o, which static.py links.
 """
-from compiling import compile_object, find_crates, link_by_toolchain
+from compiling import compile_object, link_by_toolchain
 from linking import PROGRAM
 from project import TOP, put, say
-from proving import describe_kept, prove
+from proving import Crates, describe_kept, prove
 from static import link_all
 
 
@@ -19,10 +19,10 @@ def link_beside(place, processor):
 
 
 def build(kit, place, processor, _):
-    crates, made = find_crates(), f"{place}/{PROGRAM}"
+    crates, made = Crates(PROGRAM), f"{place}/{PROGRAM}"
     say(
-        f"proving {len(crates.names)} crates and building the program. From nothing this takes 20 minutes on "
-        f"four processors, the first crate alone 2 to 4; {describe_kept(crates)}."
+        f"proving {len(crates.names)} libraries and the program, and building it. From nothing this takes 10 to 20 "
+        f"minutes on four processors, the first crate alone 1 to 4; {describe_kept(crates)}."
     )
     compile_object(kit, place, prove(crates, place), crates, processor, f"{made}.o")
     link_by_toolchain(kit, place, f"{made}.o", made)

@@ -25,16 +25,16 @@ SHOWN = re.compile(r"rt: (note: .*(kept|disk)|.*waiting for)")
 
 
 class Crates:
-    """The crates that a crate needs, lowest first, and the libraries that each crate of the project uses."""
+    """The libraries below a crate, lowest first, and those that each crate of the project uses."""
 
-    def __init__(self, crate, is_with_it):
+    def __init__(self, crate):
         self.crate, self.uses = crate, read_uses()
         below = find_below(crate, self.uses)
-        self.names = [name for name in self.uses if name in below or is_with_it and name == crate]
+        self.names = [name for name in self.uses if name in below]
 
     def make_words(self, kit, room, top):
         """The words with which the compiler takes the crate, whose file is `top`, and the libraries below it."""
-        folders = {name: f"{room}/crates/{name}/out/rlib" for name in self.names if name != self.crate}
+        folders = {name: f"{room}/crates/{name}/out/rlib" for name in self.names}
         words = ["--crate-name", self.crate, top]
         for name in ["std", *self.uses[self.crate]]:
             words += ["--extern", f"{name}={folders.get(name, f'{kit}/rlibs')}/{name}.rlib"]

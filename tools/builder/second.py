@@ -4,16 +4,16 @@ It takes what the gate proved, checks the crate of the program once more, and co
 with the C of native/. Nobody is given this program, which is slower: tests/witness.py compares it with build/ptext, so
 that a fault of one compiler alone would be seen.
 """
-from compiling import compile_object, find_crates
+from compiling import compile_object
 from linking import PROGRAM, SHARED
 from project import TOP, put, say
-from proving import prove
+from proving import Crates, prove
 
 
 def build(kit, place, processor, _):
     processor.check_compiler("make second")
     say("making the program by Rattle's own compiler: some two minutes, once the libraries are proved")
-    crates = find_crates()
+    crates = Crates(PROGRAM)
     made, linked = f"{place}/{PROGRAM}.o", f"{place}/{PROGRAM}-second"
     compile_object(kit, place, prove(crates, place), crates, processor, made, "rattle")
     processor.link(SHARED, made, linked, place)

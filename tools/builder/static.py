@@ -12,10 +12,10 @@ of build/ptext. Otherwise, and for another processor, it is made here.
 import filecmp
 import os
 
-from compiling import compile_object, find_crates, link_by_toolchain
+from compiling import compile_object, link_by_toolchain
 from linking import GLIBC, PROGRAM, SHARED
 from project import ARCHIVES, TOP, Failed, put, say, write_text
-from proving import prove
+from proving import Crates, prove
 
 
 def is_of_program(kit, place):
@@ -32,7 +32,7 @@ def is_of_program(kit, place):
 
 def make_object(kit, place, processor):
     """Makes the object file for a processor."""
-    crates, made = find_crates(), f"{place}/{PROGRAM}.o"
+    crates, made = Crates(PROGRAM), f"{place}/{PROGRAM}.o"
     compile_object(kit, place, prove(crates, place), crates, processor, made)
     put(made, f"{TOP}/{processor.folder}/{PROGRAM}.o")
 
