@@ -29,7 +29,7 @@ WITHOUT_EDIT = {
 }
 
 # How many wrong bodies there are in must-fail, which the gate tries, and in must-fail-release.
-COUNTS = (150, 98)
+COUNTS = (150, 99)
 
 # Where a clause or another ghost item begins.
 GHOST = re.compile(r"\b(?:(requires|ensures)\b[^{;]*|ghost\b[^{;]*)([{;])")

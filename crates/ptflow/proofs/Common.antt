@@ -79,7 +79,7 @@ pub use Rattle.ptlines.proofs.Calls.{CallProgress, DecidedIfReadFailed, reads_no
 pub use Rattle.ptlines.proofs.Calls.{call_set, call_without_slots}
 pub use Rattle.ptlines.proofs.CopyFacts.{copied_prefix}
 pub use Rattle.ptlines.proofs.MatchWindows.{nth_later, nth_from, few_from, after_set, count_in_prefix, first_is, near}
-pub use Rattle.ptlines.proofs.MatchWindows.{without, count_chunk, cleared}
+pub use Rattle.ptlines.proofs.MatchWindows.{clear_first, without, count_chunk, cleared, and_less}
 pub use Rattle.ptlines.specs.declared.sizes.TheConstants.{PADDED}
 pub use specs.Private.PasteCall.{update_at}
 pub use specs.PasteText.{delimiter, join_with_cycle, paste_serial_decided, paste_serial_tool, rows_text}

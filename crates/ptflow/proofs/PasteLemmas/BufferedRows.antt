@@ -3,7 +3,7 @@
 -- count * n terminators, the last of which ends them, are `count` rows.
 pub mod Rows
 use Rattle.ptflow.proofs
-pub use proofs.Common.{ne_eqb, append_assoc, nat_tests, mod-mul-add, count_by, is_byte, advance_ok_take, usual}
+pub use proofs.Common.{take-add, ne_eqb, append_assoc, nat_tests, mod-mul-add, count_by, is_byte, advance_ok_take, usual}
 pub use proofs.Common.{line_before_terminator, take_with_terminator, lines_are, the_lines, Output, PushEffect}
 pub use proofs.Common.{cycle_byte, with_replacements, IsConsumed, AreConsumed, IsFieldCopied, RowsWritten}
 pub use proofs.Vectors.NextTerminator.{none_counted}
@@ -23,6 +23,20 @@ kept at to was is more further within copied =
     sym (take-take at to is further) ∙ ap (take at) copied
     ∙ take-append-le at (take at was) more (omega (arith, length-take-le at was within))
     ∙ take-take at at was (omega arith)
+
+-- The 16 bytes at index `from` were copied after those before.
+pub vector_copied : (at from : ℕ) (was before is bytes : List ℕ) → take (at + from) before ≡ take at was ++ take from bytes
+    → take (at + from + 16) is ≡ take (at + from) before ++ take 16 (drop from bytes)
+    → take (at + (from + 16)) is ≡ take at was ++ take (from + 16) bytes
+vector_copied at from was before is bytes first second =
+    let number : at + (from + 16) ≡ at + from + 16 = omega arith in
+    cc (
+      ap (λ n. take n is) number,
+      second,
+      first,
+      append_assoc (take at was) (take from bytes) (take 16 (drop from bytes)),
+      take-add from 16 bytes,
+    )
 
 -- ---- one column
 

@@ -2,15 +2,17 @@
 -- copy its columns one by one: each after the first has an empty field, and its reader stays as it is.
 use Rattle.ptflow.proofs
 use proofs.Common.{◌<◌, ◌≤◌, false, true, set-get_or, sum_by, sum_by-cons, append_assoc, usual, length-append, ap}
-use proofs.Common.{drop_all, ◌∙◌, drop, subst}
+use proofs.Common.{length-set, drop_all, ◌∙◌, drop, drop-drop, is_byte, subst, IsConsumed, IsFirstByte, Some}
 use proofs.PasteLemmas.BufferedRows.{IsFieldCopied, sound_after_consume, AreConsumed, IsSound, take, sym, Bool, ◌||◌}
 use proofs.PasteLemmas.BufferedRows.{List, ℕ, [], ◌∷◌, ◌++◌, ◌+◌, ◌≡◌, length, get_or, set, Reader, reader_at, RowShape}
 use proofs.PasteLemmas.BufferedRows.{BegunText, BufferedRowsPre, CopyColumnsPost, RowsTaken, after_cell}
 use proofs.PasteLemmas.BufferedRows.{cells_text-append, columns_more, columns_start, consumed_trans, fill_starts}
-use proofs.PasteLemmas.BufferedRows.{still_readable, row_taken, rows_taken_trans, arith, refl}
+use proofs.PasteLemmas.BufferedRows.{still_readable, row_taken, rows_taken_none, rows_taken_trans, arith, refl}
 use Rattle.std.proofs.Math.Bool.{or-false}
+use Rattle.std.proofs.lemmas.List.{set-set}
 use Rattle.ptlines.specs.Readers.{no_reader}
-use Rattle.ptflow.specs.Private.Paste.Segments.{AreSegments, EndsWith, IsEnded, IsSegment}
+use Rattle.ptflow.specs.Private.Paste.Segments.{AreRowsCopied, AreSegments, EndsWith, IsEnded, IsRow, IsSegment}
+use Rattle.ptflow.specs.Private.Paste.Segments.{after_one}
 use Rattle.ptflow.specs.declared.tools.paste.segments.Segment.{Segment}
 
 pub columns_trans : {row : RowShape} {a b c : BegunText} → CopyColumnsPost row a b → CopyColumnsPost row b c
@@ -109,3 +111,56 @@ pub row_more : {row : RowShape} {old readers new : List Reader} {text next : Lis
     → any_line ≡ true → RowsTaken row old new next
 row_more rows p all some =
     rw p.is (rows_taken_trans rows (row_taken (rw all at (p.filled _ [] fill_starts)) some))
+
+-- ---- rows of one column with lines
+
+module _ (readers : List Reader) (one : ℕ) (within : one < length readers) where
+  one_now : (n : ℕ) (d : Reader) → get_or (after_one readers one n) one d
+      ≡ record (reader_at readers one) { buffered = drop n (reader_at readers one).buffered }
+  one_now n d = grind usual
+
+  -- more bytes of the reader are consumed
+  one_more : (n k : ℕ) → let b = get_or (after_one readers one n) one no_reader in
+      set (after_one readers one n) one (record b { buffered = drop k b.buffered }) ≡ after_one readers one (n + k)
+  one_more n k = rw (one_now n no_reader, drop-drop, set-set) refl
+
+pub one_consumed : (readers : List Reader) (one n : ℕ) → one < length readers → {b r : Reader} → b ≡ reader_at readers one
+    → r ≡ record b { buffered = drop n b.buffered } → AreConsumed readers (set readers one r)
+one_consumed readers one n within is_read step = record {
+  count = length-set readers one _;
+  buffered = λ input. grind usual;
+}
+
+pub none_copied : (row : RowShape) (readers : List Reader) (input : ℕ) (into : List ℕ)
+    → AreRowsCopied row readers input 0 (record { start = 0; end = 0 }) into
+none_copied row readers input into = record {
+  rows = rw (set-get_or readers input no_reader) rows_taken_none;
+  same = (omega arith, refl);
+  fits = omega arith;
+}
+
+-- One more line was copied as a row.
+module _ {row : RowShape} {readers : List Reader} {segment : Segment} (ready : BufferedRowsPre row readers)
+    (is : IsRow row readers segment) (sound : IsSound (reader_at readers segment.input)) where
+  pub line_copied : (start size : ℕ) {text copied next : List ℕ}
+      → let bytes = drop start (reader_at readers segment.input).buffered in
+      RowsTaken row readers (after_one readers segment.input start) text
+      → IsFirstByte (is_byte row.terminator) bytes (Some size) → copied ≡ text ++ take size bytes
+      → next ≡ copied ++ take segment.len segment.bytes
+      → RowsTaken row readers (after_one readers segment.input (start + (size + 1))) next
+  line_copied start size {text} {copied} rows found line stored =
+      let one = segment.input in
+      let within = has_reader ready is.is in
+      let now = one_now readers one within start no_reader in
+      let b = get_or (after_one readers one start) one no_reader in
+      let step : AreConsumed readers (after_one readers one start) = one_consumed readers one start within refl refl in
+      let (is_now, _) = still_segments row _ _ 0 (segment ∷ []) step (is.is, tt) in
+      let consumed : IsConsumed (reader_at readers one) b = record { size = start; is = now } in
+      rw (one_more readers one within start (size + 1)) at
+      (row_more rows (segment_copied columns_start (still_readable step ready) is_now no_reader
+      (record b { buffered = drop (size + 1) b.buffered }) (sound_after_consume sound consumed) true copied (record {
+        at = size;
+        found = rw now found;
+        consumed = refl;
+        is = rw now line;
+      }) stored) (omega (arith, is.all)) refl)

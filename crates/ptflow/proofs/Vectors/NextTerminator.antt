@@ -1,9 +1,10 @@
 -- The terminators in 64 bytes are processed in order by clearing the lowest bit of their mask (`NextTerminator`).
 use Rattle.ptflow.proofs
-use proofs.Common.{◌≡◌, ℕ, ◌+◌, ◌-◌, ◌<◌, ◌≤◌, Bool, true, Some, List, [], ◌∷◌, length, map, take, drop, get_or, refl}
+use proofs.Common.{◌≡◌, ◌≢◌, ℕ, zero, suc, false, ◌+◌, ◌-◌, ◌<◌, ◌≤◌, Bool, true, Some, List, [], ◌∷◌, length, map, take, drop, get_or, refl, ap}
 use proofs.Common.{sym, ◌∙◌, arith, usual, count_ones, count_by, count_by_more_yes, mask_l, chunk, take-add}
 use proofs.Common.{ones-mask_l, get_or-chunk, length-chunk, IsFirstByte, NoneBefore, Passes, is_byte, IsLine, byte_ne}
-use proofs.Common.{IsTerminatorMask, after_set, count_in_prefix, first_is, near, without}
+use proofs.Common.{IsTerminatorMask, after_set, clear_first, cond, count_in_prefix, first_is, near, sum_by-cons, without}
+use Rattle.std.proofs.lemmas.List.{map-id}
 use lib.Count.{count_trailing_zeros}
 
 pub none_counted : (d : ℕ) (bytes : List ℕ) → IsLine d bytes → count_by (is_byte d) bytes ≡ 0
@@ -48,3 +49,47 @@ module _ {d : ℕ} {block : List ℕ} {from all marked : ℕ} (n start : ℕ) (h
       let is : p (get_or block (from + bit) 0) ≡ true = cc (get_or-chunk from 64 block bit 0 close) in
       let as_many = count_in_prefix p block 64 from n bit room nth ∙ sym ends in
       grind (arith, in_order, next_is, one_after)
+
+-- ---- the bits that are left
+
+-- how many lines end between two indices
+abbrev pub ended_between : ℕ → List ℕ → ℕ → ℕ → ℕ
+ended_between d bytes from to = count_by (is_byte d) (take to bytes) - count_by (is_byte d) (take from bytes)
+
+ones_cons : (b : Bool) (bits : List Bool) → count_by (λ b. b) (b ∷ bits) ≡ cond b 1 0 + count_by (λ b. b) bits
+ones_cons b bits = sum_by-cons (λ b. cond b 1 0) b bits
+
+ones_less : (bits : List Bool) → count_by (λ b. b) (clear_first bits) ≡ count_by (λ b. b) bits - 1
+ones_less [] = refl
+ones_less (true ∷ bits) = omega (arith, ones_cons true bits, ones_cons false bits)
+ones_less (false ∷ bits) = ones_less bits
+
+ones_left : (n : ℕ) (bits : List Bool) → count_by (λ b. b) (without n bits) ≡ count_by (λ b. b) bits - n
+ones_left zero bits = omega arith
+ones_left (suc n) bits = omega (arith, ones_less (without n bits), ones_left n bits)
+
+some_set : (bits : List Bool) → mask_l bits ≢ 0 → 0 < count_by (λ b. b) bits
+some_set [] some = absurd (some refl)
+some_set (true ∷ bits) some = omega (arith, ones_cons true bits)
+some_set (false ∷ bits) some = some_set bits (λ none. some (omega (arith, none)))
+
+ones_are : (bits : List Bool) → count_ones (mask_l bits) ≡ count_by (λ b. b) bits
+ones_are bits = cc (map-id bits, ones-mask_l (λ b. b) bits)
+
+-- A bit is left if and only if a terminator is.
+module _ (d : ℕ) (block : List ℕ) (from n : ℕ) {marked : ℕ}
+    (bits : marked ≡ mask_l (without n (map (is_byte d) (chunk from 64 block)))) where
+  abbrev flags : List Bool
+  flags = map (is_byte d) (chunk from 64 block)
+
+  left : count_by (λ b. b) (without n flags) ≡ count_by (is_byte d) (chunk from 64 block) - n
+  left = ones_left n flags ∙ ap (λ c. c - n) (sym (ones_are flags) ∙ ones-mask_l (is_byte d) _)
+
+  pub some_left : marked ≢ 0 → n < count_by (is_byte d) (chunk from 64 block)
+  some_left set = omega (arith, left, some_set (without n flags) (λ none. set (bits ∙ none)))
+
+  pub none_left : marked ≡ 0 → count_by (is_byte d) (chunk from 64 block) ≤ n
+  unfolding lib.Count.ones
+  none_left none =
+      let zero_ones : count_ones 0 ≡ 0 = refl in
+      omega (arith, left, ones_are (without n flags), ap count_ones (sym bits ∙ none), zero_ones)

@@ -1,10 +1,14 @@
 -- Segments of a row of `paste`: a column, and the columns after it whose inputs have ended.
-use Rattle.std.specs.Prelude.{◌≡◌, ℕ, ◌+◌, ◌<◌, ◌≤◌, true, List, [], ◌∷◌, ◌++◌, length, take, slice_index_or}
+use Rattle.std.specs.Prelude.{◌≡◌, ℕ, ◌+◌, ◌<◌, ◌≤◌, true, List, [], ◌∷◌, ◌++◌, drop, length, take, slice_index_or}
+use Rattle.std.specs.Prelude.{slice_set}
 use Rattle.ptlines.specs.Calls.Readers.{IsSound}
-use Rattle.ptlines.specs.Readers.{Reader}
-use Rattle.ptflow.specs.Private.Paste.BufferedRows.{AreConsumed, CopyColumnsPost}
+use Rattle.ptlines.specs.Readers.{Reader, reader_at}
+use Rattle.ptflow.specs.Private.Cut.CutFrom.{IsSameLine}
+use Rattle.ptflow.specs.Private.Paste.BufferedRows.{AreConsumed, CopyColumnsPost, RowsTaken}
 use Rattle.ptflow.specs.Private.Paste.RowCells.{BegunText, RowShape, after_cell}
+use Rattle.ptflow.specs.declared.tools.paste.buffered_rows.CopiedLines.{CopiedLines}
 use Rattle.ptflow.specs.declared.tools.paste.segments.Segment.{Segment}
+use Rattle.ptlines.specs.declared.sizes.TheConstants.{BLOCK}
 
 -- A reader has given all of its input.
 pub record IsEnded (r : Reader) : Type 0 where
@@ -32,3 +36,20 @@ abbrev pub AreSegments : RowShape → List Reader → ℕ → List Segment → T
 AreSegments row readers c [] = Unit {0}
 AreSegments row readers c (segment ∷ segments) = IsSegment row readers c segment
     × AreSegments row readers (c + segment.count) segments
+
+-- A segment is all columns of a row.
+pub record IsRow (row : RowShape) (readers : List Reader) (segment : Segment) : Type 0 where
+  pub is : IsSegment row readers 0 segment
+  pub all : segment.count ≡ length row.cells
+
+-- The readers after the first n buffered bytes of one of them were consumed.
+abbrev pub after_one : List Reader → ℕ → ℕ → List Reader
+after_one readers one n =
+    let first = reader_at readers one in slice_set readers one (record first { buffered = drop n first.buffered })
+
+-- The first lines of a reader were copied as rows, to the start of `into`. The line after them includes the index `at`.
+pub record AreRowsCopied (row : RowShape) (readers : List Reader) (input at : ℕ) (copied : CopiedLines) (into : List ℕ)
+    : Type 0 where
+  pub rows : RowsTaken row readers (after_one readers input copied.start) (take copied.end into)
+  pub same : IsSameLine row.terminator (reader_at readers input).buffered at copied.start
+  pub fits : copied.end ≤ BLOCK

@@ -11,13 +11,41 @@ ghost use Rattle.ptlines.specs.Calls.Readers.{IsSound};
 ghost use Rattle.ptflow.specs.Private.Paste.RowCells.{after_cell, begun_after, begun_in, shape_of};
 ghost use Rattle.ptflow.specs.Private.Paste.BufferedRows.{BufferedRowsPre, CopyCellPost, CopyColumnsPost, CopyRowsPost};
 ghost use Rattle.ptflow.specs.Private.Paste.BufferedRows.{AreConsumed, IsLineCopied, LineCopied, RowsTaken, after_both};
-ghost use Rattle.ptflow.specs.Private.Paste.Segments.{AreSegments};
+ghost use Rattle.ptflow.specs.Private.Paste.Segments.{AreRowsCopied, AreSegments, IsRow};
 ghost use Rattle.ptlines.specs.declared.sizes.TheConstants.{PADDED};
 
 use crate::tools::paste::row::{BegunRow, CopiedRows, RowFormat, copy_option, next_index};
 use crate::tools::paste::segments::{Segment, has_ended_column, segments};
-use ptlines::{BLOCK, LineReader, PaddedBlock, Source, copy_short, find_byte, find_in_chunk};
+use ptlines::{
+    BLOCK, LineReader, PaddedBlock, Source, copy_short, find_byte, find_in_chunk, mask_at,
+};
 use std::simd::prelude::*;
+
+// Copies the 16 bytes from `from` on to `at`.
+#[inline(always)]
+fn copy_vector(bytes: &[u8], from: usize, into: &mut PaddedBlock, at: usize)
+    requires within { from + 16 ≤ length bytes.now }
+    requires room { at + 16 ≤ PADDED }
+    ensures { take (at + 16) into.new ≡ take at into.old ++ take 16 (drop from bytes.now) }
+{
+    let into: &mut [u8] = into;
+    u8x16::from_slice(&bytes[from..]).copy_to_slice(&mut into[at..]);
+}
+
+// Copies the first `count` bytes to `at`, as vectors of 16 bytes. 16 more bytes follow them.
+#[inline(always)]
+fn copy_vectors(bytes: &[u8], count: usize, into: &mut PaddedBlock, at: usize)
+    requires within { count + 16 ≤ length bytes.now }
+    requires room { at + count ≤ BLOCK }
+    ensures { take (at + count) into.new ≡ take at into.old ++ take count bytes.now }
+{
+    copy_vector(bytes, 0, into, at);
+    let mut copied = 16;
+    'vectors: while copied < count {
+        copy_vector(bytes, copied, into, at + copied);
+        copied += 16;
+    }
+}
 
 // Copies the 16 bytes from `from` on to `at`. Returns the index of the first terminator among them.
 #[inline(always)]
@@ -33,10 +61,8 @@ fn copy_16(
     ensures found { IsFirst (Passes (is_byte terminator) bytes.now) from (from + 16) result }
     ensures copied { take (at + 16) into.new ≡ take at into.old ++ take 16 (drop from bytes.now) }
 {
-    let found = find_in_chunk::<16, u8>(terminator, bytes, from);
-    let into: &mut [u8] = into;
-    u8x16::from_slice(&bytes[from..]).copy_to_slice(&mut into[at..]);
-    found
+    copy_vector(bytes, from, into, at);
+    find_in_chunk::<16, u8>(terminator, bytes, from)
 }
 
 // Copies the line at the start of `bytes` to `at`, as vectors of 16 bytes, each of which is searched for the
@@ -215,8 +241,50 @@ fn copy_segments<S: Source, R: Source>(
     begun
 }
 
+// The lines before `start` in a buffer were copied: their rows are the bytes before `end`.
+#[derive(Clone, Copy)]
+struct CopiedLines {
+    start: usize,
+    end: usize,
+}
+
+// Copies the lines that end among the 64 buffered bytes from `from` on, after which 16 more are buffered, each with the
+// bytes of a segment that is a row. `None` if 64 of these may not fit; then none is copied.
+#[inline(always)]
+fn copy_chunk<S: Source, R: Source>(
+    row: RowFormat,
+    segment: &Segment,
+    readers: &[LineReader<S, R>],
+    from: usize,
+    into: &mut PaddedBlock,
+    mut copied: CopiedLines,
+) -> Option<CopiedLines>
+    requires readable { BufferedRowsPre (shape_of row) readers.now }
+    requires segment { IsRow (shape_of row) readers.now segment.now }
+    requires within { from + 80 ≤ length (reader_at readers.now segment.now.input).buffered }
+    requires copied { AreRowsCopied (shape_of row) readers.now segment.now.input from copied into.old }
+    ensures copied { IfSome result
+        (λ next. AreRowsCopied (shape_of row.entry) readers.now segment.now.input (from + 64) next into.new) }
+    ensures none { IfNone result (into.new ≡ into.old) }
+{
+    let bytes = readers[segment.input].buffered();
+    let mut ends = mask_at::<64, u8>(row.terminator, bytes, from);
+    if copied.end + (from + 64 - copied.start) + 64 * segment.len > BLOCK {
+        return None;
+    }
+    'lines: while ends != 0 {
+        let line_end = from + ends.trailing_zeros() as usize;
+        let size = line_end - copied.start;
+        copy_vectors(&bytes[copied.start..], size, into, copied.end);
+        copied.end = segment.copy_bytes(into, copied.end + size);
+        copied.start = line_end + 1;
+        ends &= ends - 1;
+    }
+    Some(copied)
+}
+
 // Copies the first rows if the first segment is a row, since the inputs of all other columns have ended: each is a line
-// and the bytes of the segment. It stops at a line that `copy_by_16` does not copy. Returns the offset after them.
+// and the bytes of the segment. It stops near the end of the buffer and of the block. Returns the offset after them.
 #[inline(always)]
 fn copy_rows_of_one<S: Source, R: Source>(
     row: RowFormat,
@@ -234,15 +302,18 @@ fn copy_rows_of_one<S: Source, R: Source>(
         [segment, ..] if segment.count == row.cells.len() => segment,
         _ => return 0,
     };
-    let mut end = 0;
-    'lines: loop {
-        let reader = &mut readers[segment.input];
-        let Some(count) = copy_by_16(row.terminator, reader.buffered(), into, end) else {
-            return end;
+    let size = readers[segment.input].buffered().len();
+    let mut copied = CopiedLines { start: 0, end: 0 };
+    let mut from = 0;
+    'chunks: while size - from >= 80 {
+        let Some(next) = copy_chunk(row, segment, readers, from, into, copied) else {
+            break;
         };
-        reader.consume(count + 1);
-        end = segment.copy_bytes(into, end + count);
+        copied = next;
+        from += 64;
     }
+    readers[segment.input].consume(copied.start);
+    copied.end
 }
 
 // Consumes the first bytes of two readers.

@@ -1,10 +1,10 @@
 -- A line whose terminator is found in a vector was copied with the vectors up to there.
 use Rattle.ptflow.proofs
-use proofs.Common.{◌≡◌, ◌≤◌, ◌+◌, ◌++◌, ℕ, List, length, take, drop, ap, arith, take-add, append_assoc, NoneBefore}
-use proofs.Common.{Passes, is_byte, nowhere_trans}
+use proofs.Common.{◌≡◌, ◌≤◌, ◌+◌, ◌++◌, ℕ, List, length, take, arith, NoneBefore, Passes, is_byte, nowhere_trans}
 use Rattle.ptlines.proofs.CopyFacts.{copied_prefix}
 use Rattle.ptflow.specs.Private.Paste.BufferedRows.{IsLineCopied}
 use Rattle.ptlines.specs.declared.sizes.TheConstants.{BLOCK}
+use proofs.PasteLemmas.BufferedRows.{vector_copied}
 use proofs.tools.paste.buffered_rows.copy_by_16.Goals as goal
 
 line_found : (end at size count : ℕ) (was is bytes : List ℕ) → at ≤ length was → at + size ≤ BLOCK
@@ -15,19 +15,6 @@ line_found end at size count was is bytes within room long first here copied = r
   fits = omega (arith, first.high);
   is = copied_prefix at _ _ was is _ within (omega (arith, first.high)) copied;
 }
-
-vector_copied : (at from : ℕ) (was before is bytes : List ℕ) → take (at + from) before ≡ take at was ++ take from bytes
-    → take (at + from + 16) is ≡ take (at + from) before ++ take 16 (drop from bytes)
-    → take (at + (from + 16)) is ≡ take at was ++ take (from + 16) bytes
-vector_copied at from was before is bytes first second =
-    let number : at + (from + 16) ≡ at + from + 16 = omega arith in
-    cc (
-      ap (λ n. take n is) number,
-      second,
-      first,
-      append_assoc (take at was) (take from bytes) (take 16 (drop from bytes)),
-      take-add from 16 bytes,
-    )
 
 pub returns-in-Some-clause-line : goal.returns-in-Some-clause-line
 returns-in-Some-clause-line c =

@@ -1,16 +1,15 @@
--- A line and the bytes of the segment are a copy of a row (`copied`). If the segment is no row, none is taken.
+-- If the segment is no row, none is taken. Otherwise the reader is consumed up to the line after the rows.
 use Rattle.ptflow.proofs
-use proofs.Common.{◌+◌, ◌||◌, ◌∷◌, [], take, set, get_or, arith, false, true, refl, rules, shape_of, CopyColumnsPost}
-use proofs.Common.{List, set-get_or}
+use proofs.Common.{◌≡◌, ◌<◌, ◌∙◌, List, [], ap, arith, drop, get_or, length, reader_at, refl, shape_of, Reader}
 use borrow.Author.Rules.{scaled_Fits}
-use proofs.PasteLemmas.BufferedRows.{columns_start, consumed_none, consumed_trans, fill_starts, rows_taken_none}
-use proofs.PasteLemmas.BufferedRows.{still_readable}
-use proofs.PasteLemmas.Segments.{first_segment, has_reader, row_more, segment_copied, still_segments}
+use proofs.PasteLemmas.BufferedRows.{at_index, consumed_none, rows_taken_none}
+use proofs.PasteLemmas.Segments.{first_segment, has_reader, none_copied, one_consumed}
 use Rattle.ptflow.specs.Private.Paste.Segments.{IsSegment}
 use Rattle.ptflow.specs.declared.tools.paste.segments.Segment.{Segment}
 use proofs.tools.paste.buffered_rows.copy_rows_of_one.Given as given
 use proofs.tools.paste.buffered_rows.copy_rows_of_one.Goals as goal
-use Rattle.ptflow.proofs.tools.paste.buffered_rows.copy_rows_of_one.Goals.{After-copy_bytes-end, In-len1-up}
+use Rattle.ptflow.proofs.tools.paste.buffered_rows.copy_rows_of_one.Goals.{After-consume, In-len1-up, else-chunks-test}
+use Rattle.ptflow.proofs.tools.paste.buffered_rows.copy_rows_of_one.Goals.{then-chunks-test+in_default-copy_chunk}
 
 pub returns-in_default-clause-rows : goal.returns-in_default-clause-rows
 returns-in_default-clause-rows g c = rows_taken_none
@@ -18,8 +17,11 @@ returns-in_default-clause-rows g c = rows_taken_none
 pub returns-in_default-2-clause-rows : goal.returns-in_default-2-clause-rows
 returns-in_default-2-clause-rows g c = rows_taken_none
 
-pub lines-init : goal.lines-init
-lines-init g c = search (rules, rows_taken_none, consumed_none)
+pub returns-in_default-clause-consumed : goal.returns-in_default-clause-consumed
+returns-in_default-clause-consumed g c = consumed_none
+
+pub returns-in_default-2-clause-consumed : goal.returns-in_default-2-clause-consumed
+returns-in_default-2-clause-consumed g c = consumed_none
 
 abbrev segment : List Segment → Segment
 segment segments = get_or segments 0 (record { input = 0; count = 0; len = 0; bytes = [] })
@@ -30,84 +32,83 @@ is g c =
     (first_segment (shape_of c.args.row) _ 0 _ _ c.in-len1-up.len_at_least
     c.requires.segments).0
 
-pub offset_bounds-readers-segment : goal.offset_bounds-readers-segment
-offset_bounds-readers-segment g c =
-    let within = has_reader c.requires.readable (is g (goal.at.offset_bounds-readers-segment g c).In-len1-up) in
-    search scaled_Fits
+pub chunks-init : goal.chunks-init
+chunks-init g c = record {
+  within = omega arith;
+  copied = none_copied _ _ _ _;
+  buffer_size = c.told-into;
+}
 
-module _ (g : given.Over) (c : After-copy_bytes-end g) where
-  abbrev one : Segment
-  one = segment c.args.segments.now
-
-  copied : IsSegment (shape_of c.args.row) c.args.readers.now 0 one → CopyColumnsPost (shape_of c.args.row) (record {
-    readers = c.lines.readers;
-    count = 0;
-    any_line = false;
-    text = take c.lines.end c.lines.into;
-  }) (record {
-    readers = set c.lines.readers one.input c.consume.new.self;
-    count = 0 + one.count;
-    any_line = false || true;
-    text = take c.copy_bytes-end.result c.copy_bytes-end.new.into;
-  })
-  copied is =
-      let step = c.lines.invariant.consumed in
-      let (is_now, _) = still_segments (shape_of c.args.row) _ _ 0 (one ∷ []) step (is, tt) in
-      let line = rw c.buffered.ensures.buffered at c.in-Some.ensures.line in
-      segment_copied columns_start (still_readable step c.requires.readable) is_now _ c.consume.new.self
-      c.buffered.ensures.sound true _ (record {
-        at = c.in-Some.count;
-        found = line.found;
-        consumed = c.consume.ensures.consumed;
-        is = line.is;
-      }) c.copy_bytes-end.ensures.copied
-
-pub lines-smaller : goal.lines-smaller
-lines-smaller g c =
-    let s = goal.at.lines-smaller g c in
-    ((copied g s.After-copy_bytes-end (is g s.In-len1-up)).filled _ [] fill_starts).less refl
-
-pub lines-preserved : goal.lines-preserved
-lines-preserved g c =
-    let one = is g (goal.at.lines-preserved g c).In-len1-up in
-    let p = copied g c one in
-    record {
-      rows = row_more c.lines.invariant.rows p (omega arith) refl;
-      consumed = consumed_trans c.lines.invariant.consumed p.consumed;
-      size_bound = omega (arith, c.in-Some.ensures.line.fits, c.copy_bytes-end.ensures.end, one.few);
-      buffer_size = c.copy_bytes-end.array_long;
-    }
-
-pub returns-in_default-clause-consumed : goal.returns-in_default-clause-consumed
-returns-in_default-clause-consumed g c = consumed_none
-
-pub returns-in_default-2-clause-consumed : goal.returns-in_default-2-clause-consumed
-returns-in_default-2-clause-consumed g c = consumed_none
+pub overflow_sub-size : goal.overflow_sub-size
+overflow_sub-size g c = c.chunks.invariant.within
 
 pub bounds-readers-segment : goal.bounds-readers-segment
 bounds-readers-segment g c =
-    let low = has_reader c.requires.readable (is g (goal.at.bounds-readers-segment g c).In-len1-up) in
-    omega (arith, low, c.lines.auto.readers)
+    has_reader c.requires.readable (is g (goal.at.bounds-readers-segment g c).In-len1-up)
 
-pub copy_bytes-end-requires-clause-few : goal.copy_bytes-end-requires-clause-few
-copy_bytes-end-requires-clause-few g c = (is g (goal.at.copy_bytes-end-requires-clause-few g c).In-len1-up).few
+pub offset_bounds-readers-segment : goal.offset_bounds-readers-segment
+offset_bounds-readers-segment g c =
+    let low = has_reader c.requires.readable (is g (goal.at.offset_bounds-readers-segment g c).In-len1-up) in search scaled_Fits
 
-pub copy_bytes-end-requires-clause-room : goal.copy_bytes-end-requires-clause-room
-copy_bytes-end-requires-clause-room g c = c.in-Some.ensures.line.fits
+pub bounds-readers-segment-2 : goal.bounds-readers-segment-2
+bounds-readers-segment-2 g c =
+    has_reader c.requires.readable (is g (goal.at.bounds-readers-segment-2 g c).In-len1-up)
 
-pub overflow_add-count : goal.overflow_add-count
-overflow_add-count g c = omega (arith, c.in-Some.ensures.line.fits)
+pub offset_bounds-readers-segment-2 : goal.offset_bounds-readers-segment-2
+offset_bounds-readers-segment-2 g c =
+    let low = has_reader c.requires.readable (is g (goal.at.offset_bounds-readers-segment-2 g c).In-len1-up) in search scaled_Fits
 
-pub overflow_add-end : goal.overflow_add-end
-overflow_add-end g c = omega (arith, c.in-Some.ensures.line.fits)
+pub copy_chunk-requires-clause-segment : goal.copy_chunk-requires-clause-segment
+copy_chunk-requires-clause-segment g c =
+    record { is = is g (goal.at.copy_chunk-requires-clause-segment g c).In-len1-up; all = omega arith }
+
+pub copy_chunk-requires-clause-copied : goal.copy_chunk-requires-clause-copied
+copy_chunk-requires-clause-copied g c = c.chunks.invariant.copied
+
+pub copy_chunk-requires-clause-within : goal.copy_chunk-requires-clause-within
+copy_chunk-requires-clause-within g c =
+    let low = has_reader c.requires.readable (is g (goal.at.copy_chunk-requires-clause-within g c).In-len1-up) in
+    let same = c.buffered-size.ensures.buffered ∙ ap (λ r. r.buffered) (at_index _ _ _ low) in
+    omega (arith, c.chunks-test.true, c.chunks.invariant.within, ap length same)
+
+pub chunks-preserved : goal.chunks-preserved
+chunks-preserved g c = record {
+  within = omega (arith, c.chunks-test.true, c.chunks.invariant.within);
+  copied = c.in-Some.ensures.copied;
+  buffer_size = c.copy_chunk.array_long;
+}
 
 pub consume-requires : goal.consume-requires
 consume-requires g c =
-    let (first, _) = (rw c.buffered.ensures.buffered at c.in-Some.ensures.line).found in omega (arith, first.high)
+    let low = has_reader c.requires.readable (is g (goal.at.consume-requires g c).In-len1-up) in
+    let same = c.buffered-size.ensures.buffered ∙ ap (λ r. r.buffered) (at_index _ _ _ low) in
+    let now = at_index c.args.readers.now _ c.index-readers-segment-2.result low in
+    omega (arith, c.chunks.invariant.within, c.chunks.invariant.copied.same.0, ap length same, ap (λ r. length r.buffered) now)
 
-pub returns-in_default-copy_by_16-clause-rows : goal.returns-in_default-copy_by_16-clause-rows
-returns-in_default-copy_by_16-clause-rows g c =
-    rw (set-get_or, c.in_default-copy_by_16.ensures.none) c.lines.invariant.rows
+module _ (g : given.Over) (c : After-consume g) (low : (segment c.args.segments.now).input < length c.args.readers.now) where
+  same_into : c.chunks-test.into ≡ c.chunks.into
+  same_into =
+      elim c.chunks-test.branch [
+        | else-chunks-test w ↦ w.into-is
+        | then-chunks-test+in_default-copy_chunk w ↦ w.into-is ∙ w.in_default-copy_chunk.ensures.none
+      ]
 
-pub returns-in_default-copy_by_16-clause-consumed : goal.returns-in_default-copy_by_16-clause-consumed
-returns-in_default-copy_by_16-clause-consumed g c = rw set-get_or c.lines.invariant.consumed
+  consumed : c.consume.new.self
+      ≡ (let r = reader_at c.args.readers.now (segment c.args.segments.now).input in
+      record r { buffered = drop c.chunks.copied.start r.buffered })
+  consumed =
+      c.consume.ensures.consumed
+      ∙ ap (λ (r : Reader). record r { buffered = drop c.chunks.copied.start r.buffered }) (at_index _ _ _ low)
+
+pub returns-clause-rows : goal.returns-clause-rows
+returns-clause-rows g c =
+    let low = has_reader c.requires.readable (is g (goal.at.returns-clause-rows g c).In-len1-up) in
+    rw (consumed g c low, same_into g c low) c.chunks.invariant.copied.rows
+
+pub returns-clause-consumed : goal.returns-clause-consumed
+returns-clause-consumed g c =
+    let low = has_reader c.requires.readable (is g (goal.at.returns-clause-consumed g c).In-len1-up) in
+    one_consumed c.args.readers.now _ c.chunks.copied.start low refl (consumed g c low)
+
+pub returns-clause-size_bound : goal.returns-clause-size_bound
+returns-clause-size_bound g c = omega (arith, c.chunks.invariant.copied.fits)
