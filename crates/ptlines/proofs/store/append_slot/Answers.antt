@@ -2,17 +2,13 @@
 -- In both orders the target is set (`Target`). So the line is appended or nothing changes, and lines and buffers stay
 -- bounded.
 use Rattle.ptlines.proofs
-use proofs.Common.{◌≡◌, ◌<◌, ◌++◌, ◌∙◌, ℕ, List, [], ap, Result, Ok, Err, OnErr, arith, usual, take, drop, set, get_or}
+use proofs.Common.{◌≡◌, ◌<◌, ◌++◌, ◌∙◌, ℕ, List, [], ap, arith, usual, take, drop, set, get_or}
 use proofs.Common.{length}
 use Rattle.ptlines.specs.Private.Slots.{SlotBuffer, slot_lines}
 use proofs.SlotTotals.{set_after_split, set_before_split, lines_appended, lengths_after_set, buffers_after_set}
 use borrow.Author.Rules.{scaled_Fits}
 use proofs.store.append_slot.Given as given
 use proofs.store.append_slot.Goals as goal
-
-on_err : {E : Type 0} (r : Result (Unit {0}) E) (P Q : Type 0) → (P → Q) → OnErr r P → OnErr r Q
-on_err (Ok u) P Q f p = tt
-on_err (Err e) P Q f p = f p
 
 record Target (slots after : List SlotBuffer) (from to : ℕ) (had source new : SlotBuffer) : Type 0 where
   is : after ≡ set slots to new

@@ -13,8 +13,7 @@ copied : (lines cleared : List (List ℕ)) (after : List SlotBuffer) (from to by
     → from ≢ to → from < length lines → to < length lines → cleared ≡ set lines to []
     → slot_lines after ≡ set lines to (get_or lines from []) → byte_count ≡ total_bytes cleared
     → v ≡ get_or after from v → size ≡ length v.line
-    → (byte_count + size ≡ total_bytes (slot_lines after)) × (byte_count ≡ total_bytes (set lines to []))
-    × (byte_count + size ≡ total_bytes (set lines to (get_or lines from [])))
+    → byte_count + size ≡ total_bytes (slot_lines after)
 copied lines cleared after from to byte_count size v differ from_in to_in cleared_is after_is counts there =
     let within : from < length after = grind (arith, length-map, length-set) in
     let line : v.line ≡ get_or (slot_lines after) from [] = grind (arith, get_or-map) in
@@ -32,7 +31,7 @@ invariant_of-self g c =
     let whole = with_items_is s.slots c.append_slot.new.slots (grind arith) in
     let lines = copy_lines _ _ _ c.args.from c.args.to c.requires.differ c.requires.to_in
     (ap slot_lines c.deref_mut.ensures.value ∙ cleared) c.in-Ok.ensures.ok in
-    let (total, _, _) =
+    let total =
     copied _ _ (with_items s.slots c.append_slot.new.slots).items c.args.from c.args.to _ _ _ c.requires.differ
     c.requires.from_in c.requires.to_in cleared (ap slot_lines whole ∙ lines)
     c.self.invariant.counted.total c.index.ensures c.size.ensures.size in
@@ -50,7 +49,8 @@ invariant_of-self g c =
     }
 
 pub returns-in-Ok-clause-ok : goal.returns-in-Ok-clause-ok
-returns-in-Ok-clause-ok g c = grind (arith, with_items_is, copy_lines, with_items, copied, set, get_or)
+returns-in-Ok-clause-ok g c =
+    grind (arith, with_items_is, copy_lines, with_items, (invariant_of-self g c).counted.total, set, get_or)
 
 pub append_slot-requires : goal.append_slot-requires
 append_slot-requires g c = grind usual
