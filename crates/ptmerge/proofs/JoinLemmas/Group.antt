@@ -10,7 +10,7 @@ pub use proofs.Common.{drop_more, Slots, line, total_bytes, with_line, with_deni
 pub use proofs.Common.{ClearGroupPost, CopyToGroupPost, entry, join_fields, pair_entries, Lines, lines_with_key, Reader}
 pub use proofs.Common.{Side, First, Second, Sorted, Key, with_side, MergeTool, ◌&&◌, Bool, Some, sym, subst, bytes_eq}
 pub use proofs.Common.{bytes_decides, append-nil, Output, PushEffect, push_trans, unlines-append, CursorStatus, Head}
-pub use proofs.Common.{entries_by_key, MergeState, NextOkPost, other, PrecedesInput, disorder}
+pub use proofs.Common.{entries_by_key, MergeState, NextOkPost, other, PrecedesInput, disorder, Disorder, Ended}
 pub use proofs.Common.{merged_entries, sorted_prefixes, is_up_to, line_of_with_line, lines_of_slots}
 use proofs.JoinLemmas.Fields.{partial_starts}
 pub use proofs.MergeLemmas.{total_within, low_slot, same_bytes, AtLeast, all_keys, at_current_line, both_begun, IsAbove}
@@ -21,7 +21,7 @@ use proofs.MergeLemmas.{IsFuture, MayCome, write_least_run, all_wanted, written_
 use proofs.MergeLemmas.{HaveKey, EachKey-append, front_is, later_entries, lines_with_key-above, Each-weaker, AtMost}
 use proofs.MergeLemmas.{self_at_most, equal_is, SideAfterNext, IsAtCurrentLine, MatchesStatus, read_facts_after_line}
 use proofs.MergeLemmas.{IsOpenMerge, ReadFactsOf, SidesInvariant, current_key_is_above, next_at, sides_next}
-use proofs.MergeLemmas.{advance_fails}
+use proofs.MergeLemmas.{above_of, advance_fails}
 pub use Rattle.std.proofs.Common.{rules}
 use Rattle.std.proofs.Math.ListN.{get_or-append}
 use lemmas.List.{set_at, take_at, take_more}
@@ -419,7 +419,9 @@ module _ {call : JoinCall} {now : MergeState} {cursor : Side → Sorted} {end : 
       by : (t : CursorStatus) → MatchesStatus cmp (key s) t (cursor s) now.store (now.reader s) (q.ls s) (q.p s ++ g s)
           (q.d s) → (t ≡ Head → ¬ (key s (head_of now cursor s) ≡ k))
           → PrecedesInput cmp k t (key s (head_of now cursor s)) (key s (line now.store (cursor s).previous_slot))
-      by = search rules
+      by Head at differs = above_of cmp o k _ (rw at.bound at under) (differs refl)
+      by Ended at differs = tt
+      by (Disorder n) at differs = rw at at under
 
   pub end_in : (4 ≤ end) × (end ≤ length now.store.lines)
   end_in = (omega arith, end_within q.keeps q.at)

@@ -54,6 +54,9 @@ module _ (cmp : Cmp) (o : IsKeyOrder cmp) where
   pub less_flips : (a b : List ℕ) → cmp a b ≡ Less → cmp b a ≡ Greater
   less_flips = search rules
 
+  pub above_of : (k x : List ℕ) → AtMost cmp k x → ¬ (x ≡ k) → is_gt (cmp x k) ≡ true
+  above_of k x = grind (arith, less_flips x k, o.exact x k)
+
 pub line_order : (descending : Bool) → IsKeyOrder (line_cmp descending)
 line_order = grind (arith, back_total, nat_list_cmp_total, byte_cmp_equal)
 

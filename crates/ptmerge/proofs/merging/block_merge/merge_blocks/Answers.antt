@@ -1,5 +1,4 @@
--- Answers for `merge_blocks`: what the calls require, that both inputs can go on from where the loop ended, and the
--- contract, which is put together from those of the calls.
+-- What the calls require, and the contract, which is put together from those of the calls.
 use Rattle.ptmerge.proofs
 use proofs.Common.{◌∙◌, First, Second, inl, inr, refl}
 use proofs.BlockLemmas.{can_resume, is_write_fault}

@@ -1,8 +1,8 @@
--- Answers for `merge_lines`: its loop at the start, after each arm, which passes one line or one of each input, and at
--- its exits, where no line ends in its block or a write has failed.
+-- Each arm of the loop passes one line, or one of each input, or all lines of a key.
 use Rattle.ptmerge.proofs
 use proofs.Common.{sym, ◌∙◌, ap, arith, [], ◌∷◌, inr, is_gt, First, Second, both}
 use proofs.MergeLemmas.{less_flips, IsKeyOrder}
+use Rattle.std.proofs.Math.Nat.{add-lt-add_of_le_of_lt, add-lt-add_of_lt_of_le, le_of_lt, le_refl}
 use proofs.BlockLemmas.{alone_passes, fewer_left, have_keys, merge_starts, one_in_key, one_moved, pair_passes}
 use proofs.BlockLemmas.{pairs_or_new, run_failed, step_on}
 use Rattle.ptmerge.specs.Private.BlockLines.{IsStep, further_lines, in_order, key_lines}
@@ -20,7 +20,7 @@ module _ (g : given.Over) where
   both_pass c =
       let i = c.lines.invariant in
       pair_passes _ _ _ (key_order _) c.requires.tool i c.requires.ends {f = c.lines.one.head.now ∷ []}
-      {g = c.lines.two.head.now ∷ []} (grind arith) c.write_both.ensures.wrote
+      {g = c.lines.two.head.now ∷ []} (sym c.in-Equal.ensures) c.write_both.ensures.wrote
       (elim [
         | First ↦ one_in_key _ _ c.in-Some-next-2.ensures (i.in_block First)
         | Second ↦ one_in_key _ _ c.in-Some-next-3.ensures (i.in_block Second)
@@ -36,7 +36,7 @@ module _ (g : given.Over) where
       let one = c.in-Some-whole_key.firsts.lines in
       let two = c.in-Some-whole_key-2.seconds.lines in
       pair_passes _ _ _ (key_order _) c.requires.tool c.lines.invariant c.requires.ends {f = key_lines end one}
-      {g = key_lines end two} (grind arith)
+      {g = key_lines end two} (sym c.in-Equal.ensures)
       (rw (c.is_pair_by_pair-by_pairs.ensures.by_rows (grind arith) c.lines.one.key.now one.line.now two.line.now
       (further_lines end one) (further_lines end two)) c.write_rows.ensures.wrote)
       (elim [ First ↦ c.in-Some-whole_key.ensures.passed | Second ↦ c.in-Some-whole_key-2.ensures.passed ])
@@ -80,7 +80,7 @@ write_both-requires-clause-one g c = sym (c.lines.invariant.key_is First ∙ c.r
 
 pub write_both-requires-clause-two : goal.write_both-requires-clause-two
 write_both-requires-clause-two g c =
-    sym (g.met.K.KeyOrder.exact c.args.order.now _ _ (grind arith) ∙ c.lines.invariant.key_is Second
+    sym (g.met.K.KeyOrder.exact c.args.order.now _ _ (sym c.in-Equal.ensures) ∙ c.lines.invariant.key_is Second
     ∙ c.requires.tool.keys Second _)
 
 pub lines-preserved-in-Less : goal.lines-preserved-in-Less
@@ -88,7 +88,7 @@ lines-preserved-in-Less g c =
     let i = c.lines.invariant in
     step_on _ (key_order g _) c.requires.tool.alone.none
     (alone_passes _ _ _ (key_order g _) c.requires.tool i c.requires.ends First
-    (ap is_gt (less_flips _ (key_order g _) _ _ (grind arith))) c.write_alone.ensures.wrote c.in-Some.ensures)
+    (ap is_gt (less_flips _ (key_order g _) _ _ (sym c.in-Less.ensures))) c.write_alone.ensures.wrote c.in-Some.ensures)
     i (c.in_ok-write_alone-in-Less.ensures.clean i.clean)
 
 pub returns-in_err-write_alone-in-Less-clause-failed : goal.returns-in_err-write_alone-in-Less-clause-failed
@@ -96,14 +96,14 @@ returns-in_err-write_alone-in-Less-clause-failed g c =
     let i = c.lines.invariant in
     run_failed _ i
     (alone_passes _ _ _ (key_order g _) c.requires.tool i c.requires.ends First
-    (ap is_gt (less_flips _ (key_order g _) _ _ (grind arith))) c.write_alone.ensures.wrote c.in-Some.ensures)
+    (ap is_gt (less_flips _ (key_order g _) _ _ (sym c.in-Less.ensures))) c.write_alone.ensures.wrote c.in-Some.ensures)
     c.in_err-write_alone-in-Less.ensures.fault
 
 pub lines-preserved-in-Greater : goal.lines-preserved-in-Greater
 lines-preserved-in-Greater g c =
     let i = c.lines.invariant in
     step_on _ (key_order g _) c.requires.tool.alone.none
-    (alone_passes _ _ _ (key_order g _) c.requires.tool i c.requires.ends Second (grind arith)
+    (alone_passes _ _ _ (key_order g _) c.requires.tool i c.requires.ends Second (ap is_gt (sym c.in-Greater.ensures))
     c.write_alone-in-Greater.ensures.wrote c.in-Some-next.ensures)
     i (c.in_ok-write_alone-in-Greater.ensures.clean i.clean)
 
@@ -111,7 +111,7 @@ pub returns-in_err-write_alone-in-Greater-clause-failed : goal.returns-in_err-wr
 returns-in_err-write_alone-in-Greater-clause-failed g c =
     let i = c.lines.invariant in
     run_failed _ i
-    (alone_passes _ _ _ (key_order g _) c.requires.tool i c.requires.ends Second (grind arith)
+    (alone_passes _ _ _ (key_order g _) c.requires.tool i c.requires.ends Second (ap is_gt (sym c.in-Greater.ensures))
     c.write_alone-in-Greater.ensures.wrote c.in-Some-next.ensures)
     c.in_err-write_alone-in-Greater.ensures.fault
 
@@ -130,29 +130,24 @@ pub write_rows-requires-clause-two : goal.write_rows-requires-clause-two
 write_rows-requires-clause-two g c =
     have_keys {l = c.lines.one.key.now} (key_lines c.args.terminator c.in-Some-whole_key-2.seconds.lines)
     c.in-Some-whole_key-2.ensures.passed.own (c.requires.tool.keys Second)
-    (sym (g.met.K.KeyOrder.exact c.args.order.now _ _ (grind arith) ∙ c.lines.invariant.key_is Second))
+    (sym (g.met.K.KeyOrder.exact c.args.order.now _ _ (sym c.in-Equal.ensures) ∙ c.lines.invariant.key_is Second))
 
 pub lines-smaller-in-Less : goal.lines-smaller-in-Less
-lines-smaller-in-Less g c = omega (arith, fewer_left (one_moved _ _ c.in-Some.ensures))
+lines-smaller-in-Less g c = add-lt-add_of_lt_of_le (fewer_left (one_moved _ _ c.in-Some.ensures)) (le_refl _)
 
 pub lines-smaller-in-Greater : goal.lines-smaller-in-Greater
-lines-smaller-in-Greater g c = omega (arith, fewer_left (one_moved _ _ c.in-Some-next.ensures))
+lines-smaller-in-Greater g c =
+    add-lt-add_of_le_of_lt (le_refl _) (fewer_left (one_moved _ _ c.in-Some-next.ensures))
 
 pub lines-smaller-then-by_pairs : goal.lines-smaller-then-by_pairs
 lines-smaller-then-by_pairs g c =
-    omega (
-      arith,
-      fewer_left (one_moved _ _ c.in-Some-next-2.ensures),
-      fewer_left (one_moved _ _ c.in-Some-next-3.ensures),
-    )
+    add-lt-add_of_lt_of_le (fewer_left (one_moved _ _ c.in-Some-next-2.ensures))
+    (le_of_lt (fewer_left (one_moved _ _ c.in-Some-next-3.ensures)))
 
 pub lines-smaller : goal.lines-smaller
 lines-smaller g c =
-    omega (
-      arith,
-      fewer_left c.in-Some-whole_key.ensures.passed.passed,
-      fewer_left c.in-Some-whole_key-2.ensures.passed.passed,
-    )
+    add-lt-add_of_lt_of_le (fewer_left c.in-Some-whole_key.ensures.passed.passed)
+    (le_of_lt (fewer_left c.in-Some-whole_key-2.ensures.passed.passed))
 
 pub lines-preserved : goal.lines-preserved
 lines-preserved g c =

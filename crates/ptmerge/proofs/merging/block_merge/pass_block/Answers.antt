@@ -1,5 +1,4 @@
--- Answers for `pass_block`: what the calls require, that the input can go on from where the loop ended, and the
--- contract, which is put together from those of the calls.
+-- The input can go on from where the loop ended, and the contract is put together from those of the calls.
 use Rattle.ptmerge.proofs
 use proofs.Common.{inl, inr, refl}
 use proofs.BlockLemmas.{can_resume, is_write_fault}

@@ -1,6 +1,4 @@
--- The loop of `comm`: one lemma of `CommLemmas` for each iteration, and one of `CommLemmas` or `MergeLemmas` for each
--- exit. Before each step the lines of the blocks are merged (`on_by_blocks`). Also the start, what the calls require,
--- and the reads that are left, which decrease.
+-- The loop of `comm`: a lemma for each iteration and exit, after the lines of the blocks are merged (`on_by_blocks`).
 use Rattle.ptmerge.proofs
 use proofs.Common.{◌≤◌, ℕ, List, refl, sym, ◌∙◌, inl, First, Second, both, comm_job, line, merge_state, unlines}
 use proofs.Common.{MergeState, PushEffect}

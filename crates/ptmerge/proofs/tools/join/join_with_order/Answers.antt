@@ -1,15 +1,15 @@
--- The loops of `join`: one lemma of `JoinLemmas` for each iteration, and one of `JoinLemmas` or `MergeLemmas` for each
--- exit.
+-- The loops of `join`: a lemma of `JoinLemmas` or `MergeLemmas` for each iteration and exit.
 use Rattle.ptmerge.proofs
 use Rattle.ptmerge.specs
-use proofs.Common.{refl, sym, ◌∙◌, arith, both, join_job, merge_state, Ok}
+use proofs.Common.{refl, sym, ◌∙◌, both, join_job, merge_state, Ok}
 use proofs.JoinLemmas.{BetweenGroups, LoopOfJoin, alone_continues, alone_fails, join_opens, write_pre, group_opens}
 use proofs.JoinLemmas.{read_group_less, write_pairs_less, read_group_continues, read_group_fails, write_pairs_next}
 use proofs.JoinLemmas.{write_pairs_group, write_pairs_continues, pair_fails, group_there, group_closed}
 use proofs.JoinLemmas.Group.{end_in}
 use proofs.MergeLemmas.{advance_pre, fails_by, start_fault, start_ok, ends_well, ends_fallen, kept_order, fails, ends}
 use proofs.MergeLemmas.{reads_less}
-use proofs.PassedLemmas.{blocks_fail, blocks_pre, blocks_read, reads_once}
+use proofs.PassedLemmas.{blocks_fail, blocks_pre, blocks_read, reads_once, reads_twice}
+use Rattle.std.proofs.Math.Nat.{le_of_lt, le_refl}
 use proofs.PairLemmas.{blocks_joined, joined_by_blocks}
 use specs.declared.key_order.Side.TheVariants as sides
 use specs.Calls.Join.{join_with}
@@ -110,19 +110,19 @@ steps-preserved-in-Continue-branch-4 g c =
 
 pub steps-smaller-in-Continue-branch-3 : goal.steps-smaller-in-Continue-branch-3
 steps-smaller-in-Continue-branch-3 g c =
-    let i = on_by_blocks g (goal.at.steps-smaller-in-Continue-branch-3 g c).After-step in
+    let a = (goal.at.steps-smaller-in-Continue-branch-3 g c).After-step in
     let h = c.in_ok-pass_line-in-First.ensures.advances in
-    reads_once (reads_less i.iteration.between _ h.continues c.in-First.ensures.status_is h.came)
-    (blocks_read c.steps.invariant.iteration.here c.steps.invariant.iteration.between
-    (by_blocks g (goal.at.steps-smaller-in-Continue-branch-3 g c).After-step))
+    let t = c.steps.invariant.iteration in
+    reads_once (reads_less (on_by_blocks g a).iteration.between _ h.continues c.in-First.ensures.status_is h.came)
+    (blocks_read t.here t.between (by_blocks g a))
 
 pub steps-smaller-in-Continue-branch-4 : goal.steps-smaller-in-Continue-branch-4
 steps-smaller-in-Continue-branch-4 g c =
-    let i = on_by_blocks g (goal.at.steps-smaller-in-Continue-branch-4 g c).After-step in
+    let a = (goal.at.steps-smaller-in-Continue-branch-4 g c).After-step in
     let h = c.in_ok-pass_line-in-Second.ensures.advances in
-    reads_once (reads_less i.iteration.between _ h.continues c.in-Second.ensures.status_is h.came)
-    (blocks_read c.steps.invariant.iteration.here c.steps.invariant.iteration.between
-    (by_blocks g (goal.at.steps-smaller-in-Continue-branch-4 g c).After-step))
+    let t = c.steps.invariant.iteration in
+    reads_once (reads_less (on_by_blocks g a).iteration.between _ h.continues c.in-Second.ensures.status_is h.came)
+    (blocks_read t.here t.between (by_blocks g a))
 
 pub returns-in_err-pass_line-in-First : goal.returns-in_err-pass_line-in-First
 returns-in_err-pass_line-in-First g c =
@@ -150,16 +150,14 @@ returns-in-Stop g c =
     ends i (ends_fallen i.iteration.here i.iteration.clean c.clear_four_slots-in-Stop.ensures c.in-Stop.ensures)
 
 pub clear_four_slots-requires-in-Stop : goal.clear_four_slots-requires-in-Stop
-clear_four_slots-requires-in-Stop g c =
-    let i = on_by_blocks g (goal.at.clear_four_slots-requires-in-Stop g c).After-step in
-    i.iteration.valid_cursors.slots
+clear_four_slots-requires-in-Stop g c = c.in_ok-merge_in_blocks.ensures.valid_cursors.slots
 
 pub lines-init : goal.lines-init
 lines-init g c =
     let i = on_by_blocks g (goal.at.lines-init g c).After-step in
     record {
       kept = kept_order refl i.order (group_opens i.iteration c.in-Both.ensures c.new-group.ensures);
-      fewer = omega arith;
+      fewer = le_refl _;
     }
 
 pub read_line-requires-clause-status_is : goal.read_line-requires-clause-status_is
@@ -188,7 +186,8 @@ lines-preserved g c =
     record {
       kept = kept_order p.order k.order (read_group_continues k.iteration p.written_out ok.reads_line.1 ok.continues
           (sym ok.reads_line.0 ∙ c.if-branch.true));
-      fewer = omega (arith, read_group_less k.iteration ok.reads_line.1.came ok.continues);
+      fewer = le_of_lt (reads_once (read_group_less k.iteration ok.reads_line.1.came ok.continues)
+          c.lines.invariant.fewer);
     }
 
 pub pairs-init : goal.pairs-init
@@ -199,7 +198,7 @@ pairs-init g c =
     record {
       kept = kept_order p.order i.order (write_pairs_next i.iteration p.written_out ok.reads_line.1 ok.continues
           (sym ok.reads_line.0 ∙ c.if-branch.false));
-      fewer = omega arith;
+      fewer = le_refl _;
     }
 
 pub write_pairs-requires-clause-writes : goal.write_pairs-requires-clause-writes
@@ -230,7 +229,7 @@ pairs-preserved g c =
     record {
       kept = kept_order p.order k.order (write_pairs_continues k.iteration p.wrote h
           (sym ok.has_more ∙ c.if-branch-2.true));
-      fewer = omega (arith, write_pairs_less k.iteration h);
+      fewer = le_of_lt (reads_once (write_pairs_less k.iteration h) c.pairs.invariant.fewer);
     }
 
 pub clear-requires : goal.clear-requires
@@ -248,11 +247,11 @@ steps-preserved g c =
 pub steps-smaller : goal.steps-smaller
 steps-smaller g c =
     let line = c.in_ok-read_line-in-Both.ensures in
+    let pairs = c.pairs.invariant in
+    let lines = c.lines.invariant in
+    let t = c.steps.invariant.iteration in
     -- each loop of a group reads at least one line
-    reads_once (omega (
-      arith,
-      write_pairs_less c.pairs.invariant.kept.iteration c.in_ok-write_pairs-in-Both.ensures.advances,
-      read_group_less c.lines.invariant.kept.iteration line.reads_line.1.came line.continues,
-    ))
-    (blocks_read c.steps.invariant.iteration.here c.steps.invariant.iteration.between
-    (by_blocks g (goal.at.steps-smaller g c).After-step))
+    reads_twice
+    (reads_once (write_pairs_less pairs.kept.iteration c.in_ok-write_pairs-in-Both.ensures.advances) pairs.fewer)
+    (reads_once (read_group_less lines.kept.iteration line.reads_line.1.came line.continues) lines.fewer)
+    (blocks_read t.here t.between (by_blocks g (goal.at.steps-smaller g c).After-step))

@@ -1,5 +1,4 @@
--- The first line is the only one at first. A further line has the key if that of the line before it is equal. At the
--- end the lines are counted.
+-- A further line has the key if that of the line before it is equal. At the end the lines are counted.
 use Rattle.ptmerge.proofs
 use proofs.Common.{◌-◌, arith}
 use proofs.MergeLemmas.{IsKeyOrder}

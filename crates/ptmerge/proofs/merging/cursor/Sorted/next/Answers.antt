@@ -1,5 +1,5 @@
 -- `Sorted::next` when it has read a line that is not the first: the cursor has swapped its slots, and the two keys
--- that it has compared give its status. Also that the span of the previous line selects its key.
+-- that it has compared give its status.
 use Rattle.ptmerge.proofs
 use proofs.Common.{inl, arith, refl}
 use proofs.MergeLemmas.{line_moves}
