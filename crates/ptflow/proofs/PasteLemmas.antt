@@ -9,10 +9,11 @@ use Rattle.ptflow.proofs
 use proofs.Common.{Result, drop_at, push_trans, bounded_lag_after, HasReadCause, with_denied, max_line_length}
 use proofs.Common.{CallOutcome, CallState, call_state, CallProgress, usual, DecidedIfReadFailed, reads_nothing}
 use proofs.Common.{call_ends, call_set, call_without_slots, RowFailed, ClearSlotsPost, is_write_fault, job_shape}
-use proofs.Common.{cases_Bool, cases_eq, filter, length-map-range_with_len, received_with, complete_lines_cons}
+use proofs.Common.{cases_Bool, cases_eq, filter, length-map-range_with_len, received_with}
 use proofs.Common.{complete_lines_of_unlines, IsPrefix, known_lines, IsLine, complete_lines, rows_text}
 use proofs.Passes.Exits.{max_length-append, lines_on, piece_longest, complete_prefix, line_split}
 use proofs.CutLemmas.CutBytes.{select_append}
+use proofs.CutLemmas.Fields.{ended_more}
 pub use BufferedRows.*
 use Rattle.std.proofs.lemmas.List.FromFn.{get_or-map-range_with_len}
 use Rattle.ptflow.specs.Calls.PasteCall.{PastePre, PastePost, IsReadable, paste_end}
@@ -75,11 +76,6 @@ earlier_lines {end} reader given buffered some few =
     }
 
 -- ---- complete lines of a prefix
-
-ended_more : (end : ℕ) (ls : Lines) (bytes : List ℕ) → AreLines end ls
-    → complete_lines end (unlines end ls ++ bytes) ≡ ls ++ complete_lines end bytes
-ended_more end [] bytes w = refl
-ended_more end (line ∷ ls) bytes (whole, more) = grind (usual, complete_lines_cons, ended_more end ls bytes more)
 
 whole_lines_prefix : (end : ℕ) (eof : Bool) (bytes front last : List ℕ) → bytes ≡ front ++ last
     → (more : Lines) × (known_lines end (record { bytes = bytes; eof = eof }) ≡ complete_lines end front ++ more)
@@ -630,7 +626,7 @@ module _ {job : Paste} {cells : List ℕ} {old set now : List Reader} {was is : 
 
     failed_to : (reader_at new here).failed ≡ (reader_at b.begun.readers here).failed
         → (p : ℕ) → (reader_at new p).failed ≡ (reader_at b.begun.readers p).failed
-    failed_to same p = grind arith
+    failed_to same p = ⊎_elim (λ is. rw is same) (λ differ. cc (b.others p differ)) (cases_eq p here)
 
     -- That reader is the one that limits the rows.
     abbrev cut_here : Cut no_more row_to here

@@ -18,6 +18,7 @@ use proofs.Vectors.Lanes.{stored_more}
 use mir.Val.{bool_byte}
 use specs.declared.tools.cut.shuffle.PieceShuffle.{PieceShuffle}
 use proofs.Vectors.Compress.{row_lanes, selected_stored, shuffle_result}
+use Rattle.std.proofs.lemmas.Slice.{between_is}
 use lib.Seq.{take-nil}
 use specs.Private.Cut.CutFrom.{ExtendsCut, cut_bytes_from, cut_lines_from}
 
@@ -47,8 +48,7 @@ select_first r rs n [] apart = refl
 select_first r rs n (x ∷ xs) apart =
     let more = select_first r rs (n + 1) xs apart in
     ⊎_elim
-    (λ high. let none = select_none (is_within r) (n + 1) xs (λ k from to. above r k (omega arith)) in
-    grind (arith, above r n high))
+    (λ high. cc (above r n high, more, select_none (is_within r) (n + 1) xs (λ k from to. above r k (omega arith))))
     (λ low. grind (arith, not_selected rs (r.last + 1) n apart (omega arith))) (cases_lt r.last n)
 
 pub select_skip : {X : Type 0} (test : ℕ → Bool) (n count : ℕ) (xs : List X)
@@ -67,10 +67,7 @@ select_slice r n (x ∷ xs) zero (suc j) is js =
 select_slice r n (x ∷ xs) (suc i) (suc j) is js = grind (arith, select_slice r (n + 1) xs i j)
 
 pub rest_of : (from to : ℕ) (bytes : List ℕ) → drop from (take to bytes) ≡ take (to - from) (drop from bytes)
-rest_of zero to bytes = grind arith
-rest_of (suc n) zero bytes = grind arith
-rest_of (suc n) (suc to) [] = sym (take-nil (suc to - suc n))
-rest_of (suc n) (suc to) (b ∷ bytes) = grind (arith, rest_of n to bytes)
+rest_of from to bytes = sym (between_is bytes from to)
 
 -- an interval that reaches the end of the piece
 rest_is : (r : Interval) (before count : ℕ) (bytes : List ℕ) → count ≤ length bytes → before + count ≤ r.last
@@ -182,7 +179,8 @@ pub cut_next : (end : ℕ) (list : List Interval) (line_offset now next : ℕ) (
     {is : List ℕ} (bytes : List ℕ) → ExtendsCut end list line_offset from old now rest was → is ≡ was ++ bytes
     → ((more : List ℕ) → cut_list_from end list now (rest ++ more) ≡ bytes
     ++ cut_list_from end list next (rest' ++ more)) → ExtendsCut end list line_offset from old next rest' is
-cut_next end _ _ now _ _ _ _ old was _ cut copied on start block so_far more = grind usual
+cut_next _ _ _ _ _ _ _ _ _ _ _ cut copied on start block so_far more =
+    simp (cut start block so_far more, on more, copied, append_assoc)
 
 pub line_cut : {end : ℕ} {list : List Interval} {block : List ℕ} {was now next : Line} {old new is : List ℕ} (count : ℕ)
     → CutPost end list block was old now new → IsFirstByte (is_byte end) (drop now.start block) (Some count)

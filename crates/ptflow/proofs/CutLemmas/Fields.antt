@@ -256,10 +256,10 @@ module _ (job : Cut) where
       → IsPrefix (cut_lines job ls) pushed
   cut_sure ls _ on = grind (arith, append-nil)
 
-eof-append : (end : ℕ) (ls : List (List ℕ)) (bytes : List ℕ) → AreLines end ls
+pub ended_more : (end : ℕ) (ls : List (List ℕ)) (bytes : List ℕ) → AreLines end ls
     → complete_lines end (unlines end ls ++ bytes) ≡ ls ++ complete_lines end bytes
-eof-append end [] bytes whole = refl
-eof-append end (l ∷ ls) bytes whole = grind (usual, eof-append end ls bytes whole.1, complete_lines_cons)
+ended_more end [] bytes whole = refl
+ended_more end (l ∷ ls) bytes whole = grind (usual, ended_more end ls bytes whole.1, complete_lines_cons)
 
 text_of_ended : (end : ℕ) (front : List ℕ) → unlines end (complete_lines end (front ++ end ∷ [])) ≡ front ++ end ∷ []
 text_of_ended end front = grind (arith, the_complete_lines end [] tt, the_lines end (front ++ end ∷ []))
@@ -305,7 +305,7 @@ module _ (job : Cut) (by_fields : job.fields ≡ true) {end : ℕ} (same : end �
     texts = grind (arith, is_ended, text_of_ended)
 
     lines_are : complete_lines end bytes ≡ front ++ complete_lines end (drop size bytes)
-    lines_are = cc (take-append-drop size bytes, texts, eof-append end _ _ (line_split end _).whole)
+    lines_are = cc (take-append-drop size bytes, texts, ended_more end _ _ (line_split end _).whole)
 
     free_up_to : {n : ℕ} → n ≤ up_to → IsLine job.delimiter (take n bytes)
     free_up_to {n} le =

@@ -278,7 +278,7 @@ module _ {job : Uniq} {first block rest : List ℕ} {start count : ℕ} {line : 
             lies = front_more so_far.lies at found;
             passed = so_far.passed ++ current_run run;
             steps = rw line_is steps;
-            waits = grind (arith, entries, pending_then);
+            waits = rw entries (pending_then so_far.waits _ waits);
             run_key_is = cc;
             ready = grind usual;
             some = omega arith;
@@ -333,7 +333,7 @@ module _ {job : Uniq} {first block : List ℕ} {start : ℕ} {line : Option Bloc
       let bytes = l ++ job.terminator ∷ [] in
       let once : RunsInvariant _ first block (repeated n bytes ++ rest) start (count + 1) line pending run_key was is =
       grind (usual, bytes_eq-Decides, runs_loop_more, line_ends) in
-      grind (arith, runs_loop_again l whole own n rest once)
+      let same : count + suc n ≡ count + 1 + n = omega arith in rw same (runs_loop_again l whole own n rest once)
 
   pub runs_loop_repeats : {rest : List ℕ} {count : ℕ}
       → RunsInvariant job first block rest start count line pending run_key was is → {at : ℕ}
@@ -370,12 +370,15 @@ module _ (job : Uniq) where
       → runs job (xs ++ ys) ≡ runs job xs ++ runs job ys
   runs-append [] ys change = refl
   runs-append (x ∷ []) [] change = refl
-  runs-append (x ∷ []) (y ∷ ys) change = grind (arith, other_key)
-  runs-append (x ∷ z ∷ xs) ys change = grind (
-    arith,
-    runs-append (z ∷ xs) ys (λ last first
-        (front, ends) begins. change last first (x ∷ front, ap (λ l. x ∷ l) ends) begins),
-  )
+  runs-append (x ∷ []) (y ∷ ys) change =
+      let (count, more, is) = onto_is y (runs job ys) in cc (is, other_key x y (change x y ([], refl) (ys, refl)))
+  runs-append (x ∷ z ∷ xs) ys change =
+      let (count, more, is) = onto_is z (runs job xs) in
+      rw (
+        runs-append (z ∷ xs) ys (λ last first
+            (front, ends) begins. change last first (x ∷ front, ap (λ l. x ∷ l) ends) begins),
+        is,
+      ) (grind arith)
 
 pub uniq_of_parts : UniqOfParts
 uniq_of_parts job a b whole change = simp (the_lines_of_parts, runs-append, entries-append)

@@ -222,12 +222,13 @@ module _ (test : ℕ → Bool) where
   kept_nil [] = refl
   kept_nil _ = refl
 
-  kept_append : (xs ys before bytes : List ℕ) → length xs ≡ length ys
-      → kept_bytes test (xs ++ before) (ys ++ bytes) ≡ kept_bytes test xs ys ++ kept_bytes test before bytes
-  kept_append [] [] before bytes same = refl
-  kept_append [] (y ∷ ys) before bytes same = absurd (omega arith)
-  kept_append _ [] before bytes same = absurd (omega arith)
-  kept_append (x ∷ xs) (y ∷ ys) before bytes same = grind (arith, kept_append xs ys before bytes)
+  pub parts_append : (xs ys before bytes : List ℕ) → length xs ≡ length ys
+      → (kept_bytes test (xs ++ before) (ys ++ bytes) ≡ kept_bytes test xs ys ++ kept_bytes test before bytes)
+      × (keep_flags test (xs ++ before) (ys ++ bytes) ≡ keep_flags test xs ys ++ keep_flags test before bytes)
+  parts_append [] [] before bytes same = (refl, refl)
+  parts_append [] (y ∷ ys) before bytes same = absurd (omega arith)
+  parts_append _ [] before bytes same = absurd (omega arith)
+  parts_append (x ∷ xs) (y ∷ ys) before bytes same = grind (arith, parts_append xs ys before bytes)
 
   pub select_kept : (before bytes : List ℕ)
       → select_by (keep_flags test before bytes) bytes ≡ kept_bytes test before bytes
@@ -260,7 +261,7 @@ module _ (test : ℕ → Bool) where
       same_length at n room = omega (arith, length-chunk)
 
       kept_two : (at n m : ℕ) → at + n + m ≤ length bytes → kept_at at (n + m) ≡ kept_at at n ++ kept_at (at + n) m
-      kept_two at n m room = grind (arith, chunk_parts, kept_append, same_length)
+      kept_two at n m room = grind (arith, chunk_parts, parts_append, same_length)
 
       -- which bytes of a vector are equal to what they are compared with
       abbrev pub equal_at : ℕ → List Bool
@@ -305,7 +306,7 @@ module _ {test : ℕ → Bool} {before bytes into : List ℕ} {at count : ℕ} {
           take-append-drop n (drop at bytes),
           drop-drop n at before,
           drop-drop n at bytes,
-          kept_append test _ _ _ _ (same_length test before bytes paired at n room),
+          (parts_append test _ _ _ _ (same_length test before bytes paired at n room)).0,
         );
     pre = record { within = room; room = omega arith };
   }

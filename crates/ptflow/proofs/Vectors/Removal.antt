@@ -5,7 +5,8 @@ use proofs.Common.{◌≢◌, sym, arith, ◌≡◌, ℕ, ◌+◌, ◌-◌, ◌*
 use proofs.Common.{length, refl, ◌∙◌, chunk, mask_l, cond, length-chunk, length-map, bit_or, bit_and, map-append, zip2}
 use proofs.Common.{top, eqb, cast_unsigned, w8, mask_of, keep_flags, mask_l-mod, length-append, take, drop}
 use proofs.Common.{removed_mask, select_by, w64, one_shl, mask_append}
-use proofs.Vectors.Compress.{all_but_one, all_selected, chunk_parts, in_four, kept_at, pairs_long, select_kept}
+use proofs.Vectors.Compress.{all_but_one, all_selected, chunk_parts, in_four, kept_at, pairs_long, parts_append}
+use proofs.Vectors.Compress.{select_kept}
 use Rattle.std.specs.Int.Count.{count_trailing_zeros}
 use lemmas.Nat.Bits.{bit_at-trailing_zeros}
 use lemmas.Grind.{or_before_shift}
@@ -75,13 +76,6 @@ removed_lanes _ [] bytes = refl
 removed_lanes _ _ [] = refl
 removed_lanes test (a ∷ before) (b ∷ bytes) = grind (arith, removed_lanes test before bytes)
 
-flags_append : (test : ℕ → Bool) (xs ys before bytes : List ℕ) → length xs ≡ length ys
-    → keep_flags test (xs ++ before) (ys ++ bytes) ≡ keep_flags test xs ys ++ keep_flags test before bytes
-flags_append _ [] [] before bytes same = refl
-flags_append _ [] (y ∷ ys) before bytes same = absurd (omega arith)
-flags_append _ _ [] before bytes same = absurd (omega arith)
-flags_append test (x ∷ xs) (y ∷ ys) before bytes same = grind (arith, flags_append test xs ys before bytes)
-
 module _ (test : ℕ → Bool) (before bytes : List ℕ) (paired : length bytes ≤ length before) where
   abbrev pub flags_of_chunk : ℕ → ℕ → List Bool
   flags_of_chunk k n = keep_flags test (chunk k n before) (chunk k n bytes)
@@ -115,7 +109,9 @@ module _ (test : ℕ → Bool) (before bytes : List ℕ) (paired : length bytes 
       (ed : d ≡ removed_mask (flags_of_chunk (at + 48) 16)) where
     all_is : or_four a b c d ≡ removed_mask (flags_of_chunk at 64)
     all_is =
-        rw (in_four flags_of_chunk _ (λ k n m low. grind (arith, chunk_parts, flags_append, length-chunk)) at room)
+        rw (in_four flags_of_chunk _ (λ k n m low. rw (chunk_parts k n m before, chunk_parts k n m bytes)
+        (parts_append test (chunk k n before) (chunk k n bytes) (chunk (k + n) m before) (chunk (k + n) m bytes)
+        (omega (arith, length-chunk))).1) at room)
         (four_masks _ _ _ _ (flags_long at 16 (omega arith)) (flags_long (at + 16) 16 (omega arith))
         (flags_long (at + 32) 16 (omega arith)) (flags_long (at + 48) 16 (omega arith)) ea eb ec ed)
 
