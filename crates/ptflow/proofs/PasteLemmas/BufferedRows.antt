@@ -3,7 +3,7 @@
 -- count * n terminators, the last of which ends them, are `count` rows.
 pub mod Rows
 use Rattle.ptflow.proofs
-pub use proofs.Common.{take-add, ne_eqb, append_assoc, nat_tests, mod-mul-add, count_by, is_byte, advance_ok_take, usual}
+pub use proofs.Common.{ne_eqb, append_assoc, nat_tests, mod-mul-add, count_by, is_byte, advance_ok_take, usual}
 pub use proofs.Common.{line_before_terminator, take_with_terminator, lines_are, the_lines, Output, PushEffect}
 pub use proofs.Common.{cycle_byte, with_replacements, IsConsumed, AreConsumed, IsFieldCopied, RowsWritten}
 pub use proofs.Vectors.NextTerminator.{none_counted}
@@ -11,6 +11,7 @@ pub use proofs.PasteLemmas.Replaced.{counted, replaced-append, replaced_line}
 pub use Rattle.ptflow.specs.declared.simd.replace.Cycle.{Cycle}
 pub use Rows.*
 pub use Rattle.ptflow.specs.Private.Paste.SharedInput.{IsWholeRows, IsSharedCycle}
+use proofs.Common.{take-add}
 use Rattle.std.proofs.Common.{arith, rules}
 
 pub sound_after_consume : {b r : Reader} → IsSound b → IsConsumed b r → IsSound r
@@ -25,7 +26,8 @@ kept at to was is more further within copied =
     ∙ take-take at at was (omega arith)
 
 -- The 16 bytes at index `from` were copied after those before.
-pub vector_copied : (at from : ℕ) (was before is bytes : List ℕ) → take (at + from) before ≡ take at was ++ take from bytes
+pub vector_copied : (at from : ℕ) (was before is bytes : List ℕ)
+    → take (at + from) before ≡ take at was ++ take from bytes
     → take (at + from + 16) is ≡ take (at + from) before ++ take 16 (drop from bytes)
     → take (at + (from + 16)) is ≡ take at was ++ take (from + 16) bytes
 vector_copied at from was before is bytes first second =

@@ -1,5 +1,6 @@
 -- Segments of a row of `paste`: a column, and the columns after it whose inputs have ended. To copy a segment is to
--- copy its columns one by one: each after the first has an empty field, and its reader stays as it is.
+-- copy its columns one by one: each after the first has an empty field, and its reader stays as it is. Then
+-- rows that are one segment: each is a line with the bytes of the segment.
 use Rattle.ptflow.proofs
 use proofs.Common.{◌<◌, ◌≤◌, false, true, set-get_or, sum_by, sum_by-cons, append_assoc, usual, length-append, ap}
 use proofs.Common.{length-set, drop_all, ◌∙◌, drop, drop-drop, is_byte, subst, IsConsumed, IsFirstByte, Some}
@@ -12,7 +13,7 @@ use Rattle.std.proofs.Math.Bool.{or-false}
 use Rattle.std.proofs.lemmas.List.{set-set}
 use Rattle.ptlines.specs.Readers.{no_reader}
 use Rattle.ptflow.specs.Private.Paste.Segments.{AreRowsCopied, AreSegments, EndsWith, IsEnded, IsRow, IsSegment}
-use Rattle.ptflow.specs.Private.Paste.Segments.{after_one}
+use Rattle.ptflow.specs.Private.Paste.BufferedRows.{after_one}
 use Rattle.ptflow.specs.declared.tools.paste.segments.Segment.{Segment}
 
 pub columns_trans : {row : RowShape} {a b c : BegunText} → CopyColumnsPost row a b → CopyColumnsPost row b c
@@ -124,8 +125,8 @@ module _ (readers : List Reader) (one : ℕ) (within : one < length readers) whe
       set (after_one readers one n) one (record b { buffered = drop k b.buffered }) ≡ after_one readers one (n + k)
   one_more n k = rw (one_now n no_reader, drop-drop, set-set) refl
 
-pub one_consumed : (readers : List Reader) (one n : ℕ) → one < length readers → {b r : Reader} → b ≡ reader_at readers one
-    → r ≡ record b { buffered = drop n b.buffered } → AreConsumed readers (set readers one r)
+pub one_consumed : (readers : List Reader) (one n : ℕ) → one < length readers → {b r : Reader}
+    → b ≡ reader_at readers one → r ≡ record b { buffered = drop n b.buffered } → AreConsumed readers (set readers one r)
 one_consumed readers one n within is_read step = record {
   count = length-set readers one _;
   buffered = λ input. grind usual;
@@ -142,13 +143,13 @@ none_copied row readers input into = record {
 -- One more line was copied as a row.
 module _ {row : RowShape} {readers : List Reader} {segment : Segment} (ready : BufferedRowsPre row readers)
     (is : IsRow row readers segment) (sound : IsSound (reader_at readers segment.input)) where
-  pub line_copied : (start size : ℕ) {text copied next : List ℕ}
+  pub row_of_one_copied : (start size : ℕ) {text copied next : List ℕ}
       → let bytes = drop start (reader_at readers segment.input).buffered in
       RowsTaken row readers (after_one readers segment.input start) text
       → IsFirstByte (is_byte row.terminator) bytes (Some size) → copied ≡ text ++ take size bytes
       → next ≡ copied ++ take segment.len segment.bytes
       → RowsTaken row readers (after_one readers segment.input (start + (size + 1))) next
-  line_copied start size {text} {copied} rows found line stored =
+  row_of_one_copied start size {text} {copied} rows found line stored =
       let one = segment.input in
       let within = has_reader ready is.is in
       let now = one_now readers one within start no_reader in

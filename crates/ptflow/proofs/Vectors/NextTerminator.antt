@@ -1,9 +1,10 @@
 -- The terminators in 64 bytes are processed in order by clearing the lowest bit of their mask (`NextTerminator`).
 use Rattle.ptflow.proofs
-use proofs.Common.{◌≡◌, ◌≢◌, ℕ, zero, suc, false, ◌+◌, ◌-◌, ◌<◌, ◌≤◌, Bool, true, Some, List, [], ◌∷◌, length, map, take, drop, get_or, refl, ap}
-use proofs.Common.{sym, ◌∙◌, arith, usual, count_ones, count_by, count_by_more_yes, mask_l, chunk, take-add}
-use proofs.Common.{ones-mask_l, get_or-chunk, length-chunk, IsFirstByte, NoneBefore, Passes, is_byte, IsLine, byte_ne}
-use proofs.Common.{IsTerminatorMask, after_set, clear_first, cond, count_in_prefix, first_is, near, sum_by-cons, without}
+use proofs.Common.{◌≡◌, ◌≢◌, ℕ, zero, suc, ◌+◌, ◌-◌, ◌<◌, ◌≤◌, Bool, false, true, cond, Some, List, [], ◌∷◌, length}
+use proofs.Common.{map, take, drop, get_or, refl, ap, sym, ◌∙◌, arith, usual, count_ones, count_by, count_by_more_yes}
+use proofs.Common.{mask_l, count_by-le-length, sum_by-cons, sum_by-take-le, take-add, take-take, chunk, ones-mask_l}
+use proofs.Common.{get_or-chunk, length-chunk, IsFirstByte, NoneBefore, Passes, is_byte, IsLine, byte_ne, IsSameLine}
+use proofs.Common.{IsTerminatorMask, after_set, clear_first, count_chunk, count_in_prefix, first_is, near, without}
 use Rattle.std.proofs.lemmas.List.{map-id}
 use lib.Count.{count_trailing_zeros}
 
@@ -76,20 +77,48 @@ some_set (false ∷ bits) some = some_set bits (λ none. some (omega (arith, non
 ones_are : (bits : List Bool) → count_ones (mask_l bits) ≡ count_by (λ b. b) bits
 ones_are bits = cc (map-id bits, ones-mask_l (λ b. b) bits)
 
--- A bit is left if and only if a terminator is.
-module _ (d : ℕ) (block : List ℕ) (from n : ℕ) {marked : ℕ}
-    (bits : marked ≡ mask_l (without n (map (is_byte d) (chunk from 64 block)))) where
+-- The bits of the terminators that are left, in a line that begins at `start`.
+module _ {d : ℕ} {block : List ℕ} {from all marked : ℕ} (start : ℕ) (h : IsTerminatorMask d block from all)
+    (order : count_by (is_byte d) (take from block) ≤ count_by (is_byte d) (take start block))
+    (bits : marked ≡ mask_l (without (ended_between d block from start) (map (is_byte d) (chunk from 64 block)))) where
+  abbrev n : ℕ
+  n = ended_between d block from start
+
   abbrev flags : List Bool
   flags = map (is_byte d) (chunk from 64 block)
 
-  left : count_by (λ b. b) (without n flags) ≡ count_by (is_byte d) (chunk from 64 block) - n
-  left = ones_left n flags ∙ ap (λ c. c - n) (sym (ones_are flags) ∙ ones-mask_l (is_byte d) _)
+  all_set : count_by (λ b. b) flags ≡ count_by (is_byte d) (chunk from 64 block)
+  all_set = sym (ones_are flags) ∙ ones-mask_l (is_byte d) _
 
-  pub some_left : marked ≢ 0 → n < count_by (is_byte d) (chunk from 64 block)
-  some_left set = omega (arith, left, some_set (without n flags) (λ none. set (bits ∙ none)))
+  some_left : marked ≢ 0 → n < count_by (is_byte d) (chunk from 64 block)
+  some_left set = omega (arith, all_set, ones_left n flags, some_set (without n flags) (λ none. set (bits ∙ none)))
 
-  pub none_left : marked ≡ 0 → count_by (is_byte d) (chunk from 64 block) ≤ n
+  pub few_left : marked ≢ 0 → n < 64
+  few_left set =
+      let most = count_by-le-length (is_byte d) (chunk from 64 block) in
+      omega (arith, some_left set, most, length-chunk from 64 block (omega (arith, h.within)))
+
+  pub next_left : marked ≢ 0 → NextTerminator d block from n (count_trailing_zeros 64 marked) start
+  next_left set =
+      let ones = ap count_ones h.is ∙ ones-mask_l (is_byte d) (chunk from 64 block) in
+      next_terminator n start h (omega (arith, some_left set, ones)) bits (omega (arith, order))
+
+  pub none_left : marked ≡ 0 → start ≤ from + 64 → IsSameLine d block (from + 64) start
   unfolding lib.Count.ones
-  none_left none =
+  none_left none within =
       let zero_ones : count_ones 0 ≡ 0 = refl in
-      omega (arith, left, ones_are (without n flags), ap count_ones (sym bits ∙ none), zero_ones)
+      let none_set = ones_are (without n flags) ∙ ones_left n flags in
+      let most = sum_by-take-le (λ b. cond (is_byte d b) 1 0) (take (from + 64) block) start in
+      let so_far = rw (take-take start (from + 64) block within) at most in (
+        within,
+        omega (
+          arith,
+          order,
+          all_set,
+          none_set,
+          ap count_ones (sym bits ∙ none),
+          zero_ones,
+          so_far,
+          count_chunk (is_byte d) block from,
+        ),
+      )

@@ -30,13 +30,16 @@ pub record AreConsumed (old new : List Reader) : Type 0 where
   pub count : length new ≡ length old
   pub buffered : (input : ℕ) → IsConsumed (reader_at old input) (reader_at new input)
 
--- The readers after the first n buffered bytes of one of them were consumed, and the first m of another one.
+-- The readers after the first n buffered bytes of one of them were consumed.
+abbrev pub after_one : List Reader → ℕ → ℕ → List Reader
+after_one readers one n =
+    let first = reader_at readers one in slice_set readers one (record first { buffered = drop n first.buffered })
+
+-- The same, and the first m buffered bytes of another one.
 abbrev pub after_both : List Reader → ℕ → ℕ → ℕ → ℕ → List Reader
 after_both readers one n other m =
-    let first = reader_at readers one in
     let second = reader_at readers other in
-    slice_set (slice_set readers one (record first { buffered = drop n first.buffered })) other
-    (record second { buffered = drop m second.buffered })
+    slice_set (after_one readers one n) other (record second { buffered = drop m second.buffered })
 
 -- The lines of the next rows were taken from the readers, and these are `taken_rows`.
 pub record AreFirstRows (row : RowShape) (old new : List Reader) (ls : ℕ → List (List ℕ))

@@ -1,10 +1,10 @@
--- Segments of a row of `paste`: a column, and the columns after it whose inputs have ended.
-use Rattle.std.specs.Prelude.{◌≡◌, ℕ, ◌+◌, ◌<◌, ◌≤◌, true, List, [], ◌∷◌, ◌++◌, drop, length, take, slice_index_or}
-use Rattle.std.specs.Prelude.{slice_set}
+-- Segments of a row of `paste`: a column, and the columns after it whose inputs have ended. And rows
+-- that are one segment.
+use Rattle.std.specs.Prelude.{◌≡◌, ℕ, ◌+◌, ◌<◌, ◌≤◌, true, List, [], ◌∷◌, ◌++◌, length, take, slice_index_or}
 use Rattle.ptlines.specs.Calls.Readers.{IsSound}
 use Rattle.ptlines.specs.Readers.{Reader, reader_at}
 use Rattle.ptflow.specs.Private.Cut.CutFrom.{IsSameLine}
-use Rattle.ptflow.specs.Private.Paste.BufferedRows.{AreConsumed, CopyColumnsPost, RowsTaken}
+use Rattle.ptflow.specs.Private.Paste.BufferedRows.{AreConsumed, CopyColumnsPost, RowsTaken, after_one}
 use Rattle.ptflow.specs.Private.Paste.RowCells.{BegunText, RowShape, after_cell}
 use Rattle.ptflow.specs.declared.tools.paste.buffered_rows.CopiedLines.{CopiedLines}
 use Rattle.ptflow.specs.declared.tools.paste.segments.Segment.{Segment}
@@ -41,11 +41,6 @@ AreSegments row readers c (segment ∷ segments) = IsSegment row readers c segme
 pub record IsRow (row : RowShape) (readers : List Reader) (segment : Segment) : Type 0 where
   pub is : IsSegment row readers 0 segment
   pub all : segment.count ≡ length row.cells
-
--- The readers after the first n buffered bytes of one of them were consumed.
-abbrev pub after_one : List Reader → ℕ → ℕ → List Reader
-after_one readers one n =
-    let first = reader_at readers one in slice_set readers one (record first { buffered = drop n first.buffered })
 
 -- The first lines of a reader were copied as rows, to the start of `into`. The line after them includes the index `at`.
 pub record AreRowsCopied (row : RowShape) (readers : List Reader) (input at : ℕ) (copied : CopiedLines) (into : List ℕ)

@@ -1,7 +1,7 @@
 //! Rows of `paste` from the buffers of the readers: each line that is complete there is copied to a buffer for
 //! output, without the store, and after it the byte that follows its column. A row is copied column by column, or by
-//! its segments; rows of two columns have a loop of their own. A row that is only begun is moved to the front, and
-//! lines from slots are added to it. Used by `paste`.
+//! its segments; rows of two columns have a loop of their own, and so have rows of which one column is left. A row that
+//! is only begun is moved to the front, and lines from slots are added to it. Used by `paste`.
 
 ghost use Rattle.std.specs.Prelude.{◌≡◌, ◌<◌, ◌≤◌, ◌+◌, ◌%◌, ◌++◌, false, length, take, drop, List, IfNone};
 ghost use Rattle.std.specs.Prelude.{IfSome, ◌≢◌, slice_index_or};
@@ -12,7 +12,7 @@ ghost use Rattle.ptflow.specs.Private.Paste.RowCells.{after_cell, begun_after, b
 ghost use Rattle.ptflow.specs.Private.Paste.BufferedRows.{BufferedRowsPre, CopyCellPost, CopyColumnsPost, CopyRowsPost};
 ghost use Rattle.ptflow.specs.Private.Paste.BufferedRows.{AreConsumed, IsLineCopied, LineCopied, RowsTaken, after_both};
 ghost use Rattle.ptflow.specs.Private.Paste.Segments.{AreRowsCopied, AreSegments, IsRow};
-ghost use Rattle.ptlines.specs.declared.sizes.TheConstants.{PADDED};
+ghost use Rattle.ptlines.specs.declared.sizes.TheConstants.{BLOCK, PADDED};
 
 use crate::tools::paste::row::{BegunRow, CopiedRows, RowFormat, copy_option, next_index};
 use crate::tools::paste::segments::{Segment, has_ended_column, segments};
@@ -248,8 +248,8 @@ struct CopiedLines {
     end: usize,
 }
 
-// Copies the lines that end among the 64 buffered bytes from `from` on, after which 16 more are buffered, each with the
-// bytes of a segment that is a row. `None` if 64 of these may not fit; then none is copied.
+// Copies the lines that end among the 64 buffered bytes from `from` on, each with the bytes of a segment that is a row.
+// 16 more bytes are buffered after these 64. `None` if 64 rows may not fit; then nothing is copied.
 #[inline(always)]
 fn copy_chunk<S: Source, R: Source>(
     row: RowFormat,
@@ -284,7 +284,7 @@ fn copy_chunk<S: Source, R: Source>(
 }
 
 // Copies the first rows if the first segment is a row, since the inputs of all other columns have ended: each is a line
-// and the bytes of the segment. It stops near the end of the buffer and of the block. Returns the offset after them.
+// and the bytes of the segment. It stops near the end of the buffer or of the block. Returns the offset after them.
 #[inline(always)]
 fn copy_rows_of_one<S: Source, R: Source>(
     row: RowFormat,
@@ -296,7 +296,7 @@ fn copy_rows_of_one<S: Source, R: Source>(
     requires segments { AreSegments (shape_of row) readers.old 0 segments.now }
     ensures rows { RowsTaken (shape_of row.entry) readers.old readers.new (take result into.new) }
     ensures consumed { AreConsumed readers.old readers.new }
-    ensures size_bound { result ≤ PADDED }
+    ensures size_bound { result ≤ BLOCK }
 {
     let segment = match segments {
         [segment, ..] if segment.count == row.cells.len() => segment,

@@ -1,4 +1,4 @@
--- What the calls require, and the contract, which is put together from those of the calls.
+-- Both inputs can go on from where the loop ended, and the contract is put together from those of the calls.
 use Rattle.ptmerge.proofs
 use proofs.Common.{◌∙◌, First, Second, inl, inr, refl}
 use proofs.BlockLemmas.{can_resume, is_write_fault}

@@ -2,7 +2,7 @@
 use Rattle.ptflow.proofs
 use proofs.Common.{◌≡◌, ◌+◌, ◌-◌, ◌*◌, ◌≤◌, length, map, take, count_by, mask_l, chunk, is_byte, without, shape_of}
 use proofs.Common.{RowsTaken}
-use Rattle.ptflow.specs.Private.Paste.Segments.{after_one}
+use Rattle.ptflow.specs.Private.Paste.BufferedRows.{after_one}
 use proofs.Vectors.NextTerminator.{ended_between}
 use proofs.tools.paste.buffered_rows.copy_chunk.Given as goal
 use Rattle.ptlines.specs.declared.sizes.TheConstants.{BLOCK, PADDED}

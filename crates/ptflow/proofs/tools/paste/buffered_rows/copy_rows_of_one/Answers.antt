@@ -48,7 +48,8 @@ bounds-readers-segment g c =
 
 pub offset_bounds-readers-segment : goal.offset_bounds-readers-segment
 offset_bounds-readers-segment g c =
-    let low = has_reader c.requires.readable (is g (goal.at.offset_bounds-readers-segment g c).In-len1-up) in search scaled_Fits
+    let low = has_reader c.requires.readable (is g (goal.at.offset_bounds-readers-segment g c).In-len1-up) in
+    search scaled_Fits
 
 pub bounds-readers-segment-2 : goal.bounds-readers-segment-2
 bounds-readers-segment-2 g c =
@@ -56,7 +57,8 @@ bounds-readers-segment-2 g c =
 
 pub offset_bounds-readers-segment-2 : goal.offset_bounds-readers-segment-2
 offset_bounds-readers-segment-2 g c =
-    let low = has_reader c.requires.readable (is g (goal.at.offset_bounds-readers-segment-2 g c).In-len1-up) in search scaled_Fits
+    let low = has_reader c.requires.readable (is g (goal.at.offset_bounds-readers-segment-2 g c).In-len1-up) in
+    search scaled_Fits
 
 pub copy_chunk-requires-clause-segment : goal.copy_chunk-requires-clause-segment
 copy_chunk-requires-clause-segment g c =
@@ -82,10 +84,11 @@ pub consume-requires : goal.consume-requires
 consume-requires g c =
     let low = has_reader c.requires.readable (is g (goal.at.consume-requires g c).In-len1-up) in
     let same = c.buffered-size.ensures.buffered ∙ ap (λ r. r.buffered) (at_index _ _ _ low) in
-    let now = at_index c.args.readers.now _ c.index-readers-segment-2.result low in
-    omega (arith, c.chunks.invariant.within, c.chunks.invariant.copied.same.0, ap length same, ap (λ r. length r.buffered) now)
+    let now = ap (λ r. length r.buffered) (at_index c.args.readers.now _ c.index-readers-segment-2.result low) in
+    omega (arith, c.chunks.invariant.within, c.chunks.invariant.copied.same.0, ap length same, now)
 
-module _ (g : given.Over) (c : After-consume g) (low : (segment c.args.segments.now).input < length c.args.readers.now) where
+module _ (g : given.Over) (c : After-consume g)
+    (low : (segment c.args.segments.now).input < length c.args.readers.now) where
   same_into : c.chunks-test.into ≡ c.chunks.into
   same_into =
       elim c.chunks-test.branch [
@@ -111,4 +114,4 @@ returns-clause-consumed g c =
     one_consumed c.args.readers.now _ c.chunks.copied.start low refl (consumed g c low)
 
 pub returns-clause-size_bound : goal.returns-clause-size_bound
-returns-clause-size_bound g c = omega (arith, c.chunks.invariant.copied.fits)
+returns-clause-size_bound g c = c.chunks.invariant.copied.fits
